@@ -23,8 +23,8 @@ abbrev pub IsNumberText : ℕ → List ℕ → ℕ → Type 0
 IsNumberText bits text number =
     IsNumeral 10 (without_leading_plus text) × (digits_value 10 (without_leading_plus text) ≡ number) × (number < 2 ^ bits)
 
--- The value is `value_of` of the number that the matches contain, which has at most this number of bits. It is `other` if they contain no
--- number.
+-- If the matches contain a number of at most `bits` bits for this argument, the value is what `value_of` makes of the number. If they
+-- contain no text for the argument, the value is `other`.
 abbrev pub HasNumberOr : {X : Type 0} → ArgMatches → List ℕ → ℕ → (ℕ → X) → X → X → Type 0
 HasNumberOr matches id bits value_of other value =
     (one_text (found_of matches) id ≡ None → value ≡ other)

@@ -14,7 +14,7 @@ use Rattle.capture_arguments.specs.declared.chosen.ChoiceError.TheVariants.{Host
 
 -- ---- values in places
 
--- no place has a value
+-- all places are empty
 abbrev pub AreEmpty : {X : Type 0} → List (Option X) → Type 0
 AreEmpty [] = Unit {0}
 AreEmpty (None ∷ places) = AreEmpty places
@@ -32,7 +32,7 @@ abbrev pub AreRead : {X : Type 0} → (List ℕ → X → Type 0) → List (List
 AreRead Reads texts None = texts ≡ []
 AreRead Reads texts (Some places) = (texts ≢ []) × ReadsPlaces Reads texts places
 
--- the text is this host
+-- the text is this address or network
 abbrev pub ReadsHost : List ℕ → Network → Type 0
 ReadsHost text host = ReadsNetwork text (Ok host)
 
@@ -40,7 +40,7 @@ ReadsHost text host = ReadsNetwork text (Ok host)
 abbrev pub ReadsPort : List ℕ → ℕ → Type 0
 ReadsPort text port = IsNumberText 16 text port
 
--- the two texts are the bounds of a range of ports
+-- the two texts are the first and the last port of this range
 abbrev pub ReadsBounds : List ℕ → List ℕ → PortRange → Type 0
 ReadsBounds first last range = ReadsPort first range.first × (ReadsPort last range.last × (range.first ≤ range.last))
 
@@ -56,11 +56,12 @@ has_dash text = nat_lt (position_or_len is_dash text) (length text)
 abbrev pub bounds_in : List ℕ → Option (List ℕ × List ℕ)
 bounds_in text = if has_dash text then Some (before_first is_dash text, after_first is_dash text) else None
 
--- the text is a port, and the range has only this port
+-- the text is a port, and the range contains only this port
 abbrev pub IsSingle : List ℕ → PortRange → Type 0
 IsSingle text range = ReadsPort text range.first × (range.last ≡ range.first)
 
--- the text is a range of ports: with bounds it is a range from one to the other, and otherwise it is a port
+-- The text is a range of ports. If the text has two bounds, they are the first and the last port of the range. Otherwise the text is the
+-- only port of the range.
 abbrev pub IsRangeBy : List ℕ → Option (List ℕ × List ℕ) → PortRange → Type 0
 IsRangeBy text None range = IsSingle text range
 IsRangeBy text (Some bounds) range = ReadsBounds bounds.0 bounds.1 range
@@ -73,7 +74,7 @@ ReadsRange text range = IsRangeBy text (bounds_in text) range
 abbrev pub is_comma : ℕ → Bool
 is_comma byte = byte == 44
 
--- the items of a list with commas
+-- the items of a list that are separated by commas
 abbrev pub list_items : List ℕ → List (List ℕ)
 list_items list = slice_split is_comma list
 
@@ -87,14 +88,14 @@ ReadsProtocol text protocol = Names protocol_rows text (Some protocol)
 
 -- ---- the choice
 
--- the choice by addresses in some matches
+-- the choice contains the hosts that these matches give
 pub record HasAddressesOf (matches : ArgMatches) (choice : Choice) : Type 0 where
   pub hosts : AreRead ReadsHost (values_of matches (codes "host")) choice.hosts
   pub sources : AreRead ReadsHost (values_of matches (codes "source")) choice.sources
   pub destinations : AreRead ReadsHost (values_of matches (codes "destination")) choice.destinations
   pub other_hosts : AreRead ReadsHost (values_of matches (codes "not-host")) choice.other_hosts
 
--- the choice in some matches
+-- the choice contains the hosts, ports and protocols that these matches give
 pub record IsChoiceOf (matches : ArgMatches) (choice : Choice) : Type 0 where
   pub addresses : HasAddressesOf matches choice
   pub ports : AreRead ReadsRange (items_in matches (codes "port")) choice.ports
@@ -116,7 +117,7 @@ pub record IsFirstWrong {X : Type 0} (Reads : List ℕ → X → Type 0) (IsWron
 abbrev pub IsNoPort : List ℕ → Type 0
 IsNoPort text = (port : ℕ) → ¬ (ReadsPort text port)
 
--- the text is not the port of a range
+-- the text is not a single port
 abbrev pub IsNoSingle : List ℕ → Type 0
 IsNoSingle text = (range : PortRange) → ¬ (IsSingle text range)
 
@@ -124,7 +125,7 @@ IsNoSingle text = (range : PortRange) → ¬ (IsSingle text range)
 abbrev pub AreNoBounds : List ℕ → List ℕ → Type 0
 AreNoBounds first last = (range : PortRange) → ¬ (ReadsBounds first last range)
 
--- the text is no range of ports
+-- the text is neither a port nor a range of ports
 abbrev pub IsNoRange : List ℕ → Type 0
 IsNoRange text = (range : PortRange) → ¬ (ReadsRange text range)
 
@@ -132,8 +133,8 @@ IsNoRange text = (range : PortRange) → ¬ (ReadsRange text range)
 abbrev pub IsNoProtocol : List ℕ → Type 0
 IsNoProtocol text = Names protocol_rows text None
 
--- why the hosts with these texts are not accepted as values of this option: there are more than 16 of them, or this is the first that is
--- no host
+-- Why these texts are not accepted as the hosts of this option. There are more than 16 texts, or the error contains the first text that is
+-- not a host.
 abbrev pub AreNoHosts : List ℕ → List (List ℕ) → ChoiceError → Type 0
 AreNoHosts option texts (TooMany name) = (name.now ≡ option) × (16 < length texts)
 AreNoHosts option texts (Host name text error) =
@@ -141,14 +142,16 @@ AreNoHosts option texts (Host name text error) =
 AreNoHosts option texts (Port name text) = ⊥
 AreNoHosts option texts (Protocol text) = ⊥
 
--- the same for ports with these texts
+-- Why these texts are not accepted as the ports of this option. There are more than 16 texts, or the error contains the first text that is
+-- neither a port nor a range.
 abbrev pub AreNoPorts : List ℕ → List (List ℕ) → ChoiceError → Type 0
 AreNoPorts option texts (TooMany name) = (name.now ≡ option) × (16 < length texts)
 AreNoPorts option texts (Host name text error) = ⊥
 AreNoPorts option texts (Port name text) = (name.now ≡ option) × ((length texts ≤ 16) × IsFirstWrong ReadsRange IsNoRange texts text.now)
 AreNoPorts option texts (Protocol text) = ⊥
 
--- the same for protocols with these names
+-- Why these texts are not accepted as the names of protocols. There are more than 16 texts, or the error contains the first text that is
+-- not a name.
 abbrev pub AreNoProtocols : List (List ℕ) → ChoiceError → Type 0
 AreNoProtocols texts (TooMany name) = (name.now ≡ codes "protocol") × (16 < length texts)
 AreNoProtocols texts (Host name text error) = ⊥
@@ -159,13 +162,13 @@ AreNoProtocols texts (Protocol text) = (length texts ≤ 16) × IsFirstWrong Rea
 abbrev pub AreFew : {X : Type 0} → (List ℕ → X → Type 0) → List (List ℕ) → Type 0
 AreFew {X} Reads texts = (length texts ≤ 16) × ((values : Option (List (Option X))) × AreRead Reads texts values)
 
--- the values of the options for hosts are hosts
+-- each option for hosts has at most 16 values, and each value is a host
 abbrev pub HaveAddresses : ArgMatches → Type 0
 HaveAddresses matches =
     AreFew ReadsHost (values_of matches (codes "host")) × (AreFew ReadsHost (values_of matches (codes "source"))
     × (AreFew ReadsHost (values_of matches (codes "destination")) × AreFew ReadsHost (values_of matches (codes "not-host"))))
 
--- the first option for hosts with values that are not accepted
+-- the error is about the first option for hosts whose values are not accepted
 abbrev pub AreNoAddresses : ArgMatches → ChoiceError → Type 0
 AreNoAddresses matches error =
     AreNoHosts (codes "host") (values_of matches (codes "host")) error
@@ -173,8 +176,8 @@ AreNoAddresses matches error =
     ⊎ (AreFew ReadsHost (values_of matches (codes "source")) × (AreNoHosts (codes "destination") (values_of matches (codes "destination")) error
     ⊎ (AreFew ReadsHost (values_of matches (codes "destination")) × AreNoHosts (codes "not-host") (values_of matches (codes "not-host")) error)))))
 
--- Why some matches contain no choice of packets: the first option with values that are not accepted. The options for hosts are tested first,
--- then those for ports, and then the one for protocols.
+-- Why these matches contain no valid choice of packets. The error is about the first option whose values are not accepted. The options for
+-- hosts are tested first, then the options for ports, and then the option for protocols.
 abbrev pub IsRefusal : ArgMatches → ChoiceError → Type 0
 IsRefusal matches error =
     AreNoAddresses matches error
@@ -184,11 +187,11 @@ IsRefusal matches error =
 
 -- ---- the message
 
--- an option with a value in a message
+-- the part of a message that names an option; `value` is the text after the name of the option
 abbrev pub of_option : List ℕ → List ℕ → List ℕ
 of_option name value = codes "' for '--" ++ (name ++ value)
 
--- the message about a choice that is not valid
+-- the message about a wrong choice of packets
 abbrev pub choice_text : ChoiceError → List ℕ
 choice_text (Host name text error) =
     codes "invalid value '" ++ (text.now ++ of_option name.now (codes " <ADDRESS>': " ++ network_error_text error))

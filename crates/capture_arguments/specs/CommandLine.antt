@@ -118,21 +118,21 @@ pub record IsDescribed (command : Command) : Type 0 where
   pub version : IsText (out-Command command).version version_text
   pub about : IsText (out-Command command).about about_text
 
--- the command line
+-- the command line of the program, with all its options
 abbrev pub command_line : App
 command_line =
     with_rules bare_command (line_rules ++ form_rules ++ host_rules ++ choice_rules ++ end_rules ++ output_rules ++ file_rules)
 
--- this is the command line
+-- `app` is the command line of the program
 abbrev pub IsCommandLine : App → Type 0
 IsCommandLine app = app ≡ command_line
 
--- These words fit the command line, and their matches are these. The first word is the name of the program.
+-- These words fit the command line, and `matches` are their matches. The first word is the name of the program.
 abbrev pub AreMatchesOf : List Text → ArgMatches → Type 0
 AreMatchesOf words matches =
     (app : App) × IsCommandLine app × (faults_of app words ≡ []) × (rows_of (found_of matches) ≡ matches_of app words)
 
--- these words fit the command line, their matches are these, and each option among the words is UTF-8
+-- these words fit the command line, `matches` are their matches, and each option among the words is UTF-8
 abbrev pub ArePlainMatchesOf : List Text → ArgMatches → Type 0
 ArePlainMatchesOf words matches = AreMatchesOf words matches × (escaped_option words ≡ None)
 

@@ -1,4 +1,4 @@
--- The options that are not used together.
+-- The options that can't be used together.
 use Rattle.std.specs.Prelude.{◌&&◌, Bool, true, false, List, [], ◌∷◌, ◌++◌, codes, find, if◌then◌else◌, Option, Some, option_and_then}
 use Rattle.std.specs.Str.{bytes_eq}
 use Rattle.clap.specs.Words.{Row, Text}
@@ -7,7 +7,7 @@ use Rattle.clap.specs.declared.parser.matches.ValueSource.TheVariants.{CommandLi
 
 -- ---- the options
 
--- the names of options that are not used together, in pairs; the pairs are tested in this order
+-- the names of options that can't be used together, in pairs; the pairs are tested in this order
 abbrev pub exclusive_pairs : List (Text × Text)
 exclusive_pairs =
     (codes "summary", codes "packets") ∷ (codes "wrong", codes "summary") ∷ (codes "absolute", codes "summary") ∷ (codes "top", codes "packets")
@@ -37,6 +37,6 @@ shown_value name = if bytes_eq name (codes "top") then codes " <N>" else (if byt
 abbrev pub shown_option : Text → Text
 shown_option name = codes "'--" ++ (name ++ (shown_value name ++ codes "'"))
 
--- the message about two options that are not used together
+-- the message about two options that can't be used together
 abbrev pub conflict_text : Text → Text → Text
 conflict_text first second = codes "the argument " ++ (shown_option first ++ (codes " cannot be used with " ++ shown_option second))

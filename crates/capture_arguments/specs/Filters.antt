@@ -4,7 +4,7 @@ use Rattle.std.specs.List.{list_any}
 use Rattle.std.specs.Str.{bytes_eq}
 use Rattle.capture_request.specs.ErrorLines.{filter_words, first_word}
 
--- the first word of the name is a word of a filter
+-- the first word of the name is a word with which a filter begins
 abbrev pub is_filter : List ℕ → Bool
 is_filter name = list_any (λ word. bytes_eq word (first_word name)) filter_words
 

@@ -18,7 +18,7 @@ use Rattle.capture_arguments.specs.declared.arguments.OptionsError.TheVariants.{
 abbrev pub IsCompatible : ArgMatches → Type 0
 IsCompatible matches = conflict_in (rows_of (found_of matches)) ≡ None
 
--- The reason why options can't be read from these matches. Options that are not used together come first, and then a wrong choice of
+-- The reason why options can't be read from these matches. Options that can't be used together come first, and then a wrong choice of
 -- packets. An allocation can fail at any time.
 abbrev pub IsRefusedBy : Type 0 → ArgMatches → OptionsError → Type 0
 IsRefusedBy RanOut matches (Conflict first second) = conflict_in (rows_of (found_of matches)) ≡ Some (first.now, second.now)
@@ -29,7 +29,7 @@ IsRefusedBy RanOut matches (NoMemory error) = RanOut
 abbrev pub names_of : ArgMatches → List (List ℕ)
 names_of matches = values_of matches (codes "read") ++ values_of matches (codes "file")
 
--- the options that some matches contain
+-- the options that these matches contain
 pub record IsOptionsOf (matches : ArgMatches) (options : Options) : Type 0 where
   pub compatible : IsCompatible matches
   pub lines : (summary wrong : Bool) → HasFlag matches (codes "summary") summary → HasFlag matches (codes "wrong") wrong

@@ -15,7 +15,7 @@ several_text false = codes "'--write <FILE>' is used with more than one capture"
 several_text true = codes "'--write <FILE>' is used with more than one capture; filters are --host, --port and --protocol"
 
 -- The reason why the packets of these captures can't be written to the file with this name, if there is one. The file is the capture, or
--- several captures are named. `-` as a capture is standard input, and as a file it is standard output.
+-- several captures are named. The name `-` may be both the capture and the file, since it means standard input or standard output.
 abbrev pub output_fault : Option (List ℕ) → List (List ℕ) → Option (List ℕ)
 output_fault None captures = None
 output_fault (Some name) [] = None

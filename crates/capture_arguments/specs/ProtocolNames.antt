@@ -63,7 +63,7 @@ protocol_rows =
     ∷ (codes "unknown", One protocols.Unknown)
     ∷ []
 
--- two names are the same name, in either case
+-- two names are the same, except that upper and lower case may differ
 abbrev pub IsSameName : List ℕ → List ℕ → Type 0
 IsSameName name other = map to_ascii_lowercase name ≡ map to_ascii_lowercase other
 

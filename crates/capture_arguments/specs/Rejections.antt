@@ -23,7 +23,7 @@ HaveEscapedOption words message =
     (matches : ArgMatches) × (option : Text) × AreMatchesOf words matches × (escaped_option words ≡ Some option)
     × (message ≡ escaped_option_text option)
 
--- two options are not used together
+-- two options can't be used together
 abbrev pub HaveConflict : List Text → Text → Type 0
 HaveConflict words message =
     (matches : ArgMatches) × (first : Text) × (second : Text) × ArePlainMatchesOf words matches
@@ -67,13 +67,13 @@ IsAboutMemory RanOut error = (kind_of error ≡ OutOfMemory) × RanOut
 abbrev pub IsExplainedUnless : Type 0 → (App → ErrorKind → Text → Error → Type 0) → ErrorKind → Text → Error → Type 0
 IsExplainedUnless RanOut Explains kind message error = IsExplained Explains kind message error ⊎ IsAboutMemory RanOut error
 
--- the word that an error of this kind names: a word that looks like an option but is none
+-- the word that the shown error names: the first unknown option if the kind is `UnknownArgument`, and otherwise no word
 abbrev pub named_word : ErrorKind → List Text → Option Text
 named_word UnknownArgument words = unknown_option words
 named_word kind words = None
 
--- `shown` is the error that is shown for `found`, which clap found in these words. If `found` is about a word that looks like an option but
--- is none, `shown` names this word, and no other option. Otherwise it is `found`.
+-- `shown` is the error that is shown for `found`, which clap found in these words. If `found` is about an unknown option, `shown` names
+-- this option and no other option, or it is about memory. Otherwise it is `found`.
 abbrev pub IsShownFor : Type 0 → (App → ErrorKind → Text → Error → Type 0) → List Text → Error → Error → Type 0
 IsShownFor RanOut Explains words found shown = MatchOption (named_word (kind_of found) words) (shown ≡ found)
     (λ word. IsExplainedUnless RanOut Explains UnknownArgument (unknown_text word) shown)

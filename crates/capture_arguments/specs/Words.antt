@@ -8,7 +8,7 @@ use Rattle.std.specs.declared.io.ErrorKind.TheVariants.{ArgumentListTooLong, Out
 use Rattle.capture_facts.specs.ShownText.{escaped_byte}
 use Rattle.capture_request.specs.Names.{without_mark}
 
--- an argument as a word; if it is not UTF-8, the word is NUL (0), which no argument contains, and the escaped bytes
+-- An argument as a word. If the argument is not UTF-8, the word consists of NUL (0), which no argument contains, and the escaped bytes.
 abbrev pub word_of : List ℕ → List ℕ
 word_of bytes = if is_utf8 bytes then bytes else 0 ∷ flat_map escaped_byte bytes
 
@@ -32,13 +32,13 @@ is_escaped_option [] = false
 is_escaped_option (mark ∷ []) = false
 is_escaped_option (mark ∷ (first ∷ word)) = mark == 0 && first == 45
 
--- the first of these words that is an escaped option; the words after `--` are no options
+-- the first of these words that is an escaped option; the words after `--` are not options
 abbrev pub first_escaped_option : List (List ℕ) → Option (List ℕ)
 first_escaped_option [] = None
 first_escaped_option (word ∷ words) =
     if bytes_eq word (codes "--") then None else (if is_escaped_option word then Some word else first_escaped_option words)
 
--- the first word of a command line that is an escaped option; the name of the program, which is the first word, is no option
+-- the first word of a command line that is an escaped option; the name of the program, which is the first word, is not an option
 abbrev pub escaped_option : List (List ℕ) → Option (List ℕ)
 escaped_option words = first_escaped_option (drop 1 words)
 

@@ -74,9 +74,9 @@ pub struct Options<'a> {
 /// # Errors
 ///
 /// If an argument is wrong, the text of the error names it, and the exit status is 2. It can be an unknown argument, an option that is not
-/// UTF-8, two options that are not used together, the first wrong host or port, or a file that can't be written. A request for help or for
-/// the version is also returned as an error. Its text goes to standard output, and its exit status is 0. If no memory is left, the exit
-/// status is 3.
+/// UTF-8, two options that can't be used together, the first wrong host, port or protocol, or a file that can't be written. If no memory is
+/// left, the exit status is 3. A request for help or for the version is also returned as an error. Its text goes to standard output, and
+/// its exit status is 0.
 pub fn requested_options<'a, M: Memory>(
     memory: &M,
     words: &'a [String],
@@ -115,8 +115,8 @@ fn given_options<'a, M: Memory>(memory: &M, words: &'a [String]) -> Result<Optio
     }
 }
 
-/// The error that is shown for an error of clap in these words. An error about an unknown option is replaced by an error without the tips
-/// of clap, which name other options.
+/// The error that is shown for an error that clap found in these words. An error about an unknown option is replaced by an error without
+/// the tips of clap, which name other options.
 fn without_tips<M: Memory>(memory: &M, words: &[String], error: Error) -> Error
     ensures { IsShownFor (M.ran_out memory.now) (M.explains memory.now) (map (λ word. string_bytes word) words.now) error result }
 {
@@ -131,7 +131,7 @@ fn without_tips<M: Memory>(memory: &M, words: &[String], error: Error) -> Error
 
 /// Why options can't be read from matches of clap.
 pub enum OptionsError<'a> {
-    /// The options with these two names are not used together.
+    /// The options with these two names can't be used together.
     Conflict(&'static str, &'static str),
     /// A value of an option that chooses packets is wrong.
     Choice(ChoiceError<'a>),
@@ -252,7 +252,8 @@ fn invalid_option<M: Memory>(memory: &M, word: &str) -> Error
     }
 }
 
-/// The error for a word that is no option. Its text contains the usage. If no memory is left, it is an error about memory.
+/// The error for a word that looks like an option but is unknown. Its text contains the usage. If no memory is left, it is an error about
+/// memory.
 fn invalid_word<M: Memory>(memory: &M, word: &str) -> Error
     ensures { IsExplainedUnless (M.ran_out memory.now) (M.explains memory.now) ErrorKind.UnknownArgument (unknown_text word.now) result }
 {
@@ -262,7 +263,7 @@ fn invalid_word<M: Memory>(memory: &M, word: &str) -> Error
     }
 }
 
-/// The error for two options that are not used together. Its text contains the usage. If no memory is left, it is an error about memory.
+/// The error for two options that can't be used together. Its text contains the usage. If no memory is left, it is an error about memory.
 fn invalid_pair<M: Memory>(memory: &M, first: &str, second: &str) -> Error
     ensures { IsExplainedUnless (M.ran_out memory.now) (M.explains memory.now) ErrorKind.ArgumentConflict (conflict_text first.now second.now) result }
 {
@@ -272,7 +273,7 @@ fn invalid_pair<M: Memory>(memory: &M, first: &str, second: &str) -> Error
     }
 }
 
-/// The error for a choice of packets that is not valid. Its text contains the usage. If no memory is left, it is an error about memory.
+/// The error for a wrong choice of packets. Its text contains the usage. If no memory is left, it is an error about memory.
 fn invalid_choice<M: Memory>(memory: &M, error: ChoiceError<'_>) -> Error
     ensures { IsExplainedUnless (M.ran_out memory.now) (M.explains memory.now) ErrorKind.ValueValidation (choice_text error.entry) result }
 {
@@ -282,8 +283,8 @@ fn invalid_choice<M: Memory>(memory: &M, error: ChoiceError<'_>) -> Error
     }
 }
 
-/// The reason why packets can't be written to the requested file: several captures are named, or the file is the capture. Otherwise
-/// `None`.
+/// The reason why packets can't be written to the requested file: several captures are named, or the file is the capture. `None` if packets
+/// can be written to the file, or if no file is requested.
 fn output_fault(options: &Options<'_>) -> Option<&'static str>
     ensures { option_map (λ text. text.now) result ≡ fault_of options.now }
 {
@@ -438,7 +439,7 @@ fn with_form<'a, M: Memory>(memory: &M, command: Command<'a>) -> Result<Command<
     memory.with_arg(command, top(alloc))
 }
 
-/// The option that shows the date and time of packets.
+/// The option that requests the date and time of packets.
 fn absolute<'a>(alloc: Global) -> Arg<'a>
     ensures rule { rule_of result ≡ flag_rule (codes "absolute") }
     ensures local { result.global ≡ false }
@@ -450,7 +451,7 @@ fn absolute<'a>(alloc: Global) -> Arg<'a>
     )
 }
 
-/// The option that sets the exit status if a packet has a fault.
+/// The option that requests exit status 4 if a packet has a fault.
 fn check<'a>(alloc: Global) -> Arg<'a>
     ensures rule { rule_of result ≡ flag_rule (codes "check") }
     ensures local { result.global ≡ false }
@@ -513,7 +514,7 @@ fn host<'a>(alloc: Global) -> Arg<'a>
     )
 }
 
-/// The sources that choose packets.
+/// The option that chooses packets by a source address.
 fn source<'a>(alloc: Global) -> Arg<'a>
     ensures rule { rule_of result ≡ repeated (value_rule (codes "source")) }
     ensures local { result.global ≡ false }
@@ -526,7 +527,7 @@ fn source<'a>(alloc: Global) -> Arg<'a>
     )
 }
 
-/// The destinations that choose packets.
+/// The option that chooses packets by a destination address.
 fn destination<'a>(alloc: Global) -> Arg<'a>
     ensures rule { rule_of result ≡ repeated (value_rule (codes "destination")) }
     ensures local { result.global ≡ false }
@@ -539,7 +540,7 @@ fn destination<'a>(alloc: Global) -> Arg<'a>
     )
 }
 
-/// The hosts whose packets are left out.
+/// The option that leaves out the packets of a host.
 fn other_host<'a>(alloc: Global) -> Arg<'a>
     ensures rule { rule_of result ≡ repeated (value_rule (codes "not-host")) }
     ensures local { result.global ≡ false }
@@ -564,7 +565,7 @@ fn with_choice<'a, M: Memory>(memory: &M, command: Command<'a>) -> Result<Comman
     memory.with_arg(command, count(alloc))
 }
 
-/// The ports that choose packets.
+/// The option that chooses packets by a port.
 fn port<'a>(alloc: Global) -> Arg<'a>
     ensures rule { rule_of result ≡ repeated (value_rule (codes "port")) }
     ensures local { result.global ≡ false }
@@ -577,7 +578,7 @@ fn port<'a>(alloc: Global) -> Arg<'a>
     )
 }
 
-/// The ports whose packets are left out.
+/// The option that leaves out the packets of a port.
 fn other_port<'a>(alloc: Global) -> Arg<'a>
     ensures rule { rule_of result ≡ repeated (value_rule (codes "not-port")) }
     ensures local { result.global ≡ false }
@@ -658,7 +659,7 @@ fn line_buffered<'a>(alloc: Global) -> Arg<'a>
     .short('l')
 }
 
-/// The option that stops other programs from looking up names. It has no effect here, since this program looks up no names.
+/// The option `-n`, which stops other programs from looking up names. It has no effect here, since this program looks up no names.
 fn numeric<'a>(alloc: Global) -> Arg<'a>
     ensures rule { rule_of result ≡ numeric_rule }
     ensures local { result.global ≡ false }
@@ -679,7 +680,7 @@ fn read<'a>(alloc: Global) -> Arg<'a>
     several(alloc, "read", "FILE", "A capture, like FILE").short('r')
 }
 
-/// The names of the captures without an option.
+/// The argument that names a capture without an option.
 fn file<'a>(alloc: Global) -> Arg<'a>
     ensures rule { rule_of result ≡ file_rule }
     ensures local { result.global ≡ false }

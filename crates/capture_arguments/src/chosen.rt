@@ -16,11 +16,11 @@ use std::alloc::AllocError;
 /// Why matches of clap give no choice of packets.
 #[derive(Clone, Copy)]
 pub enum ChoiceError<'a> {
-    /// For the option with this name, this text is no network.
+    /// A value of the option with this name is neither an address nor a network. The variant contains the name, the value and the reason.
     Host(&'static str, &'a str, NetworkError),
-    /// For the option with this name, this text is neither a port nor a range of ports.
+    /// A value of the option with this name is neither a port nor a range of ports. The variant contains the name and the value.
     Port(&'static str, &'a str),
-    /// This text is no name of a protocol.
+    /// This value of the option `protocol` is not the name of a protocol.
     Protocol(&'a str),
     /// More values than `MAX_CHOSEN` are given for the option with this name.
     TooMany(&'static str),
@@ -35,7 +35,7 @@ pub struct PortItems<'a> {
     pub others: Vec<&'a str>,
 }
 
-/// The items of the options for ports in these matches. A value of such an option is a list with commas.
+/// The items of the options for ports in these matches. Each value of these options is a list with commas.
 pub fn port_items<'a, M: Memory>(
     memory: &M,
     matches: &ArgMatches<'a>,
@@ -78,7 +78,7 @@ fn add_items<'a, M: Memory>(
     memory.extend(items, &[left])
 }
 
-/// The first item of a list with commas, and the list of the items after it, if there is a comma.
+/// The first item of a list with commas, and the list of the items after it. `None` if the list contains no comma.
 fn cut_item(list: &str) -> Option<(&str, &str)>
     ensures items { MatchOption result (list_items list.now ≡ list.now ∷ []) (λ cut. list_items list.now ≡ cut.0.now ∷ list_items cut.1.now) }
     ensures shorter { IfSome result (λ cut. length cut.1.now < length list.now) }
@@ -120,7 +120,7 @@ pub fn choice_of<'a>(
     })
 }
 
-/// The choice of packets by addresses in these matches, of every port and every protocol.
+/// The choice of packets by the addresses in these matches. The choice includes every port and every protocol.
 fn addresses_of<'a>(matches: &ArgMatches<'a>) -> Result<Choice, ChoiceError<'a>>
     ensures addresses { IfOk result (HasAddressesOf matches.now) }
     ensures right { IfOk result (λ choice. HaveAddresses matches.now) }
@@ -173,7 +173,7 @@ fn hosts_of<'a>(
     }
 }
 
-/// The hosts with these texts, in their order. The first text that is no host is returned with its error.
+/// The hosts with these texts, in their order. The first text that is not a host is returned with its error.
 fn hosts_in<'a>(texts: &[&'a str]) -> Result<Hosts, (&'a str, NetworkError)>
     requires { length texts.now ≤ 16 }
     ensures hosts { IfOk result (ReadsPlaces ReadsHost (map (λ text. text.now) texts.now)) }
@@ -208,7 +208,7 @@ fn ports_of<'a>(name: &'static str, texts: &[&'a str]) -> Result<Option<Ports>, 
     }
 }
 
-/// The ranges of ports with these texts, in their order. The first text that is no range is returned as the error.
+/// The ranges of ports with these texts, in their order. The first text that is neither a port nor a range is returned as the error.
 fn ports_in<'a>(texts: &[&'a str]) -> Result<Ports, &'a str>
     requires { length texts.now ≤ 16 }
     ensures ports { IfOk result (ReadsPlaces ReadsRange (map (λ text. text.now) texts.now)) }
@@ -224,7 +224,7 @@ fn ports_in<'a>(texts: &[&'a str]) -> Result<Ports, &'a str>
     Ok(ports)
 }
 
-/// The range of ports with this text: a port, or two ports with `-` between them.
+/// The range of ports with this text: a port, or two ports with `-` between them. `None` for any other text.
 fn range_in(text: &str) -> Option<PortRange>
     ensures { MatchOption result (IsNoRange text.now) (ReadsRange text.now) }
 {
@@ -241,7 +241,7 @@ fn bounds_in(text: &str) -> Option<(&str, &str)>
     text.split_once('-')
 }
 
-/// The range with only the port with this text.
+/// The range that contains only the port with this text. `None` if the text is not a port.
 fn single_in(text: &str) -> Option<PortRange>
     ensures { MatchOption result (IsNoSingle text.now) (IsSingle text.now) }
 {
@@ -254,7 +254,7 @@ fn single_in(text: &str) -> Option<PortRange>
     }
 }
 
-/// The range from the first to the last of the ports with these texts, unless the first one is greater.
+/// The range whose first and last ports have these texts. `None` if a text is not a port, or if the first port is greater.
 fn range_of(first: &str, last: &str) -> Option<PortRange>
     ensures { MatchOption result (AreNoBounds first.now last.now) (ReadsBounds first.now last.now) }
 {
@@ -275,7 +275,7 @@ fn range_of(first: &str, last: &str) -> Option<PortRange>
     })
 }
 
-/// The port with this text.
+/// The port with this text. `None` if the text is not a port.
 fn port_in(text: &str) -> Option<u16>
     ensures { MatchOption result (IsNoPort text.now) (ReadsPort text.now) }
 {
@@ -303,7 +303,7 @@ fn protocols_of<'a>(matches: &ArgMatches<'a>) -> Result<Option<Protocols>, Choic
     }
 }
 
-/// The protocols with these names, in their order. The first text that is no name is returned as the error.
+/// The protocols with these names, in their order. The first text that is not a name is returned as the error.
 fn protocols_in<'a>(texts: &[&'a str]) -> Result<Protocols, &'a str>
     requires { length texts.now ≤ 16 }
     ensures protocols { IfOk result (ReadsPlaces ReadsProtocol (map (λ text. text.now) texts.now)) }

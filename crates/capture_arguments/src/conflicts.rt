@@ -1,4 +1,4 @@
-//! The options that are not used together.
+//! The options that can't be used together.
 
 ghost use Rattle.std.specs.Prelude.{◌≡◌, IfOk, OnErr, option_map, string_bytes};
 ghost use Rattle.clap.specs.Words.{found_of, rows_of};
@@ -9,7 +9,7 @@ use clap::ArgMatches;
 use clap::parser::ValueSource;
 use std::alloc::AllocError;
 
-/// The names of options that are not used together, in pairs. The pairs are tested in this order.
+/// The names of options that can't be used together, in pairs. The pairs are tested in this order.
 static EXCLUSIVE: [(&str, &str); 10] = [
     ("summary", "packets"),
     ("wrong", "summary"),
@@ -23,7 +23,7 @@ static EXCLUSIVE: [(&str, &str); 10] = [
     ("write", "top"),
 ];
 
-/// The first pair of options that are not used together and that both occur on the command line.
+/// The first pair of options that can't be used together and that both occur on the command line.
 pub fn conflict_in(matches: &ArgMatches<'_>) -> Option<(&'static str, &'static str)>
     ensures { option_map (λ pair. (pair.0.now, pair.1.now)) result ≡ conflict_in (rows_of (found_of matches.now)) }
 {
@@ -51,7 +51,7 @@ fn is_from_words(source: Option<ValueSource>) -> bool
     matches!(source, Some(ValueSource::CommandLine))
 }
 
-/// The message about two options that are not used together.
+/// The message about two options that can't be used together.
 pub fn conflict_text<M: Memory>(memory: &M, first: &str, second: &str) -> Result<String, AllocError>
     ensures text { IfOk result (λ text. string_bytes text ≡ conflict_text first.now second.now) }
     ensures ran_out { OnErr result (M.ran_out memory.now) }

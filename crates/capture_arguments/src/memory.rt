@@ -6,9 +6,9 @@ use std::alloc::{AllocError, Global};
 use std::fmt::Display;
 use streams::new_buffer;
 
-/// The calls by which this crate allocates memory and asks `clap`. Only these calls fail if no memory is left. So a function over any
-/// `Memory` can state that its error is about memory only if an allocation failed. Only these calls return errors of `clap`, so such a
-/// function can also state which of these errors it returns.
+/// The calls by which this crate allocates memory and asks `clap`. Only these calls fail if no memory is left. So the contract of a
+/// function over any `Memory` can state that an error about memory follows a failed allocation. Only these calls return errors of `clap`.
+/// So the contract can also state which errors of `clap` the function returns.
 pub trait Memory {
     ghost use Rattle.std.specs.Prelude.{◌≡◌, ◌++◌, ◌∷◌, [], ℕ, IfErr, IfOk, IfSome, List, OnErr, OnOk, length, map, string_bytes, true};
     ghost use Rattle.clap.specs.Words.{AddsArg, App, FailsBy, HasMatchesOf, app_of, fault_of as faults_of, is_simple_and_free, kind_of, takes};
@@ -25,7 +25,7 @@ pub trait Memory {
     /// A statement about a command line, a kind, a message, and the error that `usage_error` makes of them.
     ghost explains: { Self → App → ErrorKind → List ℕ → Error → Type 0 };
 
-    /// The allocator, for calls that do not allocate.
+    /// The allocator, for calls that need an allocator but do not allocate.
     fn alloc(&self) -> Global;
 
     /// A buffer of this length, in bytes.

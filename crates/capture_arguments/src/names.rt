@@ -4,8 +4,8 @@ ghost use Rattle.capture_arguments.specs.ProtocolNames.{Names, protocol_rows};
 
 use capture_summary::{ChosenProtocol, Protocol};
 
-/// The names of protocols, each with the protocol that it chooses. The names are those of the table of protocols, in lower case, and with
-/// `-` instead of a space. `icmp` is ICMPv4 and ICMPv6.
+/// The names of protocols, each with the protocol that it chooses. They are the names in the summary's table of protocols, in lower case,
+/// and with `-` instead of a space. `icmp` is ICMPv4 and ICMPv6.
 #[rattlefmt::skip]
 static PROTOCOLS: [(&str, ChosenProtocol); 53] = [
     ("icmp", ChosenProtocol::Icmp),
@@ -63,7 +63,7 @@ static PROTOCOLS: [(&str, ChosenProtocol); 53] = [
     ("unknown", ChosenProtocol::One(Protocol::Unknown)),
 ];
 
-/// The protocol with this name, in either case.
+/// The protocol with this name. Upper and lower case are not distinguished. `None` if there is no protocol with this name.
 pub fn protocol_named(name: &str) -> Option<ChosenProtocol>
     ensures { Names protocol_rows name.now result }
 {

@@ -1,4 +1,4 @@
-//! Words that look like options but are no options of the program.
+//! Words that look like options but are not options of the program.
 
 ghost use Rattle.std.specs.Prelude.{◌≡◌, IfOk, OnErr, map, option_map, string_bytes};
 ghost use Rattle.capture_arguments.specs.Unknown.{has_unknown_letter, is_unknown, option_name, unknown_option, unknown_text};
@@ -6,7 +6,7 @@ ghost use Rattle.capture_arguments.specs.Unknown.{has_unknown_letter, is_unknown
 use crate::memory::Memory;
 use std::alloc::AllocError;
 
-/// The options with long names.
+/// The long names of the options.
 static LONG_OPTIONS: [&str; 22] = [
     "--summary",
     "--packets",
@@ -38,7 +38,7 @@ const FLAGS: &[u8] = b"vlnhV";
 /// The letters of the options that have a value. The value can follow in the same word.
 const VALUED: &[u8] = b"cwr";
 
-/// The first word that looks like an option but is no option of the program. The name of the program, which is the first word, and the
+/// The first word that looks like an option but is not an option of the program. The name of the program, which is the first word, and the
 /// words after `--` are not checked.
 pub fn unknown_option(words: &[String]) -> Option<&str>
     ensures { option_map (λ word. word.now) result ≡ unknown_option (map (λ word. string_bytes word) words.now) }
@@ -59,7 +59,7 @@ pub fn unknown_option(words: &[String]) -> Option<&str>
     None
 }
 
-/// Whether a word begins with `-` but is no option of the program.
+/// Whether a word begins with `-` but is not an option of the program. The word `-` is the name of a capture.
 fn is_unknown(word: &str) -> bool
     ensures { result ≡ is_unknown word.now }
 {
@@ -80,7 +80,7 @@ fn option_name(word: &str) -> &str
     }
 }
 
-/// Whether one of these letters is no option. If an option has a value, the letters after it are the value.
+/// Whether one of these letters is not an option. If an option has a value, the letters after the option are the value.
 fn has_unknown_letter(letters: &[u8]) -> bool
     ensures { result ≡ has_unknown_letter letters.now }
 {
@@ -97,7 +97,7 @@ fn has_unknown_letter(letters: &[u8]) -> bool
     false
 }
 
-/// The message about a word that is no option of the program.
+/// The message about a word that looks like an option but is not an option of the program.
 pub fn unknown_text<M: Memory>(memory: &M, word: &str) -> Result<String, AllocError>
     ensures text { IfOk result (λ text. string_bytes text ≡ unknown_text word.now) }
     ensures ran_out { OnErr result (M.ran_out memory.now) }

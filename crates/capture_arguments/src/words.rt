@@ -95,7 +95,7 @@ fn word_of<M: Memory>(memory: &M, bytes: &[u8]) -> Result<String, AllocError>
 }
 
 /// The first option that is not UTF-8, in its escaped form, if there is one. The name of the program, which is the first word, and the
-/// words after `--` are no options.
+/// words after `--` are not options.
 pub fn escaped_option(words: &[String]) -> Option<&str>
     ensures { option_map (λ word. word.now) result ≡ escaped_option (map (λ word. string_bytes word) words.now) }
 {

@@ -1,4 +1,4 @@
--- The beginning of a capture, which shows its format, and the copy of a classic capture.
+-- The beginning of a capture, which determines its format, and the copy of a classic capture.
 use Rattle.std.specs.Prelude.{◌≡◌, true, false, List, ℕ, take, ⊤, Option, IfSome, Result, Ok, Err}
 use Rattle.std.specs.Io.KnownBytes.{Appends, Consumes}
 use Rattle.capture_file.specs.Opening.{SaysHeader}
@@ -11,7 +11,7 @@ use Rattle.capture_copy.specs.Passing.{Format, PassesTo}
 use Rattle.capture_copy.specs.declared.copier.CopyError.{CopyError}
 use Rattle.capture_copy.specs.declared.copier.CopyError.TheVariants.{Read, Write}
 
--- The first bytes of an input, if they are known, begin with the type of a section header block. They are as many as the shortest block has.
+-- the first 12 bytes of an input, if they are known, begin with the type of a section header block; no block is shorter than 12 bytes
 abbrev pub IsPcapng : Option (List ℕ) → Type 0
 IsPcapng left = IfSome left (λ all. is_section_header (take min_block_len all) ≡ true)
 
@@ -19,15 +19,15 @@ IsPcapng left = IfSome left (λ all. is_section_header (take min_block_len all) 
 abbrev pub IsNoPcapng : Option (List ℕ) → Type 0
 IsNoPcapng left = IfSome left (λ all. is_section_header (take min_block_len all) ≡ false)
 
--- the header of a classic capture was read, and was written as it was read
+-- the header of a classic capture was read, and its bytes were written unchanged
 pub record CopiesHeader (header : CaptureHeader) (left still_left held now_held : Option (List ℕ)) : Type 0 where
   pub bytes : List ℕ
   pub says : SaysHeader bytes (Ok header)
   pub consumed : Consumes left still_left bytes
   pub appended : Appends held now_held bytes
 
--- The header of a classic capture was copied. If it is refused, or reading it failed, nothing was written. If writing it failed, nothing is
--- known.
+-- The header of a classic capture was copied, or the call failed. If the header is refused or reading failed, nothing was written. If
+-- writing failed, nothing is stated.
 abbrev pub BeginsCapture : Result (Result CaptureHeader CaptureHeaderError) CopyError → Option (List ℕ) → Option (List ℕ) → Option (List ℕ)
     → Option (List ℕ) → Type 0
 BeginsCapture (Ok (Ok header)) left still_left held now_held = CopiesHeader header left still_left held now_held
@@ -35,7 +35,8 @@ BeginsCapture (Ok (Err error)) left still_left held now_held = RefusesHeader lef
 BeginsCapture (Err (Read error)) left still_left held now_held = now_held ≡ held
 BeginsCapture (Err (Write error)) left still_left held now_held = ⊤
 
--- A classic capture was copied up to this result: its header, and then its records were passed. `first` is the state before the first record.
+-- A classic capture was copied up to this result: first its header, and then its records, as `PassesTo` states. `first` determines the
+-- state before the first record from the header.
 pub record PassesCapture (A : Type 0) (format : Format) (first : CaptureHeader → format.State) (result : Result A format.Error)
     (left still_left held now_held : Option (List ℕ)) (counts now_counts : format.Counts) : Type 0 where
   pub header : CaptureHeader

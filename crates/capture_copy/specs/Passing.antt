@@ -1,4 +1,5 @@
--- What a copier reads and writes, part by part. A part is a record of a classic capture or a block of a pcapng file.
+-- What a copier reads and writes, part by part. A part is a record of a classic capture or a block of a pcapng file. A part is passed if
+-- the copier reads it and writes what belongs in the output.
 use Rattle.std.specs.Prelude.{◌≡◌, ◌+◌, ◌-◌, ◌^◌, ◌≤◌, ◌⊎◌, ℕ, Bool, true, false, List, [], ◌∷◌, flat_map, fold, length, min, Option, Result, Ok, Err}
 use Rattle.std.specs.Io.KnownBytes.{Appends, Consumes}
 use Rattle.std.specs.Option.{option_to_list}
@@ -27,16 +28,16 @@ written_of parts = flat_map (λ part. part.written) parts
 abbrev pub outcomes_of : {Outcome : Type 0} → List (Part Outcome) → List Outcome
 outcomes_of parts = flat_map (λ part. option_to_list part.outcome) parts
 
--- the count of parts or packets after another is counted, up to 2^64 - 1
+-- the count after one more part or packet; at 2^64 - 1 it stays unchanged
 abbrev pub one_more : ℕ → ℕ
 one_more count = min (count + 1) (2 ^ 64 - 1)
 
 -- ---- formats
 
--- A format of captures, and what a copier does with its parts. A part leads from one state to the next: in a pcapng file a block can begin
--- a section or describe an interface.
+-- A format of captures, and what a copier does with its parts. A part can change the state. In a pcapng file, for example, a block begins a
+-- section or describes an interface.
 pub record Format : Type 1 where
-  -- what the previous parts determine about the next part
+  -- what has to be known about the previous parts to read the next part
   pub State : Type 0
   -- what became of a packet
   pub Outcome : Type 0
@@ -46,11 +47,11 @@ pub record Format : Type 1 where
   pub Error : Type 0
   -- the counts after a packet with this outcome
   pub counted : Counts → Outcome → Counts
-  -- the part is a whole record or block, and what was written for it and its outcome are right
+  -- the part is a whole record or block; its written bytes, its outcome and the state after it are right
   pub IsPart : State → Part Outcome → State → Type 0
-  -- the first bytes of a part were passed, and this error ends the capture within them
+  -- this error stopped the copier after it passed only the first bytes of a part; the state is the state before this part
   pub IsEnd : State → Part Outcome → Error → Type 0
-  -- what the input has left at an error, next to what it had left after the bytes that were passed
+  -- what is known, after this error, about two rests of the input: the rest after the passed bytes, and the rest that is still left
   pub LeavesAt : Error → Option (List ℕ) → Option (List ℕ) → Type 0
   -- this is an error of writing
   pub IsWriteError : Error → Type 0
@@ -59,7 +60,7 @@ pub record Format : Type 1 where
   -- the maximum number of parts
   pub max_parts : ℕ
 
--- the counts after this outcome is counted; they are unchanged if there is no outcome
+-- the counts after a part with this outcome; they are unchanged if the part has no outcome
 abbrev pub counted_if : (format : Format) → format.Counts → Option format.Outcome → format.Counts
 counted_if format counts outcome = fold format.counted counts (option_to_list outcome)
 
@@ -68,8 +69,8 @@ abbrev pub AreParts : (format : Format) → format.State → List (Part format.O
 AreParts format before [] after = after ≡ before
 AreParts format before (part ∷ parts) after = (between : format.State) × format.IsPart before part between × AreParts format between parts after
 
--- Parts were passed. The input lost exactly the bytes of the parts, in their order. The output grew by exactly what was written for them.
--- Each outcome was counted.
+-- Parts were passed. Exactly the bytes of these parts were read, in their order. Exactly the written bytes of these parts were appended to
+-- the output. Each outcome was counted.
 pub record Passes (format : Format) (before after : format.State) (left still_left held now_held : Option (List ℕ))
     (counts now_counts : format.Counts) : Type 0 where
   pub parts : List (Part format.Outcome)
@@ -89,7 +90,7 @@ pub record PassesOne (format : Format) (before after : format.State) (left still
 
 -- ---- errors
 
--- The first bytes of a part were passed, up to an error. A packet in them was counted.
+-- The first bytes of a part were passed, and then the copier stopped with this error. If the part has an outcome, it was counted.
 pub record StopsBy (format : Format) (error : format.Error) (state : format.State) (left still_left held now_held : Option (List ℕ))
     (counts now_counts : format.Counts) : Type 0 where
   pub then_left : Option (List ℕ)
@@ -100,7 +101,7 @@ pub record StopsBy (format : Format) (error : format.Error) (state : format.Stat
   pub counted : now_counts ≡ counted_if format counts front.outcome
   pub leaves : format.LeavesAt error then_left still_left
 
--- the number of these parts reached the maximum, and nothing was read, written or counted after them
+-- The copier stopped because the number of these parts reached the maximum. It read, wrote and counted nothing more.
 pub record StopsByNumber (format : Format) (error : format.Error) (parts : List (Part format.Outcome))
     (left still_left held now_held : Option (List ℕ)) (counts now_counts : format.Counts) : Type 0 where
   pub is : error ≡ format.too_many
@@ -109,7 +110,7 @@ pub record StopsByNumber (format : Format) (error : format.Error) (parts : List 
   pub unwritten : now_held ≡ held
   pub uncounted : now_counts ≡ counts
 
--- parts were passed, and then the capture ended with this error: within another part, or since the number of parts reached the maximum
+-- parts were passed, and then the copier stopped with this error: within another part, or because the number of parts reached the maximum
 pub record EndsBy (format : Format) (error : format.Error) (before : format.State) (left still_left held now_held : Option (List ℕ))
     (counts now_counts : format.Counts) : Type 0 where
   pub after : format.State
@@ -122,7 +123,8 @@ pub record EndsBy (format : Format) (error : format.Error) (before : format.Stat
 
 -- ---- results
 
--- What was passed up to this result. If a write failed, nothing is stated.
+-- What a call with this result passed: parts, and before an error possibly the first bytes of the next part. If a write failed, nothing is
+-- stated.
 abbrev pub PassesTo : {A : Type 0} → (format : Format) → Result A format.Error → format.State → format.State → Option (List ℕ) → Option (List ℕ)
     → Option (List ℕ) → Option (List ℕ) → format.Counts → format.Counts → Type 0
 PassesTo format (Ok given) before after left still_left held now_held counts now_counts =
@@ -130,7 +132,7 @@ PassesTo format (Ok given) before after left still_left held now_held counts now
 PassesTo format (Err error) before after left still_left held now_held counts now_counts =
     format.IsWriteError error ⊎ EndsBy format error before left still_left held now_held counts now_counts
 
--- what was passed by a call for one part; after an error no whole part was passed
+-- What a call for one part passed. After an error, it passed at most the first bytes of the part. If a write failed, nothing is stated.
 abbrev pub PassesNext : {A : Type 0} → (format : Format) → Result A format.Error → format.State → format.State → Option (List ℕ) → Option (List ℕ)
     → Option (List ℕ) → Option (List ℕ) → format.Counts → format.Counts → Type 0
 PassesNext format (Ok given) before after left still_left held now_held counts now_counts =
@@ -138,19 +140,20 @@ PassesNext format (Ok given) before after left still_left held now_held counts n
 PassesNext format (Err error) before after left still_left held now_held counts now_counts =
     format.IsWriteError error ⊎ StopsBy format error before left still_left held now_held counts now_counts
 
--- the counts after a call that returns the outcome of the packet in a part, if the part contains a packet; after an error nothing was counted
+-- the counts after a call that returns the outcome of a part, or no outcome; after an error they are unchanged
 abbrev pub counts_after : (format : Format) → format.Counts → Result (Option format.Outcome) format.Error → format.Counts
 counts_after format counts (Ok outcome) = counted_if format counts outcome
 counts_after format counts (Err error) = counts
 
--- what a call passed that passes one part, and returns the outcome of the packet in it for its caller to count
+-- What a call for one part passed, if the call returns the outcome and leaves it to its caller to count the outcome.
 abbrev pub PassesGiven : (format : Format) → Result (Option format.Outcome) format.Error → format.State → format.State → Option (List ℕ)
     → Option (List ℕ) → Option (List ℕ) → Option (List ℕ) → Type 0
 PassesGiven format result before after left still_left held now_held =
     (counts : format.Counts)
     → PassesNext format result before after left still_left held now_held counts (counts_after format counts result)
 
--- what a call passed that returns whether there is a next part; if there is none, nothing was read, written or counted
+-- What a call for the next part passed. It returns `true` if it passed one part. It returns `false` if no part is left, and then nothing
+-- was read, written or counted.
 abbrev pub PassesAny : (format : Format) → Result Bool format.Error → format.State → format.State → Option (List ℕ) → Option (List ℕ)
     → Option (List ℕ) → Option (List ℕ) → format.Counts → format.Counts → Type 0
 PassesAny format (Ok true) before after left still_left held now_held counts now_counts =

@@ -4,7 +4,8 @@ use Rattle.capture_file.specs.Classic.{IsPartial}
 use Rattle.capture_file.specs.Reading.{required_len}
 use Rattle.capture_texts.specs.declared.byte_order.ByteOrder.{ByteOrder}
 
--- The bytes end within a record. `required` is the least length of the record, and `len` is the number of bytes.
+-- The bytes begin with a record, and end within it. `len` is their number. `required` is the length of the record, or of its header if the
+-- header is incomplete.
 abbrev pub IsCutRecord : ByteOrder → List ℕ → ℕ → ℕ → Type 0
 IsCutRecord order bytes required len =
     (bytes ≢ []) × IsPartial order bytes × (required ≡ required_len order bytes) × (len ≡ length bytes)

@@ -13,7 +13,7 @@ use std::io;
 use std::io::{Read, Write};
 use streams::fill_after;
 
-/// Whether these bytes begin a pcapng file.
+/// Returns whether these bytes begin with the type of a section header block, as each pcapng file does.
 pub fn is_pcapng(bytes: &[u8]) -> bool
     ensures is { result ≡ is_section_header bytes.now }
     ensures some { result ≡ true → 1 ≤ length bytes.now }
@@ -24,8 +24,8 @@ pub fn is_pcapng(bytes: &[u8]) -> bool
     }
 }
 
-/// The header of a classic capture in the first 24 of these bytes, or the error that refuses them. If there are fewer bytes, the capture
-/// ends with them.
+/// Returns the header of a classic capture in the first 24 of these bytes, or the error that refuses it. If there are fewer than 24 bytes,
+/// the capture ends with them.
 fn header_in(bytes: &[u8]) -> io::Result<Result<CaptureHeader, CaptureHeaderError>>
     ensures { IfOk result (SaysHeader (take 24 bytes.now)) }
 {
@@ -34,8 +34,8 @@ fn header_in(bytes: &[u8]) -> io::Result<Result<CaptureHeader, CaptureHeaderErro
 }
 
 impl<R: Read, W: Write> Copier<'_, R, W> {
-    /// Reads the header of a classic capture that begins with these bytes, which were read before, and writes it. Returns the header, or the
-    /// error that refuses it. A refused header is not written.
+    /// Copies the header of a classic capture. `begin` contains the first bytes of the capture, which the caller has already read. Returns
+    /// the header, or the error that refuses it. A refused header is not written.
     ///
     /// # Errors
     ///

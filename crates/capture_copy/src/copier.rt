@@ -10,7 +10,7 @@ use streams::fill;
 /// The length of a copier's buffer, in bytes. It is the maximum length of a packet that is read.
 pub const BUFFER_LEN: usize = 524_288;
 
-/// Room for a part of a capture.
+/// The memory of a copier's buffer.
 pub type Buffer = [u8; BUFFER_LEN];
 
 /// The input and the output of a copier, and its buffer.
@@ -20,13 +20,14 @@ pub struct Copier<'a, R, W> {
     pub input: R,
     /// The capture that is written.
     pub output: W,
-    /// Room for the captured bytes of a packet, for a block of a pcapng file, and for a piece of longer bytes. It has `BUFFER_LEN` bytes.
+    /// Memory for the captured bytes of a packet, for a block of a pcapng file, or for a piece of the bytes that `copy` copies. It has
+    /// `BUFFER_LEN` bytes.
     pub buffer: &'a mut [u8],
     ghost room: { length buffer.now ≡ BUFFER_LEN },
 }
 
 impl<'a, R, W> Copier<'a, R, W> {
-    /// A copier from this input to this output.
+    /// Returns a copier that reads from `input` and writes to `output`.
     pub fn new(input: R, output: W, buffer: &'a mut Buffer) -> Copier<'a, R, W>
         ensures input { result.input ≡ input }
         ensures output { result.output ≡ output }
@@ -39,7 +40,7 @@ impl<'a, R, W> Copier<'a, R, W> {
     }
 }
 
-/// Why bytes were not copied.
+/// The reason why bytes were not copied.
 #[derive(Debug, Drop)]
 pub enum CopyError {
     /// Reading failed.

@@ -1,5 +1,5 @@
-//! The common part of the calls that copy a capture: what is read and written part by part, bytes that are copied by pieces, and the
-//! beginning of a capture.
+//! What the calls that copy a capture have in common: they recognize a pcapng file, copy the header of a classic capture, and copy bytes in
+//! pieces.
 //!
 //! A part is a record of a classic capture or a block of a pcapng file. `specs/Passing` states what a copier does with each part.
 //!

@@ -24,7 +24,7 @@ abbrev pub resolution_text : TimeResolution → List ℕ
 resolution_text (PowerOfTen exponent) = codes "10^-" ++ (decimal exponent ++ codes " s")
 resolution_text (PowerOfTwo exponent) = codes "2^-" ++ (decimal exponent ++ codes " s")
 
--- the text of the snap length, which is the maximum number of captured bytes of a packet, and of the unit of the times
+-- the text of two facts: the snap length, which is the maximum number of captured bytes of a packet, and the unit of the times
 abbrev pub limits_text : ℕ → TimeResolution → List ℕ
 limits_text snap_len resolution =
     codes ", snap length " ++ (decimal snap_len ++ (codes ", time resolution " ++ resolution_text resolution))
@@ -35,12 +35,12 @@ classic_text header =
     codes "file type classic, byte order " ++ (byte_order_word header.byte_order
     ++ (limits_text header.snap_len (power_of_ten header.resolution) ++ codes "\n"))
 
--- the line of an interface with this number
+-- the line of the interface with this number
 abbrev pub interface_text : ℕ → InterfaceDescription → List ℕ
 interface_text number interface =
     codes "interface " ++ (decimal number ++ (limits_text interface.snap_len interface.time_resolution ++ codes "\n"))
 
--- the line of the interface with this number, and the lines of its texts if the list contains them
+-- the line of the interface with this number, and the lines of its texts if `texts` contains them
 abbrev pub described_text : List InterfaceTexts → ℕ → InterfaceDescription → List ℕ
 described_text texts number interface = interface_text number interface ++ interface_lines number (slice_get texts number)
 
@@ -50,13 +50,13 @@ interfaces_text texts number [] = []
 interfaces_text texts number (interface ∷ interfaces) =
     described_text texts number interface ++ interfaces_text texts (number + 1) interfaces
 
--- the lines of a pcapng file: the word for its byte order, the texts of its section, and its interfaces in their order, each with its texts
+-- the lines of a pcapng file: its byte order and the number of its interfaces, the texts of its section, and each interface with its texts
 abbrev pub pcapng_text : List ℕ → FileTexts → List InterfaceDescription → List InterfaceTexts → List ℕ
 pcapng_text order texts interfaces interface_texts =
     codes "file type pcapng, byte order " ++ (order ++ (codes ", interfaces " ++ (decimal (length interfaces)
     ++ (codes "\n" ++ (texts_text texts ++ interfaces_text interface_texts 0 interfaces)))))
 
--- the lines of the section of a pcapng file that was read last
+-- the lines of the section that was read last from a pcapng file
 abbrev pub section_text : PcapngReader → List ℕ
 section_text reader =
     pcapng_text (byte_order_word reader.section.byte_order) reader.texts reader.section.interfaces.items reader.texts.interfaces.items

@@ -32,6 +32,6 @@ abbrev pub end_text : Bool → List ℕ
 end_text true = codes "..."
 end_text false = []
 
--- the form in which a kept text is shown, with a mark if it was cut
+-- the form in which a `KeptText` is shown, with a mark if the text was cut
 abbrev pub shown_kept : KeptText → List ℕ
 shown_kept text = shown_bytes text.bytes.items ++ end_text text.is_cut

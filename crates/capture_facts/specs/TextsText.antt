@@ -13,20 +13,20 @@ is_absent text = length text.bytes.items == 0
 abbrev pub text_line : KeptText → List ℕ
 text_line text = shown_kept text ++ codes "\n"
 
--- a label and a text in a line; without a text there is no line
+-- a label and a text in a line; if the text is absent, there is no line
 abbrev pub labelled_text : List ℕ → KeptText → List ℕ
 labelled_text label text = if is_absent text then [] else label ++ (codes " " ++ text_line text)
 
--- the number of an interface, a label and a text in a line; without a text there is no line
+-- the number of an interface, a label and a text in a line; if the text is absent, there is no line
 abbrev pub numbered_text : ℕ → List ℕ → KeptText → List ℕ
 numbered_text number label text =
     if is_absent text then [] else codes "interface " ++ (decimal number ++ (codes " " ++ (label ++ (codes " " ++ text_line text))))
 
--- the number of packets with a comment, unless it is 0
+-- the line with the number of packets that have a comment; if the number is 0, there is no line
 abbrev pub commented_text : ℕ → List ℕ
 commented_text count = if count == 0 then [] else codes "packets with a comment " ++ (decimal count ++ codes "\n")
 
--- the texts of a section, and the number of packets with a comment
+-- the lines of the texts of a section, and the line with the number of packets that have a comment
 abbrev pub texts_text : FileTexts → List ℕ
 texts_text texts =
     labelled_text (codes "application") texts.application ++ (labelled_text (codes "operating system") texts.operating_system
@@ -39,7 +39,7 @@ kept_lines number texts =
     numbered_text number (codes "name") texts.name ++ (numbered_text number (codes "description") texts.description
     ++ numbered_text number (codes "comment") texts.comment)
 
--- the texts of the interface with this number, or nothing if they are not kept
+-- the lines of the texts of the interface with this number; if these texts are not available, there is no line
 abbrev pub interface_lines : ℕ → Option InterfaceTexts → List ℕ
 interface_lines number None = []
 interface_lines number (Some texts) = kept_lines number texts

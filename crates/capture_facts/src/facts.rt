@@ -13,11 +13,12 @@ use capture_texts::InterfaceTexts;
 use std::io;
 use std::io::Write;
 
-/// Writes the facts of a capture, or nothing if there is no capture. They are the type of its file, its byte order, its snap length and its
-/// time resolution. In a pcapng file, each interface has a snap length and a time resolution. The section and each interface have texts.
+/// Writes the facts of a capture, or nothing if there is no capture. The facts of a classic capture are its file type, byte order, snap
+/// length and time resolution. The facts of a pcapng file are its file type, byte order, number of interfaces and texts. They also contain
+/// the snap length, the time resolution and the texts of each interface.
 ///
-/// `capture` is the reader of the capture after its packets. For a pcapng file, the facts are those of the last section, with the
-/// interfaces that were described so far.
+/// `capture` is the reader after it has read the packets. In a pcapng file, only the last section that was read counts, with the interfaces
+/// that were described so far.
 ///
 /// # Errors
 ///
@@ -42,7 +43,7 @@ fn write_classic<W: Write>(output: &mut W, header: CaptureHeader) -> io::Result<
     writeln!(output)
 }
 
-/// Writes the lines of the section that this reader read last: its byte order, its texts, and its interfaces.
+/// Writes the lines of the section that this reader read last: its byte order, the number of its interfaces, its texts, and its interfaces.
 fn write_section<W: Write>(output: &mut W, reader: &PcapngReader) -> io::Result<()>
     ensures { OnOk result (Appends (W.contents output.old) (W.contents output.new) (specs.section_text reader.now)) }
 {
@@ -57,7 +58,7 @@ fn write_section<W: Write>(output: &mut W, reader: &PcapngReader) -> io::Result<
     write_interfaces(output, interfaces, reader.texts.interfaces.as_slice())
 }
 
-/// Writes the line of each interface, and its texts. `texts` are the texts of the first interfaces.
+/// Writes the line of each interface, and the lines of its texts. `texts` contains the texts of only the first interfaces.
 fn write_interfaces<W: Write>(
     output: &mut W,
     interfaces: &[InterfaceDescription],
@@ -71,7 +72,7 @@ fn write_interfaces<W: Write>(
     Ok(())
 }
 
-/// Writes the line of an interface with this number, and its texts.
+/// Writes the line of the interface with this number, and the lines of its texts if `texts` contains them.
 fn write_described<W: Write>(
     output: &mut W,
     texts: &[InterfaceTexts],
@@ -84,7 +85,7 @@ fn write_described<W: Write>(
     write_interface_texts(output, number, texts)
 }
 
-/// Writes the line of an interface with this number.
+/// Writes the line of the interface with this number.
 fn write_interface<W: Write>(
     output: &mut W,
     number: usize,

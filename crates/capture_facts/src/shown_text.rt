@@ -63,7 +63,7 @@ fn write_byte<W: fmt::Write>(f: &mut fmt::Formatter<W>, byte: u8) -> fmt::Result
     }
 }
 
-/// Whether a byte is a printable character of ASCII other than a backslash.
+/// Returns whether a byte is a printable character of ASCII other than a backslash.
 fn is_plain(byte: u8) -> bool
     ensures { result ≡ specs.is_plain byte }
 {

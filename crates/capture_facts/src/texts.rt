@@ -9,7 +9,8 @@ use capture_texts::{FileTexts, InterfaceTexts, KeptText};
 use std::io;
 use std::io::Write;
 
-/// Writes the texts of a section that are present, and the number of packets with a comment unless it is 0, each in a line.
+/// Writes the texts of a section, each in a line, and skips a text that is absent. Then writes a line with the number of packets that have
+/// a comment, unless the number is 0.
 pub fn write_texts<W: Write>(output: &mut W, texts: &FileTexts) -> io::Result<()>
     ensures { OnOk result (Appends (W.contents output.old) (W.contents output.new) (specs.texts_text texts.now)) }
 {
@@ -20,7 +21,7 @@ pub fn write_texts<W: Write>(output: &mut W, texts: &FileTexts) -> io::Result<()
     write_commented(output, texts.commented_packets)
 }
 
-/// Writes the texts of the interface with this number, or nothing if they are not kept.
+/// Writes the texts of the interface with this number, or nothing if `texts` does not contain them.
 pub fn write_interface_texts<W: Write>(
     output: &mut W,
     number: usize,
@@ -34,7 +35,7 @@ pub fn write_interface_texts<W: Write>(
     }
 }
 
-/// Writes the texts of the interface with this number.
+/// Writes these texts of the interface with this number, each in a line, and skips a text that is absent.
 fn write_kept<W: Write>(output: &mut W, number: usize, texts: &InterfaceTexts) -> io::Result<()>
     ensures { OnOk result (Appends (W.contents output.old) (W.contents output.new) (specs.kept_lines number texts.now)) }
 {
@@ -78,7 +79,7 @@ fn write_line<W: Write>(output: &mut W, text: &KeptText) -> io::Result<()>
     writeln!(output)
 }
 
-/// Writes the number of packets with a comment, unless it is 0.
+/// Writes a line with the number of packets that have a comment, unless the number is 0.
 fn write_commented<W: Write>(output: &mut W, count: u64) -> io::Result<()>
     ensures { OnOk result (Appends (W.contents output.old) (W.contents output.new) (specs.commented_text count)) }
 {

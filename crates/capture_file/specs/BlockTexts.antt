@@ -18,8 +18,8 @@ abbrev pub unless_refused : Option NextPacket → FileTexts → FileTexts → Fi
 unless_refused (Some (Refused error)) before after = before
 unless_refused next before after = after
 
--- The texts after a block was read. `next` is the item that the block gives, if it gives one. A block that is longer than the buffer
--- changes no text.
+-- The texts after a block was read. `next` is the packet in the block, the error that refuses the block, or `None`. A block that is refused
+-- or is longer than the buffer changes no text.
 abbrev pub noted : NextBlock → List ℕ → Option NextPacket → FileTexts → FileTexts
 noted (Whole header) buffer next before =
     unless_refused next before (texts_with header (slice_range buffer body_at (header.total_len - trailer_len)) before)

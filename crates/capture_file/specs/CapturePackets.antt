@@ -16,12 +16,13 @@ use Rattle.capture_file.specs.declared.reader.next_packet.NextPacket.TheVariants
 use Rattle.capture_file.specs.declared.reader.pcapng_reader.PcapngReader.{PcapngReader}
 use Rattle.capture_file.specs.declared.reader.next_packet.TooLongPacket.{TooLongPacket}
 
--- a packet of a capture: what the capture states about it and its captured bytes, or a packet that is longer than the buffer
+-- A packet of a capture. A packet that fits in the buffer consists of what the capture states about it, and of its captured bytes. For a
+-- packet that is longer than the buffer, the captured bytes are left out.
 pub data FilePacket : Type 0 where
   kept : CapturedPacket → List ℕ → FilePacket
   too_long : TooLongPacket → FilePacket
 
--- the packet in the next item, if the item is a packet; its captured bytes are in the buffer
+-- the packet in the next item, if the item is a packet; `buffer` contains the captured bytes of a whole packet
 abbrev pub packet_in : List ℕ → NextPacket → Option FilePacket
 packet_in buffer (packets.Whole packet) = Some (kept packet (slice_range buffer packet.start (packet.start + packet.captured_len)))
 packet_in buffer (packets.TooLong packet) = Some (too_long packet)
@@ -32,19 +33,20 @@ abbrev pub offset_of : CaptureReader → ℕ
 offset_of (Classic reader) = reader.offset
 offset_of (Pcapng reader) = reader.offset
 
--- The reader `after` is at the start of a record or block. Blocks of a pcapng file without a packet may have been skipped since `before`.
+-- The reader `after` is at the start of a record or block. In a pcapng file, blocks that contain no packet may have been skipped since
+-- `before`.
 abbrev pub Seeks : ℕ → CaptureReader → Option (List ℕ) → CaptureReader → Type 0
 Seeks room (Classic before) left after = after ≡ Classic before
 Seeks room (Pcapng before) left after = (reader : PcapngReader) × (after ≡ Pcapng reader) × HasPassed room before left reader
 
--- Reading failed within a record or block, and the reader `after` is at its start. Blocks of a pcapng file without a packet may have been
--- skipped since `before`.
+-- Reading failed within a record or block, and the reader `after` is at the start of this record or block. In a pcapng file, blocks that
+-- contain no packet may have been skipped since `before`.
 abbrev pub FailsToRead : ℕ → CaptureReader → Option (List ℕ) → Option (List ℕ) → CaptureReader → Type 0
 FailsToRead room (Classic before) left still_left after = (after ≡ Classic before) × FailsInRecord before.header.byte_order left still_left
 FailsToRead room (Pcapng before) left still_left after =
     (reader : PcapngReader) × (after ≡ Pcapng reader) × FailsToPass room before left still_left reader
 
--- the statement holds if the next packet is cut off
+-- if the next item is a record or block that is cut off, the statement holds
 abbrev pub IfCutOff : NextPacket → Type 0 → Type 0
 IfCutOff (packets.CutOff required_len len) Statement = Statement
 IfCutOff other Statement = Unit {0}
@@ -67,7 +69,7 @@ ReadsPackets room before left still_left after (packet ∷ packets) =
     (reader : CaptureReader) × (middle : Option (List ℕ)) × ReadsOne room before left middle reader packet
     × ReadsPackets room reader middle still_left after packets
 
--- the next item is not a packet
+-- the next item was read, and it is not a packet
 pub record EndsWith (room : ℕ) (before : CaptureReader) (left : Option (List ℕ)) (next : NextPacket) : Type 0 where
   pub still_left : Option (List ℕ)
   pub after : CaptureReader
@@ -76,21 +78,22 @@ pub record EndsWith (room : ℕ) (before : CaptureReader) (left : Option (List �
   pub reads : ReadsPacket before left still_left after buffer next
   pub no_packet : packet_in buffer next ≡ None
 
--- ---- the packets of a file, with room for `room` bytes
+-- ---- the packets of a file, read into a buffer of `room` bytes
 
--- the packet of a record of a classic capture; its captured bytes follow the record's header of 16 bytes
+-- the packet of a record of a classic capture; the captured bytes follow the record's header of 16 bytes
 abbrev pub record_packet : ℕ → CaptureHeader → List ℕ → FilePacket
 record_packet room capture bytes =
     let header = record_header capture.byte_order bytes in
     if nat_le header.captured_len room then kept (packet_of_record capture header) (drop record_header_len bytes)
     else too_long (long_record capture header)
 
--- the next item after the last whole record
+-- the item after the last whole record: the end of the capture if no bytes follow the record, otherwise a record that is cut off
 abbrev pub next_after : ByteOrder → List ℕ → NextPacket
 next_after order [] = packets.End
 next_after order (byte ∷ bytes) = packets.CutOff (required_len order (byte ∷ bytes)) (length (byte ∷ bytes))
 
--- the bytes after the beginning of a capture begin with these packets
+-- The bytes after the beginning of a capture begin with these packets. The beginning is the header of a classic capture, or the first block
+-- of a pcapng file.
 abbrev pub BeginsWithPackets : ℕ → CaptureReader → List FilePacket → List ℕ → Type 0
 BeginsWithPackets room (Classic reader) packets bytes =
     (records : List (List ℕ)) × (rest : List ℕ) × (bytes ≡ concat records ++ rest)
@@ -129,8 +132,8 @@ PacketsEndAt room (Pcapng reader) packets bytes len =
     (rest : List ℕ) × (after : CaptureReader) × ReadsPackets room (Pcapng reader) (Some bytes) (Some rest) after packets
     × (len + length rest ≡ length bytes)
 
--- A capture was cut after `cut` bytes. `cut_packets` are the packets that end at or before the cut: the first packets of the list
--- `packets`.
+-- Of the bytes after the beginning of a capture, only the first `cut` bytes are left. `cut_packets` are the packets whose record or block
+-- ends at or before this cut. They are the first packets of the list `packets`.
 pub record ArePacketsBeforeCut (room : ℕ) (reader : CaptureReader) (bytes : List ℕ) (cut : ℕ)
     (packets cut_packets : List FilePacket) : Type 0 where
   pub count : ℕ
@@ -145,15 +148,15 @@ pub record BeginsWith (header : CaptureHeader) (bytes : List ℕ) : Type 0 where
   pub accepted : header_refusal (take capture_header_len bytes) ≡ None
   pub is_header : IsHeaderOf (take capture_header_len bytes) header
 
--- the bytes are the beginning of a capture and then `rest`, and this reader reads the packets from `rest`
+-- the bytes are the beginning of a capture, followed by `rest`; this reader reads the packets in `rest`
 abbrev pub Begins : ℕ → CaptureReader → List ℕ → List ℕ → Type 0
 Begins room (Classic reader) bytes rest =
     BeginsWith reader.header bytes × (reader ≡ begins_records reader.header) × (rest ≡ drop capture_header_len bytes)
 Begins room (Pcapng reader) bytes rest =
     (buffer : List ℕ) × (length buffer ≡ room) × ReadsFirstBlock (Some bytes) (Some rest) buffer (Ok reader)
 
--- The beginning of a capture was read from an input. The first `Option` contains the bytes that the input had before, and the second the
--- bytes that are left. If the bytes before are unknown, the statement always holds.
+-- The beginning of a capture was read from an input. The first `Option` contains the bytes that the input had before, and the second
+-- contains the bytes that are left. If the bytes that the input had before are unknown, the statement always holds.
 abbrev pub BeginsInput : ℕ → CaptureReader → Option (List ℕ) → Option (List ℕ) → Type 0
 BeginsInput room reader None still_left = Unit {0}
 BeginsInput room reader (Some bytes) None = ⊥

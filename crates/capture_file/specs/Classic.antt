@@ -28,7 +28,7 @@ capture_header_len = 24
 abbrev pub magic_numbers : List (ℕ × Resolution)
 magic_numbers = (0xA1B2C3D4, Microseconds) ∷ (0xA1B23C4D, Nanoseconds) ∷ []
 
--- the resolution that this magic number means
+-- the resolution that this magic number means, or `None` if it is not a magic number
 abbrev pub resolution_with : ℕ → Option Resolution
 resolution_with magic = lookup (λ number. magic == number) magic_numbers
 
@@ -41,8 +41,8 @@ abbrev pub link_number : ByteOrder → List ℕ → ℕ
 link_number order bytes = number_at order bytes 20 % 65536
 
 -- The header of the capture that begins with these bytes. In the byte order of the header, bytes 0 to 3 are the magic number of its
--- resolution, bytes 16 to 19 the snap length, and bytes 20 to 23 the number of its link type. If the type is not read, the header contains
--- this number.
+-- resolution. Bytes 16 to 19 are the snap length, and the low 16 bits of bytes 20 to 23 are the number of the link type. If this link type
+-- is not read, the header contains the number.
 pub record IsHeaderOf (bytes : List ℕ) (header : CaptureHeader) : Type 0 where
   pub resolution : resolution_with (number_at header.byte_order bytes 0) ≡ Some header.resolution
   pub snap_len : header.snap_len ≡ number_at header.byte_order bytes 16
@@ -52,8 +52,8 @@ pub record IsHeaderOf (bytes : List ℕ) (header : CaptureHeader) : Type 0 where
 abbrev pub form_in : ByteOrder → List ℕ → Option (ByteOrder × Resolution)
 form_in order bytes = option_map (λ resolution. (order, resolution)) (resolution_with (number_at order bytes 0))
 
--- The byte order in which the first four bytes are a magic number, and the resolution that this number means. `None` if they are not a
--- magic number in either byte order.
+-- The byte order in which the first four bytes are a magic number, and the resolution that this number means. `None` if these bytes are not
+-- a magic number in either byte order.
 abbrev pub form_of : List ℕ → Option (ByteOrder × Resolution)
 form_of bytes = option_or (form_in BigEndian bytes) (form_in LittleEndian bytes)
 
@@ -67,19 +67,19 @@ magic_error bytes =
     if number_at BigEndian bytes 0 == modified_magic || number_at LittleEndian bytes 0 == modified_magic then Modified
     else Magic (be_number bytes 0 4)
 
--- the version is read: the major version is 2, and the version is 2.4 or later
+-- the version is read: the major version is 2, and the minor version is at least 4
 abbrev pub is_version_read : ℕ → ℕ → Bool
 is_version_read major minor = major == 2 && nat_le 4 minor
 
--- The error for a version that is not read. `None` if there is no magic number, since `magic_error` refuses these bytes.
+-- The error for a version that is not read. If there is no magic number, this is `None`, and `magic_error` refuses the bytes.
 abbrev pub version_refusal : Option (ByteOrder × Resolution) → List ℕ → Option CaptureHeaderError
 version_refusal None bytes = None
 version_refusal (Some form) bytes =
     refused_if (not (is_version_read (short_at form.0 bytes 4) (short_at form.0 bytes 6)))
     (Version (short_at form.0 bytes 4) (short_at form.0 bytes 6))
 
--- The error that refuses the header of a capture, if there is one. If several errors apply, the first one counts. A pcapng file begins with
--- the type of a section header block.
+-- The error that refuses the header of a capture, if there is one. If several errors apply, the first one counts. The first check refuses a
+-- pcapng file, which begins with the type of a section header block.
 abbrev pub header_refusal : List ℕ → Option CaptureHeaderError
 header_refusal bytes = first_of (
     refused_if (be_number bytes 0 4 == section_header_type) Pcapng
@@ -102,7 +102,7 @@ record_header order bytes = record {
   original_len = number_at order bytes 12;
 }
 
--- the length of the record at the front of these bytes: the length of its header plus its captured length
+-- the length of the record at the front of these bytes: the length of the record's header plus the captured length
 abbrev pub record_len : ByteOrder → List ℕ → ℕ
 record_len order bytes = record_header_len + number_at order bytes 8
 
@@ -110,7 +110,7 @@ record_len order bytes = record_header_len + number_at order bytes 8
 abbrev pub IsRecord : ByteOrder → List ℕ → Type 0
 IsRecord order bytes = length bytes ≡ record_len order bytes
 
--- the bytes do not begin with a whole record: they end within its header, or within its captured bytes
+-- the bytes do not begin with a whole record: they end within the header of a record, or within its captured bytes
 abbrev pub IsPartial : ByteOrder → List ℕ → Type 0
 IsPartial order bytes = (length bytes < record_header_len) ⊎ (length bytes < record_len order bytes)
 
@@ -120,8 +120,8 @@ pub record IsReading (order : ByteOrder) (bytes : List ℕ) (records : List (Lis
   pub each : AllByRecursion (IsRecord order) records
   pub partial : IsPartial order rest
 
--- After a cut, only the first `cut` bytes are left. `cut_records` are the records that end at or before the cut. The next record ends after
--- the cut.
+-- After a cut, only the first `cut` bytes are left. `cut_records` are the records that end at or before the cut. If there is a next record,
+-- it ends after the cut.
 pub record AreBeforeCut (cut : ℕ) (records cut_records : List (List ℕ)) : Type 0 where
   pub count : ℕ
   pub first : cut_records ≡ take count records

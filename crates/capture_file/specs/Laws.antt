@@ -1,4 +1,4 @@
--- Laws on bytes that are divided into parts, such as the records of a capture, and an end.
+-- Laws on bytes that are divided into parts and an end. The parts are, for example, the records of a capture.
 use Rattle.std.specs.Prelude.{◌≡◌, ℕ, List, take}
 
 -- the relation holds for at least one list of parts and one end

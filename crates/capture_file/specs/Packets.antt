@@ -71,7 +71,7 @@ long_record capture header = record {
   original_len = Some header.original_len;
 }
 
--- the next item of a capture whose next record this is
+-- the next item of a capture, for this result of reading the next record
 abbrev pub next_by_record : CaptureHeader → NextRecord → NextPacket
 next_by_record capture (records.Whole header) = packets.Whole (packet_of_record capture header)
 next_by_record capture (records.TooLong header) = packets.TooLong (long_record capture header)
@@ -82,7 +82,7 @@ next_by_record capture (records.CutOff required_len len) = packets.CutOff requir
 abbrev pub offset_after_record : ℕ → RecordHeader → ℕ
 offset_after_record offset header = min (offset + (record_header_len + header.captured_len)) (2 ^ 64 - 1)
 
--- the place of the reader after this item; at the end of the input, or if the record is cut off, it does not change
+-- the place of the reader after this item; the place does not change at the end of the input, or if the record is cut off
 abbrev pub offset_by_record : ℕ → NextRecord → ℕ
 offset_by_record offset (records.Whole header) = offset_after_record offset header
 offset_by_record offset (records.TooLong header) = offset_after_record offset header
@@ -103,7 +103,8 @@ pub record ReadsRecordPacket (before : ClassicReader) (left still_left : Option 
 abbrev pub packet_start : ℕ → ℕ
 packet_start type = if type == simple_packet_type then body_at + simple_captured_at else body_at + timed_captured_at
 
--- A packet of this interface. Its byte order is that of its block. The whole block is at the front of the buffer.
+-- A packet that was captured on this interface. Its byte order is the byte order of its block. The whole block is at the front of the
+-- buffer.
 abbrev pub interface_packet : BlockHeader → InterfaceDescription → Option ℕ → ℕ → ℕ → CapturedPacket
 interface_packet header interface timestamp captured_len original_len = record {
   link_type = link_type_or_number interface.link_type;
@@ -114,7 +115,7 @@ interface_packet header interface timestamp captured_len original_len = record {
   original_len = original_len;
 }
 
--- the packet of a block that was captured on this interface; the whole block is at the front of the buffer
+-- the packet in a packet block; the packet was captured on this interface, and the whole block is at the front of the buffer
 abbrev pub packet_of_block : BlockHeader → InterfaceDescription → PacketBlock → CapturedPacket
 packet_of_block header interface packet =
     interface_packet header interface packet.timestamp (length packet.captured.now) packet.original_len
@@ -123,13 +124,13 @@ packet_of_block header interface packet =
 abbrev pub long_block : BlockHeader → TooLongPacket
 long_block header = record { link_type = None; time = None; required_len = header.total_len; original_len = None }
 
--- ---- both forms
+-- ---- both file formats
 
 -- the captured bytes of a packet are within the first `len` bytes of the buffer
 abbrev pub IsWithin : ℕ → CapturedPacket → Type 0
 IsWithin len packet = packet.start + packet.captured_len ≤ len
 
--- if the next item is a packet, its captured bytes are within the first `len` bytes of the buffer
+-- if the next item is a whole packet, its captured bytes are within the first `len` bytes of the buffer
 abbrev pub IsNextWithin : ℕ → NextPacket → Type 0
 IsNextWithin len (packets.Whole packet) = IsWithin len packet
 IsNextWithin len other = Unit {0}

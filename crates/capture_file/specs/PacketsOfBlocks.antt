@@ -33,8 +33,8 @@ use Rattle.capture_file.specs.declared.reader.pcapng_reader.PcapngReader.{Pcapng
 abbrev pub body_of : List ℕ → List ℕ
 body_of block = slice_range block body_at (length block - trailer_len)
 
--- The packet in the body of an enhanced packet block (section 4.3) or of an obsolete packet block (appendix A). It was captured on this
--- interface.
+-- The packet in the body of an enhanced packet block (section 4.3) or of an obsolete packet block (appendix A). The packet was captured on
+-- this interface.
 abbrev pub timed_packet : BlockHeader → List ℕ → InterfaceDescription → FilePacket
 timed_packet header body interface =
     let order = header.byte_order in
@@ -42,14 +42,15 @@ timed_packet header body interface =
     let captured = slice_range body timed_captured_at (timed_captured_at + number_at order body timed_captured_len_at) in
     kept (interface_packet header interface (Some timestamp) (length captured) (number_at order body 16)) captured
 
--- the packet in the body of a simple packet block (section 4.4), which was captured on this interface
+-- the packet in the body of a simple packet block (section 4.4); the packet was captured on this interface
 abbrev pub simple_packet : BlockHeader → List ℕ → InterfaceDescription → FilePacket
 simple_packet header body interface =
     let captured = slice_range body simple_captured_at (simple_end header.byte_order interface.snap_len body) in
     kept (interface_packet header interface None (length captured) (number_at header.byte_order body 0)) captured
 
--- The packet in the body of a packet block. The body states the number of the packet's interface. The interface of a simple packet block is
--- always interface 0.
+-- The packet in the body of a packet block. An enhanced or obsolete packet block states the number of the packet's interface. The packet of
+-- a simple packet block always belongs to interface 0. `None` if the section does not describe the interface, or if the block has another
+-- type.
 abbrev pub packet_in_body : BlockHeader → List InterfaceDescription → List ℕ → Option FilePacket
 packet_in_body header interfaces body =
     let order = header.byte_order in
@@ -68,7 +69,8 @@ interfaces_after header interfaces body =
     else if header.block_type == interface_description_type then interfaces ++ interface_description header.byte_order body ∷ []
     else interfaces
 
--- the error that refuses the block: its body is refused, or it describes more interfaces than are kept
+-- The error that refuses the block. Either its body is refused. Or the block describes an interface although the section already has the
+-- maximum number of interfaces.
 abbrev pub block_error : BlockHeader → List InterfaceDescription → List ℕ → Option PacketError
 block_error header interfaces body = first_of (
     option_map errors.Body (body_refusal header interfaces body)
@@ -85,8 +87,8 @@ result_by None packet = Ok packet
 abbrev pub whole_result : BlockHeader → List InterfaceDescription → List ℕ → Result (Option FilePacket) PacketError
 whole_result header interfaces body = result_by (block_error header interfaces body) (packet_in_body header interfaces body)
 
--- The result of a block that is longer than the buffer. It is refused if it is a section header or an interface description, since later
--- packets can't be read without it.
+-- The result of a block that is longer than the buffer. A section header or an interface description is refused, since later packets can't
+-- be read without it. A packet block is a packet that is too long. Any other block is skipped.
 abbrev pub long_result : BlockHeader → Result (Option FilePacket) PacketError
 long_result header =
     result_by (refused_if (is_description header.block_type) (errors.TooLong header.block_type header.total_len))
@@ -110,8 +112,8 @@ before_others offset (Err error) others = ([], refused_at offset error)
 before_others offset (Ok None) others = others
 before_others offset (Ok (Some packet)) others = (packet ∷ others.0, others.1)
 
--- The item after the last block. `bytes` follow the last block, at the place `offset`. If there are none it is the end of the file, and
--- otherwise the error that refuses them as a block.
+-- The item after the last block, which `bytes` follow at the place `offset`. If `bytes` is empty, the item is the end of the file.
+-- Otherwise it is the error that refuses `bytes` as a block.
 abbrev pub item_after : ℕ → List ℕ → Option BlockError → NextPacket
 item_after offset (byte ∷ bytes) (Some error) = next_by_refusal offset error
 item_after offset bytes refusal = packets.End
@@ -128,16 +130,16 @@ packets_of_blocks room section interfaces offset (block ∷ blocks) rest =
 
 -- ---- the laws
 
--- If bytes consist of blocks and a rest that is refused as a block, a reader reads exactly the packets of these blocks. They are computed
--- from the byte order, the interfaces and the place of the reader.
+-- Assume that bytes consist of blocks and a rest that is refused as a block. Then a reader reads exactly the packets of these blocks, and
+-- the item after them. `packets_of_blocks` computes them from the byte order, the interfaces and the place of the reader.
 abbrev pub ReadPacketsOfBlocks : ℕ → Type 0
 ReadPacketsOfBlocks room =
     (reader : PcapngReader) (bytes : List ℕ) (blocks : List (List ℕ)) (rest : List ℕ) (packets : List FilePacket) (next : NextPacket)
     → IsBytes bytes → IsBlockReading reader.section.byte_order bytes blocks rest → HasPackets room (Pcapng reader) bytes packets next
     → (packets, next) ≡ packets_of_blocks room reader.section.byte_order reader.section.interfaces.items reader.offset blocks rest
 
--- A reader of a whole file reads exactly the packets of all blocks of the file. They are computed from the start of the file, without an
--- interface.
+-- A reader of a whole file reads exactly the packets of all blocks of the file. `packets_of_blocks` computes these packets from the start
+-- of the file, where no interface is described yet.
 abbrev pub FilesHavePacketsOfBlocks : ℕ → Type 0
 FilesHavePacketsOfBlocks room =
     (reader : PcapngReader) (file bytes : List ℕ) (blocks : List (List ℕ)) (rest : List ℕ) (packets : List FilePacket) (next : NextPacket)

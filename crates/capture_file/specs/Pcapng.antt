@@ -22,14 +22,15 @@ is_section_header bytes = be_number bytes 0 4 == section_header_type
 abbrev pub byte_order_magic : ℕ
 byte_order_magic = 0x1A2B3C4D
 
--- the byte order in which bytes 8 to 11 of a section header block are the byte-order magic
+-- The byte order in which bytes 8 to 11 of a section header block are the byte-order magic. `None` if these bytes are not the magic in
+-- either byte order.
 abbrev pub order_by_magic : List ℕ → Option ByteOrder
 order_by_magic bytes =
     if number_at BigEndian bytes 8 == byte_order_magic then Some BigEndian
     else if number_at LittleEndian bytes 8 == byte_order_magic then Some LittleEndian
     else None
 
--- the bytes begin a section header block, and contain no byte-order magic
+-- the bytes begin a section header block, but bytes 8 to 11 are not the byte-order magic
 abbrev pub lacks_magic : List ℕ → Bool
 lacks_magic bytes = is_section_header bytes && is_none (order_by_magic bytes)
 
@@ -43,7 +44,7 @@ order_of section bytes = if is_section_header bytes then unwrap_or (order_by_mag
 abbrev pub is_block_len : ℕ → Bool
 is_block_len len = nat_le min_block_len len && len % 4 == 0
 
--- the length of the block at the front of these bytes, in its bytes 4 to 7
+-- the length of the block at the front of these bytes, as bytes 4 to 7 of the block state it
 abbrev pub block_len : ByteOrder → List ℕ → ℕ
 block_len section bytes = number_at (order_of section bytes) bytes 4
 
@@ -92,7 +93,7 @@ pub record ReadsBlock (section : ByteOrder) (bytes : List ℕ) (block : Block) (
 
 -- ---- a file as a list of blocks
 
--- the bytes of exactly one block, in a section with this byte order
+-- the bytes are exactly one block, in a section with this byte order
 pub record IsBlock (section : ByteOrder) (bytes : List ℕ) : Type 0 where
   pub has_order : lacks_magic bytes ≡ false
   pub shortest : min_block_len ≤ length bytes
@@ -101,7 +102,7 @@ pub record IsBlock (section : ByteOrder) (bytes : List ℕ) : Type 0 where
   pub begins : block_len section bytes ≡ length bytes
   pub ends : last_len section bytes (length bytes) ≡ length bytes
 
--- blocks, one after the other; a section header block states the byte order of the blocks after it
+-- these are blocks, one after the other; a section header block states the byte order of itself and of the blocks after it
 abbrev pub AreBlocks : ByteOrder → List (List ℕ) → Type 0
 AreBlocks section [] = Unit {0}
 AreBlocks section (block ∷ blocks) = IsBlock section block × AreBlocks (order_of section block) blocks

@@ -16,7 +16,7 @@ abbrev pub BlockItem : Type 0
 BlockItem = Result Block PlacedBlockError
 
 -- One call of `next` changed the state of reading from `before` to `after`, and returned this item. The place of an error is the start of
--- the bytes that are left.
+-- the bytes that were left before the call.
 abbrev pub GivesBlock : UnreadFile → Option BlockItem → UnreadFile → Type 0
 GivesBlock before None after = (before.rest ≡ []) × (after ≡ before)
 GivesBlock before (Some (Ok block)) after =

@@ -53,7 +53,7 @@ abbrev pub units_per_second : TimeResolution → ℕ
 units_per_second (PowerOfTen exponent) = 10 ^ exponent
 units_per_second (PowerOfTwo exponent) = 2 ^ exponent
 
--- the resolution that the value of the option `if_tsresol` states, which has one byte; microseconds without the option
+-- the resolution that the one byte in the value of the option `if_tsresol` states, or microseconds without the option
 abbrev pub resolution_by : Option (List ℕ) → TimeResolution
 resolution_by None = PowerOfTen 6
 resolution_by (Some value) = time_resolution (slice_index value 0)

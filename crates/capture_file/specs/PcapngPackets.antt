@@ -11,18 +11,19 @@ use Rattle.capture_file.specs.declared.pcapng.errors.BodyError.TheVariants.{Inte
 use Rattle.capture_file.specs.declared.pcapng.interface_description.InterfaceDescription.{InterfaceDescription}
 use Rattle.capture_file.specs.declared.pcapng.block_body.PacketBlock.{PacketBlock}
 
--- ---- an enhanced packet block (section 4.3) or an obsolete packet block (appendix A); an enhanced packet block contains the number of its
--- interface in bytes 0 to 3, and an obsolete packet block in bytes 0 and 1
+-- ---- an enhanced packet block (section 4.3) or an obsolete packet block (appendix A)
 
--- The packet in a body. After the number of the interface, the body contains the upper and the lower half of the timestamp (from byte 4),
--- the captured length, the original length, and the captured bytes.
+-- The packet in a body. The number of the interface is in bytes 0 to 3 of an enhanced packet block, and in bytes 0 and 1 of an obsolete
+-- packet block. From byte 4 on, both types of block contain the upper and the lower half of the timestamp, the captured length, the
+-- original length, and the captured bytes.
 pub record IsTimedPacket (order : ByteOrder) (interface : ℕ) (body : List ℕ) (packet : PacketBlock) : Type 0 where
   pub of_interface : packet.interface ≡ interface
   pub timestamp : packet.timestamp ≡ Some (number_at order body 4 * 2 ^ 32 + number_at order body 8)
   pub original_len : packet.original_len ≡ number_at order body 16
   pub captured : packet.captured.now ≡ slice_range body timed_captured_at (timed_captured_at + number_at order body timed_captured_len_at)
 
--- The first error that applies: the section has only `count` interfaces before the packet, or the body ends within the captured bytes.
+-- The first error that applies. Either `interface` is not below `count`, the number of interfaces that the section describes before the
+-- packet. Or the body ends within the captured bytes.
 abbrev pub captured_refusal : ByteOrder → ℕ → ℕ → List ℕ → Option BodyError
 captured_refusal order interface count body = first_of (
     refused_if (nat_le count interface) (Interface interface count)
@@ -55,7 +56,7 @@ pub record IsSimplePacketOf (order : ByteOrder) (snap_len : ℕ) (body : List �
   pub original_len : packet.original_len ≡ number_at order body 0
   pub captured : packet.captured.now ≡ slice_range body simple_captured_at (simple_end order snap_len body)
 
--- the packet in a body, for the snap length of the first interface
+-- the packet in a body, in a section with these interfaces; the snap length of the first interface limits the captured bytes
 abbrev pub IsSimplePacket : ByteOrder → List InterfaceDescription → List ℕ → PacketBlock → Type 0
 IsSimplePacket order interfaces body packet =
     (snap_len : ℕ) × (first_snap_len interfaces ≡ Some snap_len) × IsSimplePacketOf order snap_len body packet

@@ -9,8 +9,8 @@ use Rattle.capture_file.specs.declared.pcapng.errors.BlockError.TheVariants.{Cut
 use Rattle.capture_file.specs.declared.pcapng.read.NextBlock.{NextBlock}
 use Rattle.capture_file.specs.declared.pcapng.read.NextBlock.TheVariants.{End, Refused, TooLong, Whole}
 
--- The bytes that were read determine the next item: a block at the front of the buffer, a block that is longer than the buffer, the end of
--- the input, or bytes that are refused as a block.
+-- The bytes that were read determine the next item. It is a block at the front of the buffer, a block that is longer than the buffer, the
+-- end of the input, or bytes that are refused as a block.
 abbrev pub IsNextBlock : ByteOrder → List ℕ → List ℕ → NextBlock → Type 0
 IsNextBlock section bytes buffer (Whole header) =
     IsBlock section bytes × (header ≡ block_header section bytes) × (header.total_len ≤ length buffer)
@@ -26,7 +26,7 @@ IsLastBlock End still_left = IsAtEnd still_left
 IsLastBlock (Refused (CutOff required len)) still_left = IsAtEnd still_left
 IsLastBlock other still_left = Unit {0}
 
--- these bytes were read after the first bytes of a block, and both together determine the next item
+-- `bytes` were read after `first`, the first bytes of a block; `first` and `bytes` together determine the next item
 pub record ReadsAfter (section : ByteOrder) (first : List ℕ) (left still_left : Option (List ℕ)) (buffer : List ℕ)
     (next : NextBlock) : Type 0 where
   pub bytes : List ℕ
@@ -38,8 +38,8 @@ pub record ReadsAfter (section : ByteOrder) (first : List ℕ) (left still_left 
 abbrev pub ReadsNextBlock : ByteOrder → Option (List ℕ) → Option (List ℕ) → List ℕ → NextBlock → Type 0
 ReadsNextBlock section left still_left buffer next = ReadsAfter section [] left still_left buffer next
 
--- Reading failed within a block. `first` are its first bytes, which were read before. These bytes and those read now are only a part of the
--- block.
+-- Reading failed within a block. The first bytes of the block, `first`, were read before. Together with the bytes that were read now, they
+-- are only a part of the block.
 pub record FailsAfter (section : ByteOrder) (first : List ℕ) (left still_left : Option (List ℕ)) : Type 0 where
   pub bytes : List ℕ
   pub consumed : Consumes left still_left bytes
@@ -50,7 +50,7 @@ pub record FailsAfter (section : ByteOrder) (first : List ℕ) (left still_left 
 abbrev pub FailsInBlock : ByteOrder → Option (List ℕ) → Option (List ℕ) → Type 0
 FailsInBlock section left still_left = FailsAfter section [] left still_left
 
--- the first bytes of a block or of a capture were read: 12 bytes, or fewer if the input ends before
+-- the first bytes of a block or of a capture were read: 12 bytes, or fewer if the input has fewer
 abbrev pub AreFirst : List ℕ → Option (List ℕ) → Type 0
 AreFirst first left = (length first ≤ min_block_len) × (length first < min_block_len → IsAtEnd left)
 

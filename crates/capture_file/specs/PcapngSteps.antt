@@ -30,7 +30,7 @@ next_by_taken offset (Ok None) = None
 next_by_taken offset (Ok (Some packet)) = Some (packets.Whole packet)
 next_by_taken offset (Err error) = Some (refused_at offset error)
 
--- the item if the next bytes are refused as a block
+-- the item if this error refuses the next bytes as a block
 abbrev pub next_by_refusal : ℕ → BlockError → NextPacket
 next_by_refusal offset (CutOff required_len len) = packets.CutOff required_len len
 next_by_refusal offset error = refused_at offset (errors.Block error)
@@ -75,7 +75,7 @@ pub record ReadsStep (before : PcapngReader) (left still_left : Option (List ℕ
   pub is_step : IsStep before buffer block after next
   pub texts : after.texts ≡ noted block buffer next before.texts
 
--- `count` blocks were read into a buffer of `room` bytes. Each of them contains no packet and is not refused.
+-- `count` blocks were read into a buffer of `room` bytes. None of these blocks contains a packet or is refused.
 abbrev pub PassesBlocks : ℕ → ℕ → PcapngReader → Option (List ℕ) → Option (List ℕ) → PcapngReader → Type 0
 PassesBlocks room zero before left still_left after = (after ≡ before) × (still_left ≡ left)
 PassesBlocks room (suc count) before left still_left after =
@@ -93,7 +93,7 @@ pub record FailsToPass (room : ℕ) (before : PcapngReader) (left still_left : O
 abbrev pub HasPassed : ℕ → PcapngReader → Option (List ℕ) → PcapngReader → Type 0
 HasPassed room before left after = (count : ℕ) × (middle : Option (List ℕ)) × PassesBlocks room count before left middle after
 
--- blocks were read up to the first block that contains a packet or is refused
+-- blocks were read up to the first block that contains a packet or is refused, or up to the end of the file
 pub record ReadsBlockPacket (before : PcapngReader) (left still_left : Option (List ℕ)) (after : PcapngReader) (buffer : List ℕ)
     (next : NextPacket) : Type 0 where
   pub count : ℕ
@@ -104,7 +104,7 @@ pub record ReadsBlockPacket (before : PcapngReader) (left still_left : Option (L
 
 -- ---- a capture of either format
 
--- the next packet of a classic capture or of a pcapng file was read
+-- the next item of a classic capture or of a pcapng file was read: a packet, the end of the capture, or an error
 abbrev pub ReadsPacket : CaptureReader → Option (List ℕ) → Option (List ℕ) → CaptureReader → List ℕ → NextPacket → Type 0
 ReadsPacket (readers.Classic before) left still_left after buffer next =
     (reader : ClassicReader) × (after ≡ readers.Classic reader) × ReadsRecordPacket before left still_left reader buffer next

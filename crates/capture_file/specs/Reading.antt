@@ -28,18 +28,20 @@ pub record RefusesHeader (left still_left : Option (List ℕ)) (error : CaptureH
   pub consumed : Consumes left still_left bytes
   pub refused : header_refusal bytes ≡ Some error
 
+-- the header of a capture was read, and is accepted or refused
 abbrev pub ReadsHeader : Option (List ℕ) → Option (List ℕ) → Result CaptureHeader CaptureHeaderError → Type 0
 ReadsHeader left still_left (Ok header) = GivesHeader left still_left header
 ReadsHeader left still_left (Err error) = RefusesHeader left still_left error
 
 -- ---- a record
 
--- the least length of a record that begins with these bytes: the length of its header if the header is incomplete, otherwise its own length
+-- The least length of a record that begins with these bytes. It is the length of the record's header if the header is incomplete, otherwise
+-- the length of the record.
 abbrev pub required_len : ByteOrder → List ℕ → ℕ
 required_len order bytes = if nat_lt (length bytes) record_header_len then record_header_len else record_len order bytes
 
--- The bytes that were read determine the next item: a record whose captured bytes are at the front of the buffer, a record that is longer
--- than the buffer, the end of the input, or bytes that are not a whole record.
+-- The bytes that were read determine the next item. It is a record whose captured bytes are at the front of the buffer, a record that is
+-- longer than the buffer, the end of the input, or a record that is cut off.
 abbrev pub IsNext : ByteOrder → List ℕ → List ℕ → NextRecord → Type 0
 IsNext order bytes buffer (Whole header) =
     IsRecord order bytes × (header ≡ record_header order bytes) × (header.captured_len ≤ length buffer)
@@ -74,6 +76,7 @@ IsCaptured header bytes buffer End = ⊥
 IsCaptured header bytes buffer (CutOff required len) =
     (length bytes < header.captured_len) × (required ≡ record_header_len + header.captured_len) × (len ≡ record_header_len + length bytes)
 
+-- these bytes were read after the header of a record, and they determine the next item
 pub record ReadsCaptured (header : RecordHeader) (left still_left : Option (List ℕ)) (buffer : List ℕ) (next : NextRecord) : Type 0 where
   pub bytes : List ℕ
   pub consumed : Consumes left still_left bytes

@@ -17,8 +17,8 @@ use Rattle.capture_file.specs.declared.reader.pcapng_reader.Section.{Section}
 abbrev pub max_interfaces : ℕ
 max_interfaces = 1024
 
--- The result of an interface description. The interface is added to the section, or refused if the section already has the maximum number
--- of interfaces.
+-- The section and the result after an interface description. The interface is added to the section. It is refused if the section already
+-- has the maximum number of interfaces.
 abbrev pub Describes : Section → InterfaceDescription → Section → Result (Option CapturedPacket) PacketError → Type 0
 Describes before interface after (Ok found) =
     (found ≡ None) × (length before.interfaces.items < max_interfaces) × (after.byte_order ≡ before.byte_order)
@@ -26,7 +26,8 @@ Describes before interface after (Ok found) =
 Describes before interface after (Err error) =
     (after ≡ before) × (max_interfaces ≤ length before.interfaces.items) × (error ≡ errors.Interfaces max_interfaces)
 
--- the section after a block with this content, and the packet in the block
+-- The section and the result after a block whose body has this content. The result is the packet in the block, `None` if the block contains
+-- no packet, or an error.
 abbrev pub TakesBody : Section → BlockHeader → BlockBody → Section → Result (Option CapturedPacket) PacketError → Type 0
 TakesBody before header (bodies.SectionHeader said) after result =
     (result ≡ Ok None) × (after.byte_order ≡ header.byte_order) × (after.interfaces.items ≡ [])
@@ -36,7 +37,7 @@ TakesBody before header (bodies.Packet packet) after result =
     × (result ≡ Ok (Some (packet_of_block header interface packet))) × (after ≡ before)
 TakesBody before header bodies.Other after result = (result ≡ Ok None) × (after ≡ before)
 
--- The section and the result after a block. If its body has this error, the block is refused, and the section does not change.
+-- The section and the result after a block. If this error refuses the body of the block, the section does not change.
 abbrev pub TakesUnless : Option BodyError → Section → BlockHeader → List ℕ → Section → Result (Option CapturedPacket) PacketError → Type 0
 TakesUnless (Some error) before header body after result = (result ≡ Err (errors.Body error)) × (after ≡ before)
 TakesUnless None before header body after result =

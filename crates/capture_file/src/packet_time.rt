@@ -39,7 +39,7 @@ impl PacketTime {
         }
     }
 
-    /// The time of a packet in a pcapng file. The timestamp is in units of the resolution of its interface.
+    /// The time of a packet in a pcapng file. The timestamp is in units of the interface's resolution.
     pub fn from_timestamp(interface: InterfaceDescription, timestamp: u64) -> PacketTime
         ensures { result ≡ timestamp_time interface timestamp }
     {
@@ -66,7 +66,7 @@ pub fn nanoseconds_of(time: PacketTime) -> u128
         + nanoseconds_in(time.resolution, time.fraction)
 }
 
-/// The number of seconds since the beginning of 1970, plus the offset and 2^63, so that the sum is never negative.
+/// The sum of the seconds, the offset and 2^63. The offset is at least -2^63, so that the sum is never negative.
 fn shifted_seconds(seconds: u64, offset: i64) -> u128
     ensures value { result ≡ shifted_seconds seconds offset }
     ensures bound { result < 2 ^ 65 }

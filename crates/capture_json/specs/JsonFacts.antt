@@ -21,12 +21,12 @@ abbrev pub limits_members : ℕ → TimeResolution → List Member
 limits_members snap_len resolution =
     (codes "snap_length", whole_number snap_len) ∷ (codes "time_resolution", string (resolution_text resolution)) ∷ []
 
--- the interface with this number as an object, with its texts if this list contains them
+-- the interface with this number as an object; the object includes the texts of the interface if `texts` contains them
 abbrev pub interface_data : List InterfaceTexts → ℕ → InterfaceDescription → Data
 interface_data texts number interface =
     object_of (limits_members interface.snap_len interface.time_resolution ++ interface_members (slice_get texts number))
 
--- these interfaces as objects, in their order; the first interface has this number
+-- these interfaces as objects, in their order; `number` is the number of the first interface
 abbrev pub interfaces_data : List InterfaceTexts → ℕ → List InterfaceDescription → List Data
 interfaces_data texts number [] = []
 interfaces_data texts number (interface ∷ interfaces) =

@@ -36,11 +36,12 @@ element_fields (SelectiveAcknowledgement first more) = (codes "selective_acknowl
 element_fields (Timestamp value echo_reply) =
     (codes "value", whole_number value) ∷ (codes "echo_reply", whole_number echo_reply) ∷ []
 
--- the bytes of the value of any other option, as hex digits
+-- the value of an option of an unknown kind or with an invalid length, as hex digits
 abbrev pub data_fields : RawOption → List Member
 data_fields option = (codes "data", string (hex_bytes option.value)) ∷ []
 
--- these are the fields of an option: the fields of its element if it is one, and its data otherwise
+-- These are the fields of an option. If the kind is known and the length is valid, they are the fields of this kind of option. Otherwise
+-- they are the value as hex digits.
 abbrev pub AreOptionFields : RawOption → List Member → Type 0
 AreOptionFields option fields = MatchOption (element_refusal option)
     ((element : TcpOptionElement) × BeginsWith (raw_spelling option) element [] × (fields ≡ element_fields element))
@@ -60,9 +61,9 @@ kind_object kind = option_object kind []
 abbrev pub IsOptionObject : RawOption → Data → Type 0
 IsOptionObject option value = (fields : List Member) × AreOptionFields option fields × (value ≡ option_object option.kind fields)
 
--- These are the objects of the options in some bytes, and the fault after them, if there is one. No object stands for the end of the bytes
--- or for a fault. An option of kind 0 ends the list and has the last object. Any other option has an object, and the objects of the options
--- after it follow.
+-- These are the objects of the options in some bytes, and the fault after the options, if there is a fault. There is no object for the end
+-- of the bytes or for a fault. An option of kind 0 ends the list, so its object is the last one. After the object of any other option come
+-- the objects of the options that follow it.
 abbrev pub AreOptionObjects : List ℕ → List Data → Option TcpRawOptionError → Type 0
 AreOptionObjects bytes [] None = bytes ≡ []
 AreOptionObjects bytes [] (Some error) = raw_fault bytes ≡ Some error
@@ -72,7 +73,7 @@ AreOptionObjects bytes (value ∷ values) fault =
 
 -- ---- members
 
--- the reason why the next option can't be read, if there is one
+-- the reason why an option can't be read, if there is a fault
 abbrev pub fault_members : Option TcpRawOptionError → List Member
 fault_members None = []
 fault_members (Some error) = (codes "options_fault", string (fault_text error)) ∷ []

@@ -1,4 +1,4 @@
--- A packet as a JSON object (RFC 8259), with the members of each part. Its words are those of the line of text.
+-- A packet as a JSON object (RFC 8259), with the members of each part. It uses the same words as the text format.
 use Rattle.std.specs.Prelude.{◌≡◌, ℕ, ◌==◌, if◌then◌else◌, List, [], ◌∷◌, ◌++◌, length, map, slice_index, codes, Option, Some, None}
 use Rattle.std.specs.List.{flat_map}
 use Rattle.std.specs.Net.Addr.{segments_of}
@@ -52,7 +52,8 @@ use Rattle.capture_words.specs.TcpText.{tcp_flags}
 use Rattle.capture_words.specs.TimeText.{time_text}
 use Rattle.capture_words.specs.declared.times.Times.{Times}
 
--- the time as the text that a line of text shows, and as seconds since 1970 and nanoseconds; if it is unknown, the only member is `null`
+-- The time as a text, as the text format shows it, and as seconds since 1970 and nanoseconds. If the time is unknown, the only member is
+-- `time`, and its value is `null`.
 abbrev pub time_members : Times → Option PacketTime → Option PacketTime → List Member
 time_members times first None = (codes "time", null) ∷ []
 time_members times first (Some time) =
@@ -71,16 +72,16 @@ destination_data (Ipv4 source destination) = string (ipv4_text destination)
 destination_data (Ipv6 source (Some destination)) = string (ipv6_text (segments_of destination))
 destination_data (Ipv6 source None) = null
 
--- the members of the addresses
+-- the source and the final destination
 abbrev pub address_members : Addresses → List Member
 address_members addresses = (codes "source", string (source_text addresses)) ∷ (codes "destination", destination_data addresses) ∷ []
 
--- the members of the ports
+-- the source port and the destination port
 abbrev pub port_members : ℕ → ℕ → List Member
 port_members source destination =
     (codes "source_port", whole_number source) ∷ (codes "destination_port", whole_number destination) ∷ []
 
--- the ports of UDP and TCP: bytes 0 and 1, and bytes 2 and 3, of their headers
+-- the ports in a UDP or TCP header: the source port in bytes 0 and 1, the destination port in bytes 2 and 3
 abbrev pub header_port_members : List ℕ → List Member
 header_port_members header = port_members (be_number header 0 2) (be_number header 2 2)
 
@@ -106,7 +107,7 @@ udp_members datagram =
 abbrev pub name_if_set : NamedFlag → List (List ℕ)
 name_if_set flag = if flag.0 then flag.1 ∷ [] else []
 
--- the names of the flags that are set, in their order; `named` maps an item to its flag and the name of the flag
+-- the names of the flags that are set, in the order of the flags; `named` maps an item to its flag and the name of the flag
 abbrev pub names_of_set : {X : Type 0} → (X → NamedFlag) → List X → List (List ℕ)
 names_of_set named flags = flat_map (λ flag. name_if_set (named flag)) flags
 
@@ -126,7 +127,7 @@ tcp_header_members header options =
     (codes "flags", texts_data (names_of_set (λ flag. flag) (tcp_flags header)))
     ∷ (tcp_number_members header ++ (urgent_members header ++ options))
 
--- these members are the fields of a TCP header that `tcp_header_members` lists
+-- these are the members of a TCP header, as `tcp_header_members` lists them
 abbrev pub AreTcpHeaderMembers : List ℕ → List Member → Type 0
 AreTcpHeaderMembers header members =
     (options : List Member) × AreOptionMembers (options_of header) options × (members ≡ tcp_header_members header options)
@@ -162,7 +163,7 @@ icmpv6_content message =
 abbrev pub icmpv6_members : List ℕ → List Member
 icmpv6_members message = (codes "icmpv6", object_of (icmpv6_content message)) ∷ []
 
--- these are the members of a transport whose header is read
+-- these are the members of a transport whose header was read
 abbrev pub AreReadMembers : TransportSlice → List Member → Type 0
 AreReadMembers (slices.Udp datagram) members = members ≡ udp_members datagram
 AreReadMembers (slices.Tcp segment) members = AreTcpMembers segment members
@@ -183,7 +184,7 @@ abbrev pub name_members : Option (List ℕ) → List Member
 name_members None = []
 name_members (Some name) = (codes "protocol_name", string name) ∷ []
 
--- a protocol over IP: its number, and its name
+-- a protocol over IP: its number, and its name if it has a name
 abbrev pub ip_protocol_members : ℕ → Option Proto → List Member
 ip_protocol_members number proto = (codes "protocol", whole_number number) ∷ name_members (ip_protocol_name number proto)
 
@@ -194,7 +195,7 @@ abbrev pub quoted_port_members : Option (ℕ × ℕ) → List Member
 quoted_port_members None = []
 quoted_port_members (Some ports) = port_members ports.0 ports.1
 
--- a quoted packet: its addresses, its protocol, and its ports
+-- a quoted packet: its addresses, its protocol, and its ports if the error quotes them
 abbrev pub quoted_fields : Quoted → List Member
 quoted_fields quoted =
     address_members quoted.addresses ++ (ip_protocol_members quoted.protocol quoted.proto ++ quoted_port_members quoted.ports)
@@ -217,7 +218,7 @@ tunnel_members (tunnel ∷ tunnels) = (codes "tunnels", array_of (map tunnel_dat
 
 -- ---- the content of a packet
 
--- the numbers of the protocol of a frame without an IP packet, under the names of their kinds
+-- the numbers that identify the protocol of a frame that contains no IP packet; the name of each member is the kind of the number
 abbrev pub network_number_members : NetworkProtocol → List Member
 network_number_members (EtherType number) = (codes "ether_type", whole_number number) ∷ []
 network_number_members (AddressFamily number) = (codes "address_family", whole_number number) ∷ []
@@ -232,12 +233,12 @@ network_number_members (PppProtocol number) = (codes "ppp_protocol", whole_numbe
 network_number_members (FrameRelay header) = (codes "frame_relay_header", whole_number header) ∷ []
 network_number_members (Nlpid number) = (codes "nlpid", whole_number number) ∷ []
 
--- the protocol of a frame without an IP packet: its numbers, and its name
+-- the protocol of a frame that contains no IP packet: its numbers, and its name if it has a name
 abbrev pub network_members : NetworkProtocol → List Member
 network_members protocol = network_number_members protocol ++ name_members (network_protocol_name protocol)
 
--- These are the members of the content of a packet. A packet that is not read has none. A packet whose IP headers are refused has only its
--- addresses.
+-- These are the members of the content of a packet. If the packet was not read, there are no members. If the IP headers of a packet are
+-- refused, the members are only its addresses.
 abbrev pub AreContentMembers : Content → List Member → Type 0
 AreContentMembers contents.Unread members = members ≡ []
 AreContentMembers (contents.IpHeader addresses) members = members ≡ address_members (by_value addresses)
@@ -256,7 +257,7 @@ hop_limit_members (Some (limits.Ipv6 limit)) = (codes "hop_limit", whole_number 
 
 -- ---- the verdict
 
--- the word for a kind of verdict, under a name
+-- a member with this name and the word for a kind of verdict
 abbrev pub word_member : List ℕ → VerdictKind → Member
 word_member name kind = (name, string (with_underscores (verdict_word kind)))
 
@@ -264,16 +265,16 @@ word_member name kind = (name, string (with_underscores (verdict_word kind)))
 abbrev pub refused_member : Refusal → Member
 refused_member refusal = (codes "refused", string (refusal_text refusal))
 
--- the members for a checksum that is not tested for this reason
+-- the members for a checksum that is not tested, with the reason
 abbrev pub not_tested_members : VerdictKind → List Member
 not_tested_members reason = (codes "checksum", string (codes "not_looked_at")) ∷ word_member (codes "reason") reason ∷ []
 
--- the members for a refused packet; without a refusal, the members for a checksum that is not tested for this reason
+-- The members for a packet with this refusal. Without a refusal, they are the members for a checksum that is not tested, with the reason.
 abbrev pub members_by : Option Refusal → VerdictKind → List Member
 members_by None reason = not_tested_members reason
 members_by (Some refusal) reason = refused_member refusal ∷ []
 
--- the members for a checksum that is not tested for this reason; a UDP packet without a length is refused
+-- the members for a checksum that is not tested, with the reason; a UDP packet with length field 0 is refused instead
 abbrev pub untested_members : Untested → List Member
 untested_members reason = members_by (refusal_if_untested reason) (untested_kind reason)
 
@@ -322,7 +323,7 @@ abbrev pub IsJsonLine : Times → ℕ → Option PacketTime → Option PacketTim
 IsJsonLine times number first time len packet line =
     (members : List Member) × ArePacketMembers times number first time len packet members × (line ≡ json_line members)
 
--- if two packets are equal, and their numbers, times and lengths too, their lines are equal
+-- any two lines of this packet, with this number, these times and this length, are equal
 abbrev pub HasOneJsonLine : Times → ℕ → Option PacketTime → Option PacketTime → Option FrameLen → Packet → Type 0
 HasOneJsonLine times number first time len packet = (line other : List ℕ)
     → IsJsonLine times number first time len packet line → IsJsonLine times number first time len packet other → line ≡ other

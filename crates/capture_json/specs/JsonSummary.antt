@@ -46,7 +46,7 @@ counts_data rows = object_of (map counts_member rows)
 
 -- ---- conversations
 
--- a flow: its protocol, its source and its destination; the protocol has the members that it has in the line of a packet
+-- a flow: its protocol, its source and its destination; the members of the protocol are the same as in the line of a packet
 abbrev pub flow_members : Flow → List Member
 flow_members flow =
     ip_protocol_members (flow_protocol_number flow.protocol) (Some (flow_proto flow.protocol))
@@ -54,7 +54,7 @@ flow_members flow =
     ∷ (codes "source_port", whole_number (socket_port flow.source)) ∷ (codes "destination", string (ip_text (socket_ip flow.destination)))
     ∷ (codes "destination_port", whole_number (socket_port flow.destination)) ∷ []
 
--- a conversation: the direction that was seen first, the count of its packets, and the count of each direction
+-- a conversation: its flow in the direction that was seen first, the count of all its packets, and the count of each direction
 abbrev pub conversation_members : ConversationCount → List Member
 conversation_members row =
     flow_members row.flow ++ (count_members (both row)
@@ -68,7 +68,7 @@ conversation_data row = object_of (conversation_members row)
 abbrev pub busiest_member : List ConversationCount → Member
 busiest_member busiest = (codes "busiest_conversations", array_of (map conversation_data busiest))
 
--- the counts of the packets that no conversation counts
+-- the counts of packets that belong to no row: packets without ports, and packets of conversations for which the table had no room
 abbrev pub uncounted_members : Count → Count → List Member
 uncounted_members without_ports without_room =
     (codes "packets_without_ports", object_of (count_members without_ports))
@@ -84,7 +84,8 @@ rates_members (Some rates) =
     (codes "packets_per_second", whole_number (min rates.packets (2 ^ 64 - 1)))
     ∷ (codes "bits_per_second", whole_number (min rates.bits (2 ^ 64 - 1))) ∷ []
 
--- the times of the earliest and of the latest packet and the time between them, as texts and as numbers, and the rates in this time
+-- the times of the earliest and of the latest packet and the time between them, as texts and as numbers, and the rates; no members if no
+-- time is known
 abbrev pub span_members : SummaryTables → Option TimeSpan → List Member
 span_members tables None = []
 span_members tables (Some span) =

@@ -8,7 +8,7 @@ use Rattle.capture_texts.specs.declared.file_texts.InterfaceTexts.{InterfaceText
 use Rattle.capture_texts.specs.declared.kept_text.KeptText.{KeptText}
 use Rattle.serde_json.specs.Data.{string}
 
--- a text under this name, if it is present
+-- a member with this name and this text, if the text is present
 abbrev pub kept_members : List ℕ → KeptText → List Member
 kept_members name text = if is_absent text then [] else (name, string (shown_kept text)) ∷ []
 
@@ -29,7 +29,7 @@ kept_interface_members texts =
     kept_members (codes "name") texts.name ++ (kept_members (codes "description") texts.description
     ++ kept_members (codes "comment") texts.comment)
 
--- the texts of an interface, if they are kept
+-- the texts of an interface, or no members if there are no texts
 abbrev pub interface_members : Option InterfaceTexts → List Member
 interface_members None = []
 interface_members (Some texts) = kept_interface_members texts

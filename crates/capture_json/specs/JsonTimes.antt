@@ -6,15 +6,15 @@ use Rattle.capture_file.specs.declared.packet_time.PacketTime.{PacketTime}
 use Rattle.capture_json.specs.Members.{Member, integer, whole_number}
 use Rattle.capture_words.specs.AbsoluteTime.{nanoseconds_since_1970}
 
--- the whole seconds from the beginning of 1970, UTC, to a time, rounded down, so that they are negative before 1970
+-- the whole seconds from the beginning of 1970, UTC, to a time, rounded down; they are negative before 1970
 abbrev pub seconds_since_1970 : PacketTime → ℤ
 seconds_since_1970 time = int_div_euclid (nanoseconds_since_1970 time) (pos nanoseconds_per_second)
 
--- the nanoseconds after these seconds, from 0 to 999,999,999
+-- the nanoseconds after the whole seconds of a time, from 0 to 999,999,999
 abbrev pub nanoseconds_of_second : PacketTime → ℕ
 nanoseconds_of_second time = unsigned_abs (int_rem_euclid (nanoseconds_since_1970 time) (pos nanoseconds_per_second))
 
--- the nearest number that a signed number of 64 bits can contain
+-- the number, limited to the range of a signed number of 64 bits
 abbrev pub nearest_long : ℤ → ℤ
 nearest_long number =
     if int_lt number (neg_ℤ (pos (2 ^ 63))) then neg_ℤ (pos (2 ^ 63))

@@ -1,4 +1,4 @@
--- JSON objects by their members, in their order.
+-- JSON objects that are built from their members, in order, and arrays.
 use Rattle.std.specs.Prelude.{ℕ, ℤ, pos, negsuc, List, [], ◌∷◌, map}
 use Rattle.serde_json.specs.Data.{Data, Members, array, member, negative, no_members, number, object, string, unsigned}
 use Rattle.serde_json.specs.View.{items_of}

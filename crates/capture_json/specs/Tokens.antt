@@ -58,15 +58,15 @@ array_ended before = before ++ token.end_array ∷ []
 
 -- ---- statements
 
--- members for which `Are` holds were written
+-- some members were written, and `Are` holds for these members
 abbrev pub PutsOne : (List Member → Type 0) → List Token → List Token → Type 0
 PutsOne Are before after = (members : List Member) × Are members × (after ≡ with_members members before)
 
--- a value for which `IsItem` holds was written as an item
+-- a value was written as an item, and `IsItem` holds for this value
 abbrev pub PushesItem : (Data → Type 0) → List Token → List Token → Type 0
 PushesItem IsItem before after = (value : Data) × IsItem value × (after ≡ push value before)
 
--- the objects of the options in these bytes were written as items, up to this fault
+-- the objects of the options in these bytes were written as items, up to the fault if there is a fault
 abbrev pub PushesOptions : List ℕ → Option TcpRawOptionError → List Token → List Token → Type 0
 PushesOptions bytes fault before after =
     (values : List Data) × AreOptionObjects bytes values fault × (after ≡ with_items values before)

@@ -1,14 +1,15 @@
 -- The words of tables as names in JSON.
 use Rattle.std.specs.Prelude.{ℕ, ◌==◌, if◌then◌else◌, List, map}
 
--- the codes of a space and of an underscore
+-- the code of a space
 abbrev pub space : ℕ
 space = 32
 
+-- the code of an underscore
 abbrev pub underscore : ℕ
 underscore = 95
 
--- a byte of a word, with an underscore instead of a space
+-- an underscore if the byte is a space, otherwise the byte
 abbrev pub underscore_if_space : ℕ → ℕ
 underscore_if_space byte = if byte == space then underscore else byte
 

@@ -77,7 +77,8 @@ fn put_resolution(line: &mut Line, room: &mut Vec<u8>, resolution: TimeResolutio
     put_written(line, "time_resolution", room.as_slice())
 }
 
-/// Writes the interfaces of a section, as an array of objects. `texts` are the texts of the first interfaces.
+/// Writes the interfaces of a section, as an array of objects. `texts` contains the texts of the first interfaces, and later interfaces may
+/// have no texts.
 fn put_interfaces(
     line: &mut Line,
     room: &mut Vec<u8>,
@@ -107,7 +108,7 @@ fn push_interfaces(
     Ok(())
 }
 
-/// Writes the interface with this number as an object, with its texts if they are kept.
+/// Writes the interface with this number as an object. The object includes the texts of the interface if `texts` contains them.
 fn push_interface(
     line: &mut Line,
     room: &mut Vec<u8>,

@@ -21,7 +21,7 @@ use std::io;
 use std::io::Write;
 use std::net::SocketAddr;
 
-/// Writes a row for each of these conversations, with commas between them. A row is in memory only until it is written.
+/// Writes a row for each of these conversations, with commas between the rows. A row is in memory only until it is written.
 pub fn write_rows<W: Write>(
     output: &mut W,
     alloc: Global,
@@ -76,7 +76,7 @@ fn push_row(line: &mut Line, room: &mut Vec<u8>, row: &ConversationCount) -> io:
     Ok(line.end_object()?)
 }
 
-/// Writes a conversation: the direction that was seen first, the count of its packets, and the count of each direction.
+/// Writes a conversation: its flow in the direction that was seen first, the count of all its packets, and the count of each direction.
 fn put_conversation(line: &mut Line, room: &mut Vec<u8>, row: &ConversationCount) -> io::Result<()>
     ensures { OnOk result (tokens_in line.new ≡ with_members (conversation_members row.now) (tokens_in line.old)) }
 {
@@ -118,7 +118,7 @@ fn put_socket(
     Ok(line.put_number(port_name, u64::from(socket.port()))?)
 }
 
-/// Writes the counts of the packets that no conversation counts.
+/// Writes the counts of packets that belong to no row: packets without ports, and packets of conversations for which the table had no room.
 pub fn put_uncounted(
     line: &mut Line,
     without_ports: Count,

@@ -100,7 +100,7 @@ fn put_icmpv6_fields(line: &mut Line, message: &Icmpv6Type) -> Result<(), AllocE
     }
 }
 
-/// Writes the identifier and the sequence number of a message.
+/// Writes an identifier and a sequence number.
 fn put_echo(line: &mut Line, identifier: u16, sequence: u16) -> Result<(), AllocError>
     ensures { OnOk result (tokens_in line.new ≡ with_members (echo_fields identifier sequence) (tokens_in line.old)) }
 {

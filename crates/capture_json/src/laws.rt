@@ -7,7 +7,7 @@ ghost use Rattle.capture_summary.specs.declared.capture_info.FrameLen.{FrameLen}
 ghost use Rattle.capture_json.specs.JsonPacket.{HasOneJsonLine};
 ghost use Rattle.capture_words.specs.declared.times.Times.{Times};
 
-/// If two packets are equal, and their numbers, times and lengths too, their lines of JSON are equal.
+/// Two lines of JSON for the same packet, with the same number, times and length, are equal.
 pub fn one_json_line()
     ensures { (times : Times) (number : ℕ) (first time : Option PacketTime) (len : Option FrameLen) (packet : Packet)
         → HasOneJsonLine times number first time len packet }

@@ -1,4 +1,4 @@
-//! The protocol of a frame without an IP packet.
+//! The protocol of a frame that contains no IP packet.
 
 ghost use Rattle.std.specs.Prelude.{◌≡◌, OnOk};
 ghost use Rattle.capture_json.specs.Tokens.{tokens_in, with_members};
@@ -10,7 +10,7 @@ use capture_packet::NetworkProtocol;
 use capture_summary::network_protocol_name;
 use std::alloc::AllocError;
 
-/// Writes the numbers that identify a protocol, and its name.
+/// Writes the numbers that identify a protocol, and its name if it has a name.
 pub fn put_network_protocol(line: &mut Line, protocol: NetworkProtocol) -> Result<(), AllocError>
     ensures { OnOk result (tokens_in line.new ≡ with_members (network_members protocol) (tokens_in line.old)) }
 {
@@ -18,7 +18,7 @@ pub fn put_network_protocol(line: &mut Line, protocol: NetworkProtocol) -> Resul
     put_name(line, network_protocol_name(protocol))
 }
 
-/// Writes the numbers that identify a protocol, under the names of their kinds.
+/// Writes the numbers that identify a protocol. The name of each member is the kind of the number, such as `ether_type`.
 fn put_network_number(line: &mut Line, protocol: NetworkProtocol) -> Result<(), AllocError>
     ensures { OnOk result (tokens_in line.new ≡ with_members (network_number_members protocol) (tokens_in line.old)) }
 {

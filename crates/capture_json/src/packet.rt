@@ -31,8 +31,8 @@ use udp_part::UdpSlice;
 /// The initial room of a text in bytes. Most texts fit into it.
 const TEXT_ROOM: usize = 64;
 
-/// Writes a packet as a JSON object of the type `packet`, on its own line. The object contains the number of the packet, its time, the
-/// length of its frame, its tunnels, its addresses, its content, its hop limit and its verdict.
+/// Writes a packet as a JSON object of the type `packet`, on its own line. The object contains the number and the time of the packet, and
+/// the length of its frame. It also contains its tunnels, addresses, content, hop limit and verdict.
 ///
 /// # Errors
 ///
@@ -77,7 +77,8 @@ fn put_packet(
     put_verdict(line, room, &packet.verdict)
 }
 
-/// Writes the time of a packet as numbers, and as the text that a line of text shows.
+/// Writes the time of a packet as a text and as numbers. The text is the time as the text format shows it. If the time is unknown, this
+/// writes `null`.
 fn put_time(
     line: &mut Line,
     room: &mut Vec<u8>,
@@ -159,7 +160,7 @@ fn put_transport(line: &mut Line, room: &mut Vec<u8>, transport: &Transport) -> 
     }
 }
 
-/// Writes a transport whose header is read.
+/// Writes a transport whose header was read.
 fn put_read(line: &mut Line, room: &mut Vec<u8>, transport: &TransportSlice) -> io::Result<()>
     ensures { OnOk result (PutsOne (AreReadMembers transport.now) (tokens_in line.old) (tokens_in line.new)) }
 {

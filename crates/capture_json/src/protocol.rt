@@ -11,7 +11,7 @@ use ip_part::Proto;
 use net_base::IpNumber;
 use std::alloc::AllocError;
 
-/// Writes the number of a protocol over IP, and its name.
+/// Writes the number of a protocol over IP, and its name if it has a name.
 pub fn put_ip_protocol(
     line: &mut Line,
     protocol: IpNumber,

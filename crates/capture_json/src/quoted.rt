@@ -13,7 +13,7 @@ use capture_packet::QuotedPacket;
 use std::alloc::AllocError;
 use std::io;
 
-/// Writes the packet that an ICMP error quotes, if there is one.
+/// Writes the packet that an ICMP error quotes. Writes nothing if no quoted packet could be read.
 pub fn put_quoted(
     line: &mut Line,
     room: &mut Vec<u8>,
@@ -31,7 +31,7 @@ pub fn put_quoted(
     }
 }
 
-/// Writes the addresses of a quoted packet, its protocol, and its ports.
+/// Writes the addresses of a quoted packet, its protocol, and its ports if the error quotes them.
 fn put_quoted_fields(
     line: &mut Line,
     room: &mut Vec<u8>,

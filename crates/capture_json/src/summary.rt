@@ -1,4 +1,4 @@
-//! The summary, which follows the last line of a packet.
+//! The summary, which follows the lines of the packets.
 
 ghost use Rattle.std.specs.Prelude.{◌≡◌, ◌∷◌, [], OnOk, codes, map};
 ghost use Rattle.std.specs.Io.KnownBytes.{Appends};
@@ -20,9 +20,9 @@ use std::alloc::Global;
 use std::io;
 use std::io::Write;
 
-/// Writes the summary as a JSON object of the type `summary`, on its own line. The object contains the facts of `capture` if it is not
-/// `None`, the numbers of packets, bytes and conversations, the times of the packets, and each table under its name. The conversations are
-/// written row by row, so that the memory does not grow with their number.
+/// Writes the summary as a JSON object of the type `summary`, on its own line. The object contains the facts of the capture, the numbers of
+/// packets, bytes and conversations, the times, and each table under its name. If `capture` is `None`, the facts are left out. The
+/// conversations are written row by row, so that the memory does not grow with their number.
 ///
 /// # Errors
 ///
@@ -43,7 +43,7 @@ pub fn write_summary<W: Write>(
 }
 
 /// Writes everything before the first conversation: the type, the facts of the capture, the totals, the tables, and the beginning of the
-/// array.
+/// array of conversations.
 fn write_tables<W: Write>(
     output: &mut W,
     alloc: Global,
@@ -65,7 +65,7 @@ fn write_tables<W: Write>(
     }
 }
 
-/// Writes everything after the last conversation: the end of the array, and the packets that no conversation counts.
+/// Writes everything after the last conversation: the end of the array, and the counts of packets that belong to no row.
 fn write_end<W: Write>(
     output: &mut W,
     alloc: Global,

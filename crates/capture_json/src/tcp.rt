@@ -25,7 +25,8 @@ pub fn put_tcp(line: &mut Line, room: &mut Vec<u8>, segment: &TcpSlice) -> io::R
     Ok(line.end_object()?)
 }
 
-/// Writes the fields of a header after its ports, except the checksum.
+/// Writes the flags, the sequence and acknowledgment numbers, the window and the options. If the flag URG is set, it also writes the urgent
+/// pointer.
 fn put_header(line: &mut Line, room: &mut Vec<u8>, segment: &TcpSlice) -> io::Result<()>
     ensures { OnOk result (PutsOne (AreTcpHeaderMembers segment.now) (tokens_in line.old) (tokens_in line.new)) }
 {
@@ -44,7 +45,7 @@ fn put_flags(line: &mut Line, segment: &TcpSlice) -> Result<(), AllocError>
     line.end_array()
 }
 
-/// Writes the names of the flags that are set as items, in their order.
+/// Writes an item with the name of each flag that is set, in the order of the flags.
 fn push_names_of_set(line: &mut Line, flags: &[(bool, &str)]) -> Result<(), AllocError>
     ensures { OnOk result (tokens_in line.new ≡ with_items (map string (names_of_set (λ flag. (flag.0, flag.1.now)) flags.now)) (tokens_in line.old)) }
 {

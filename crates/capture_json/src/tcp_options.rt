@@ -25,7 +25,7 @@ pub fn put_options(line: &mut Line, room: &mut Vec<u8>, segment: &TcpSlice) -> i
     put_fault(line, room, fault)
 }
 
-/// Writes each option as an object in an array, up to the end of the list or the first fault. Returns the fault, if there is one.
+/// Writes each option as an object in an array, up to the end of the list or the first fault. Returns the fault, if there is a fault.
 fn push_options(
     line: &mut Line,
     room: &mut Vec<u8>,
@@ -45,12 +45,12 @@ fn push_options(
     if rest.is_empty() {
         return Ok(None);
     }
-    // The list does not end with the bytes, so an option of kind 0 ends it.
+    // Bytes are left after the last option that was read, so an option of kind 0 ends the list.
     push_kind(line, tcp_option::KIND_END)?;
     Ok(None)
 }
 
-/// Writes a kind without fields as an item.
+/// Writes an option of this kind without fields as an item.
 fn push_kind(line: &mut Line, kind: u8) -> Result<(), AllocError>
     ensures { OnOk result (tokens_in line.new ≡ push (kind_object kind) (tokens_in line.old)) }
 {
@@ -122,7 +122,7 @@ fn push_other_blocks(line: &mut Line, blocks: &[Option<(u32, u32)>]) -> Result<(
     Ok(())
 }
 
-/// Writes a block as an item, if there is one.
+/// Writes a block as an item. Writes nothing for `None`.
 fn push_other_block(line: &mut Line, block: &Option<(u32, u32)>) -> Result<(), AllocError>
     ensures { OnOk result (tokens_in line.new ≡ with_items (other_block block.now) (tokens_in line.old)) }
 {
@@ -143,7 +143,7 @@ fn push_block(line: &mut Line, block: (u32, u32)) -> Result<(), AllocError>
     line.end_object()
 }
 
-/// Writes the bytes of the value of an option as hex digits.
+/// Writes the value of an option as hex digits.
 fn put_data(line: &mut Line, room: &mut Vec<u8>, option: &TcpRawOption) -> io::Result<()>
     ensures { OnOk result (tokens_in line.new ≡ with_members (data_fields option.now) (tokens_in line.old)) }
 {
@@ -162,7 +162,7 @@ fn fill_with_hex(room: &mut Vec<u8>, bytes: &[u8]) -> io::Result<()>
     Ok(())
 }
 
-/// Writes the reason why the next option can't be read, if there is one.
+/// Writes the reason why an option can't be read, if there is a fault.
 fn put_fault(
     line: &mut Line,
     room: &mut Vec<u8>,

@@ -47,8 +47,8 @@ pub fn put_written(line: &mut Line, name: &str, text: &[u8]) -> io::Result<()>
     Ok(line.put_text(name, as_text(text)?)?)
 }
 
-/// Returns these bytes as a text. The bytes are UTF-8, since they come from `write!` or are a word with underscores. So the call never
-/// fails.
+/// Returns these bytes as a text. It fails only if the bytes are not UTF-8. Each caller passes bytes that come from `write!`, or a word
+/// with underscores, so they are UTF-8.
 pub fn as_text(bytes: &[u8]) -> io::Result<&str>
     ensures { IfOk result (λ text. text.now ≡ bytes.now) }
 {

@@ -11,7 +11,7 @@ use capture_texts::{FileTexts, InterfaceTexts, KeptText};
 use std::alloc::AllocError;
 use std::io;
 
-/// Writes the texts of a section and the number of packets with a comment, which `capture_facts::write_facts` writes too.
+/// Writes the texts of a section and the number of packets with a comment. `capture_facts::write_facts` writes the same facts.
 pub fn put_texts(line: &mut Line, room: &mut Vec<u8>, texts: &FileTexts) -> io::Result<()>
     ensures { OnOk result (tokens_in line.new ≡ with_members (texts_members texts.now) (tokens_in line.old)) }
 {
@@ -22,7 +22,7 @@ pub fn put_texts(line: &mut Line, room: &mut Vec<u8>, texts: &FileTexts) -> io::
     Ok(put_commented(line, texts.commented_packets)?)
 }
 
-/// Writes the texts of the interface with this number, if they are kept.
+/// Writes the texts of the interface with this number, if `texts` contains them.
 pub fn put_interface_texts(
     line: &mut Line,
     room: &mut Vec<u8>,
@@ -46,7 +46,7 @@ fn put_kept_texts(line: &mut Line, room: &mut Vec<u8>, texts: &InterfaceTexts) -
     put_kept(line, room, "comment", &texts.comment)
 }
 
-/// Writes a text under this name, if there is one.
+/// Writes a member with this name and this text, unless the text is empty.
 fn put_kept(line: &mut Line, room: &mut Vec<u8>, name: &str, text: &KeptText) -> io::Result<()>
     ensures { OnOk result (tokens_in line.new ≡ with_members (kept_members name.now text.now) (tokens_in line.old)) }
 {

@@ -39,7 +39,7 @@ fn seconds_and_nanoseconds(time: PacketTime) -> (i128, u64)
     (seconds, nanoseconds as u64)
 }
 
-/// Returns the nearest number that a signed number of 64 bits can contain.
+/// Returns the number, limited to the range of a signed number of 64 bits.
 fn nearest_long(number: i128) -> i64
     ensures { result ≡ specs.nearest_long number }
 {

@@ -19,7 +19,7 @@ use std::alloc::AllocError;
 use std::io;
 
 /// Writes the numbers of packets, bytes and conversations, and the average number of bytes of a packet. If a time is known, it also writes
-/// the times of the packets. It writes the rates per second unless the earliest and the latest time are equal.
+/// the times of the packets. If the earliest and the latest time differ, it also writes the rates per second.
 pub fn put_totals(line: &mut Line, room: &mut Vec<u8>, summary: &Summary) -> io::Result<()>
     ensures { OnOk result (tokens_in line.new ≡ with_members (totals_members summary.now) (tokens_in line.old)) }
 {
@@ -40,7 +40,8 @@ fn put_average(line: &mut Line, average: Option<u64>) -> Result<(), AllocError>
     }
 }
 
-/// Writes the times of the earliest and of the latest packet and the time between them, as texts and as numbers, and the rates.
+/// Writes the times of the earliest and of the latest packet and the time between them, as texts and as numbers. Then writes the rates.
+/// Writes nothing if no time is known.
 fn put_times(
     line: &mut Line,
     room: &mut Vec<u8>,
@@ -84,7 +85,7 @@ fn put_rates(line: &mut Line, rates: Option<Rates>) -> Result<(), AllocError>
     }
 }
 
-/// Returns the nearest number that an unsigned number of 64 bits can contain.
+/// Returns the number, limited to the greatest unsigned number of 64 bits.
 fn number_of(number: u128) -> u64
     ensures { result ≡ min number (2 ^ 64 - 1) }
 {

@@ -32,7 +32,7 @@ fn push_tunnels(line: &mut Line, room: &mut Vec<u8>, tunnels: &[Tunnel<'_>]) -> 
     Ok(())
 }
 
-/// Writes the addresses of the outer packet of a tunnel, and its protocol, as an object.
+/// Writes an object with the addresses and the protocol of the outer packet of a tunnel.
 fn push_tunnel(line: &mut Line, room: &mut Vec<u8>, tunnel: &Tunnel<'_>) -> io::Result<()>
     ensures { OnOk result (tokens_in line.new ≡ push (tunnel_data tunnel.now) (tokens_in line.old)) }
 {

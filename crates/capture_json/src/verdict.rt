@@ -44,7 +44,7 @@ fn put_checksum(line: &mut Line, room: &mut Vec<u8>, verdict: ChecksumVerdict) -
     }
 }
 
-/// Writes the reason why a checksum is not tested. A UDP packet without a length is refused.
+/// Writes that a checksum is not tested, and the reason. For a UDP packet with length field 0, it writes a refusal instead.
 fn put_untested(line: &mut Line, room: &mut Vec<u8>, reason: Untested) -> io::Result<()>
     ensures { OnOk result (tokens_in line.new ≡ with_members (untested_members reason) (tokens_in line.old)) }
 {
@@ -62,7 +62,7 @@ fn put_not_tested(line: &mut Line, room: &mut Vec<u8>, reason: VerdictKind) -> i
     put_word(line, room, "reason", reason)
 }
 
-/// Writes the word for a kind of verdict.
+/// Writes a member with this name and the word for a kind of verdict.
 fn put_word(line: &mut Line, room: &mut Vec<u8>, name: &str, kind: VerdictKind) -> io::Result<()>
     ensures { OnOk result (tokens_in line.new ≡ put (word_member name.now kind).0 (word_member name.now kind).1 (tokens_in line.old)) }
 {
@@ -79,7 +79,7 @@ fn put_refusal(line: &mut Line, room: &mut Vec<u8>, refusal: &Refusal) -> io::Re
     put_written(line, "refused", room.as_slice())
 }
 
-/// Writes the reason why a UDP packet without a length is refused.
+/// Writes the reason why a UDP packet with length field 0 is refused.
 fn put_zero_length(line: &mut Line, room: &mut Vec<u8>) -> io::Result<()>
     ensures { OnOk result (tokens_in line.new ≡ put (codes "refused") (refused_member zero_length).1 (tokens_in line.old)) }
 {

@@ -12,7 +12,7 @@ use Rattle.capture_link.specs.declared.link.header.FirstHeader.TheVariants.{Ethe
 abbrev pub cisco_hdlc : EtherHeader
 cisco_hdlc = record { len = 4; ether_type_at = 2 }
 
--- a LINKTYPE_PPP_HDLC frame that begins with an address of Cisco HDLC: 0F for one station, or 8F for all stations
+-- the LINKTYPE_PPP_HDLC frame begins with an address of Cisco HDLC: 0F for one station, or 8F for all stations
 abbrev pub is_cisco_hdlc : List ℕ → Bool
 is_cisco_hdlc frame = nat_le 1 (length frame) && (slice_index frame 0 == 0x0F || slice_index frame 0 == 0x8F)
 
@@ -21,11 +21,12 @@ is_cisco_hdlc frame = nat_le 1 (length frame) && (slice_index frame 0 == 0x0F ||
 abbrev pub slarp : ℕ
 slarp = 0x8035
 
--- the protocol number of CDP, the Cisco Discovery Protocol; it has the same number in a SNAP header with Cisco's organization code, 00000C
+-- the protocol number of CDP, the Cisco Discovery Protocol; CDP has this number also in a SNAP header with Cisco's organization code,
+-- 00000C
 abbrev pub cdp : ℕ
 cdp = 0x2000
 
--- this number is the number of a protocol, but not an ether type
+-- this protocol number is not an ether type, since it is the number of SLARP or CDP
 abbrev pub is_cisco_protocol : ℕ → Bool
 is_cisco_protocol number = number == slarp || number == cdp
 
@@ -33,7 +34,8 @@ is_cisco_protocol number = number == slarp || number == cdp
 abbrev pub link_type_number : ℕ
 link_type_number = 104
 
--- The header with this protocol number. SLARP and CDP are not read. For them the next protocol is the number of the link type.
+-- The header with this protocol number. SLARP and CDP are not read, so the next protocol is the number of LINKTYPE_C_HDLC. Any other number
+-- is an ether type.
 abbrev pub by_cisco_number : ℕ → FirstHeader
 by_cisco_number number =
     if is_cisco_protocol number then unread cisco_hdlc.len link_type_number else EtherType cisco_hdlc

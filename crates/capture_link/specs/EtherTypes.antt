@@ -33,7 +33,7 @@ other_old_service_tag = 0x9200
 abbrev pub mpls : ℕ
 mpls = 0x8847
 
--- the ether type of a stack of MPLS labels of a multicast packet (RFC 5332, section 3)
+-- the ether type of a stack of MPLS labels before a multicast packet (RFC 5332, section 3)
 abbrev pub mpls_multicast : ℕ
 mpls_multicast = 0x8848
 

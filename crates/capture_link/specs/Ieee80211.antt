@@ -34,16 +34,16 @@ has_fourth_address frame place = bit_and (slice_index frame (place + 1)) 0x03 ==
 abbrev pub len_if : Bool → ℕ → ℕ
 len_if is_there len = if is_there then len else 0
 
--- the place of the QoS Control field: after 24 bytes and the fourth address, if it is present
+-- the place of the QoS Control field: after 24 bytes, and after the fourth address if this address is present
 abbrev pub qos_at : List ℕ → ℕ → ℕ
 qos_at frame place = place + 24 + len_if (has_fourth_address frame place) 6
 
--- the start of the body: after the QoS Control field and the HT Control field, if they are present
+-- the start of the body; the QoS Control field and the HT Control field precede the body if they are present
 abbrev pub body_at : List ℕ → ℕ → ℕ
 body_at frame place = qos_at frame place + len_if (has_qos_control frame place) 2 + len_if (has_ht_control frame place) 4
 
--- The body is one whole data unit. The fragment number, in the low bits of byte 22, is 0. The bit A-MSDU Present of the QoS Control field,
--- which means that there are several data units, is 0.
+-- The body is one whole data unit. The fragment number, in the low bits of byte 22, is 0. If there is a QoS Control field, its bit A-MSDU
+-- Present, which marks several data units, is 0.
 abbrev pub has_whole_unit : List ℕ → ℕ → Bool
 has_whole_unit frame place =
     bit_and (slice_index frame (place + 22)) 0x0F == 0
@@ -51,16 +51,16 @@ has_whole_unit frame place =
 
 -- ---- the header of a frame
 
--- the header of a frame with a body that is not read
+-- the header of a frame whose body is not read
 abbrev pub other_frame : List ℕ → ℕ → FirstHeader
 other_frame frame place = Whole (record { len = place + 2; next = Some (Ieee80211 (be_number frame place 2)); end = None })
 
--- the header of a data frame; if the body is one whole data unit, an LLC header follows
+-- the header of a data frame; if the body is one whole data unit, an LLC header follows, otherwise the body is not read
 abbrev pub data_frame : List ℕ → ℕ → Result FirstHeader LinkHeaderCutOff
 data_frame frame place = with_bytes frame (body_at frame place) (
     if has_whole_unit frame place then llc_at frame (body_at frame place) else Ok (other_frame frame place))
 
--- the header of the frame at this place: a data frame, or a frame with a body that is not read
+-- the header of the frame at this place, which is a data frame, or a frame whose body is not read
 abbrev pub frame_at : List ℕ → ℕ → Result FirstHeader LinkHeaderCutOff
 frame_at frame place = with_bytes frame (place + 2) (
     if carries_data frame place then data_frame frame place else Ok (other_frame frame place))
@@ -68,7 +68,8 @@ frame_at frame place = with_bytes frame (place + 2) (
 -- ---- a radiotap header (LINKTYPE_IEEE802_11_RADIOTAP)
 
 -- A radiotap header begins with eight bytes: a version, an unused byte, a little-endian length of two bytes, and four bytes of bits for the
--- fields that are present. If the version is 0 and the length is at least 8, the frame follows the header.
+-- fields that are present. If the version is 0 and the length is at least 8, the IEEE 802.11 frame follows. Otherwise the header is not
+-- read.
 abbrev pub by_radiotap : List ℕ → ℕ → ℕ → Result FirstHeader LinkHeaderCutOff
 by_radiotap frame version len =
     if version == 0 && nat_le 8 len then frame_at frame len

@@ -67,22 +67,23 @@ is_ip ether_type = ether_type == ipv4_ether_type || ether_type == ipv6_ether_typ
 abbrev pub by_ether_type : ℕ → Option NetworkProtocol
 by_ether_type ether_type = if is_ip ether_type then None else Some (UnknownEtherType ether_type)
 
--- The header that ends after an ether type. If a PPPoE header or a stack of MPLS labels follows the ether type, the header ends after it.
+-- The link header whose last ether type ends at `place`. A PPPoE header or a stack of MPLS labels after this ether type belongs to the link
+-- header.
 abbrev pub after_ether_type : List ℕ → ℕ → ℕ → Result LinkHeader LinkHeaderCutOff
 after_ether_type frame place ether_type =
     if ether_type == pppoe_session then session_at frame place
     else if ether_type == mpls || ether_type == mpls_multicast then stack_at frame (UnknownEtherType ether_type) place
     else Ok (record { len = place; next = by_ether_type ether_type; end = None })
 
--- The header that ends with an LLC header. If a SNAP header with an ether type follows, the header ends as `after_ether_type` states for
--- that ether type.
+-- The link header that ends with an LLC header, or with the header after it. If this is a SNAP header with an ether type,
+-- `after_ether_type` states where the link header ends.
 abbrev pub after_llc : List ℕ → Result FirstHeader LinkHeaderCutOff → Result LinkHeader LinkHeaderCutOff
 after_llc frame (Ok (Whole header)) = Ok header
 after_llc frame (Ok (EtherType header)) = after_ether_type frame header.len (be_number frame header.ether_type_at 2)
 after_llc frame (Err error) = Err error
 
--- The header that ends after a header, its tags, and what follows them. The last ether type ends at this place. After a tag, a number below
--- the least ether type is a length, and an LLC header follows (IEEE 802.3, clause 3.2.6).
+-- The link header that consists of `header`, its tags, and the headers after them. The last ether type ends at `place`. After a tag, a
+-- number below the least ether type is a length, and an LLC header follows (IEEE 802.3, clause 3.2.6).
 abbrev pub after_tags : EtherHeader → List ℕ → ℕ → ℕ → Result LinkHeader LinkHeaderCutOff
 after_tags header frame place ether_type =
     if nat_lt header.len place && nat_lt ether_type least_ether_type then after_llc frame (llc_at frame place)
@@ -94,8 +95,9 @@ pub record HasTags (header : EtherHeader) (frame : List ℕ) (tags : ℕ) : Type
   pub last : is_vlan_tag (ether_type_after header frame tags) ≡ false
   pub there : tagged_len header tags ≤ length frame
 
--- The frame has a whole link header with an ether type. `len` is its length, including the tags and the header after them. `next` is the
--- protocol after it. `end` is the end of what follows, if the header states this end.
+-- The frame has a whole link header with an ether type. `len` is the length of the link header, including the tags and the header after
+-- them. `next` is the protocol after the link header. `end` is the end of the bytes after the link header, if the link header states this
+-- end.
 pub record HasEtherHeader (header : EtherHeader) (frame : List ℕ) (len : ℕ) (next : Option NetworkProtocol) (end : Option ℕ) : Type 0 where
   pub tags : ℕ
   pub has : HasTags header frame tags
@@ -123,8 +125,8 @@ pub record NeedsAfterTags (header : EtherHeader) (frame : List ℕ) (required_le
   pub says : after_tags header frame (tagged_len header tags) (ether_type_after header frame tags) ≡ Err error
   pub is_required_len : required_len ≡ error.required_len
 
--- The frame ends within a header with an ether type, within a tag, or within the header after the last ether type. `required_len` is the
--- least number of bytes that it needs.
+-- The frame ends within a header with an ether type, within a tag, or within the header after the last ether type. This header or tag needs
+-- at least `required_len` bytes of the frame.
 abbrev pub NeedsEtherHeader : EtherHeader → List ℕ → ℕ → Type 0
 NeedsEtherHeader header frame required_len =
     ((length frame < header.len) × (required_len ≡ header.len))
@@ -132,7 +134,7 @@ NeedsEtherHeader header frame required_len =
 
 -- ---- all link types
 
--- the first header of a frame that begins with this whole header
+-- this whole link header as the first header of a frame; an error is returned unchanged
 abbrev pub whole : Result LinkHeader LinkHeaderCutOff → Result FirstHeader LinkHeaderCutOff
 whole (Ok header) = Ok (Whole header)
 whole (Err error) = Err error
@@ -161,8 +163,9 @@ first_header InfiniBand order frame = Ok (EtherType infiniband)
 first_header Pktap order frame = after_tap frame
 first_header LinuxCooked2 order frame = cooked_header linux_cooked_2 device_type_at_2 frame
 
--- A frame with this first header has a whole link header. `len` is the length of the link header. `next` is the protocol after it, where
--- `None` is IP. `end` is the end of what follows, if the header states this end. Otherwise what follows ends with the frame.
+-- A frame with this first header has a whole link header. `len` is the length of the link header. `next` is the protocol after the link
+-- header, where `None` is IP. `end` is the end of the bytes after the link header, if the link header states this end. Otherwise these
+-- bytes end with the frame.
 abbrev pub HasWhole : List ℕ → ℕ → Option NetworkProtocol → Option ℕ → Result FirstHeader LinkHeaderCutOff → Type 0
 HasWhole frame len next end (Ok (Whole header)) = (len ≡ header.len) × (next ≡ header.next) × (end ≡ header.end)
 HasWhole frame len next end (Ok (EtherType header)) = HasEtherHeader header frame len next end
@@ -191,8 +194,8 @@ pub record AreBytesAfter (frame : List ℕ) (len : ℕ) (end : Option ℕ) (foun
   pub within : end_in frame end ≤ length frame
   pub bytes : found.bytes.now ≡ slice_range frame len (end_in frame end)
 
--- The content of a frame after a header of this length. `None` means that an IP packet follows, in the bytes after the header. Otherwise
--- another protocol follows.
+-- The content of a frame after a header of this length. If the next protocol is `None`, the bytes after the header contain an IP packet.
+-- Otherwise another protocol follows.
 abbrev pub IsCutAfter : List ℕ → ℕ → Option NetworkProtocol → Option ℕ → Frame → Type 0
 IsCutAfter frame len None end (Ip found) = AreBytesAfter frame len end found
 IsCutAfter frame len (Some protocol) end (Other other) = other ≡ protocol

@@ -10,7 +10,7 @@ use Rattle.capture_link.specs.declared.network_protocol.NetworkProtocol.TheVaria
 abbrev pub cut_off : List ℕ → ℕ → LinkHeaderCutOff
 cut_off frame required_len = record { required_len = required_len; len = length frame }
 
--- this result, or the error if the frame has fewer bytes than this number
+-- this result if the frame has at least `required_len` bytes, otherwise the error that the frame is too short
 abbrev pub with_bytes : {A : Type 0} → List ℕ → ℕ → Result A LinkHeaderCutOff → Result A LinkHeaderCutOff
 with_bytes frame required_len says = if nat_lt (length frame) required_len then Err (cut_off frame required_len) else says
 
@@ -19,18 +19,18 @@ abbrev pub end_in : List ℕ → Option ℕ → ℕ
 end_in frame None = length frame
 end_in frame (Some end) = end
 
--- the frame contains the whole header, and all bytes after it up to their end
+-- the frame contains the whole header, and all bytes after the header up to the end that `end_in` returns
 abbrev pub IsHeaderWithin : List ℕ → LinkHeader → Type 0
 IsHeaderWithin frame header = (header.len ≤ end_in frame header.end) × (end_in frame header.end ≤ length frame)
 
--- The frame contains a whole header. If the header contains an ether type, this ether type is within the header, but the frame may be
--- shorter than the header.
+-- A header that is `Whole` is within the frame. In a header with an ether type, the ether type is within the header, but the frame may be
+-- shorter than this header.
 abbrev pub Fits : List ℕ → FirstHeader → Type 0
 Fits frame (Whole header) = IsHeaderWithin frame header
 Fits frame (EtherType header) = header.ether_type_at + 2 ≤ header.len
 
--- The header for an unknown version or a wrong length, after which the next protocol can't be found. The next protocol is the number of the
--- link type. The length is the number of bytes that were examined.
+-- A link header that is not read, so that the protocol after it is unknown. The number of a link type stands for this protocol. `len` is
+-- the number of bytes that were examined.
 abbrev pub unread : ℕ → ℕ → FirstHeader
 unread len number = Whole (record { len = len; next = Some (LinkType number); end = None })
 
@@ -39,6 +39,6 @@ abbrev pub first_len : FirstHeader → ℕ
 first_len (Whole header) = header.len
 first_len (EtherType header) = header.len
 
--- The greatest place at which an inner frame can begin. The header before it states its own length in a field of at most 32 bits.
+-- The greatest place at which an inner frame can begin. The header before the frame states its own length in a field of at most 32 bits.
 abbrev pub max_frame_place : ℕ
 max_frame_place = 2 ^ 32

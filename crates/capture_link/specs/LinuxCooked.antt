@@ -32,12 +32,12 @@ netlink_device = 824
 abbrev pub netlink_number : ℕ
 netlink_number = 253
 
--- the protocol of a frame with an LLC header
+-- the protocol number of a frame in which an LLC header follows
 abbrev pub cooked_llc : ℕ
 cooked_llc = 0x0004
 
--- The header with this protocol, from a device of this type. A protocol of a netlink device is not read, so the next protocol is the number
--- of LINKTYPE_NETLINK. From another device an LLC header follows, or the protocol is an ether type.
+-- The header with this protocol, from a device of this type. The protocol of a netlink device is not read, so the next protocol is the
+-- number of LINKTYPE_NETLINK. For any other device, an LLC header follows, or the protocol is an ether type.
 abbrev pub by_device : EtherHeader → List ℕ → ℕ → ℕ → Result FirstHeader LinkHeaderCutOff
 by_device header frame device_type protocol =
     if device_type == netlink_device then Ok (unread header.len netlink_number)

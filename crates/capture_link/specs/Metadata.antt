@@ -1,5 +1,5 @@
 -- Headers with metadata. A system writes such a header before each packet or frame that it captures. The registry of link types of
--- tcpdump.org describes them.
+-- tcpdump.org describes these headers.
 use Rattle.std.specs.Prelude.{ℕ, ◌+◌, ◌*◌, ◌/◌, ◌==◌, ◌||◌, ◌&&◌, Bool, nat_le, nat_lt, if◌then◌else◌, List, slice_index, Option, Some, None, Result, Ok}
 use Rattle.net_base.specs.Bytes.{be_number}
 use Rattle.capture_texts.specs.LinkTypes.{avs_number, link_type_with, pflog_number, pktap_number, ppi_number, prism_number}
@@ -19,7 +19,8 @@ use Rattle.capture_link.specs.declared.network_protocol.NetworkProtocol.TheVaria
 
 -- ---- a packet after its address family
 
--- the next protocol according to an address family: `None`, which is IP, if `is_ip` is true, otherwise the number of the family
+-- The next protocol according to an address family. If `is_ip` is true, this is `None`, which means IP. Otherwise it is the number of the
+-- family.
 abbrev pub family_protocol : ℕ → Bool → Option NetworkProtocol
 family_protocol family is_ip = if is_ip then None else Some (AddressFamily family)
 
@@ -31,7 +32,7 @@ with_family len family is_ip = Whole (record { len = len; next = family_protocol
 abbrev pub padded : ℕ → ℕ
 padded len = (len + 3) / 4 * 4
 
--- the length of the first fields of a LINKTYPE_PFLOG header: its length and the address family, in one byte each
+-- the length of the first fields of a LINKTYPE_PFLOG header: the length of the header and the address family, in one byte each
 abbrev pub filter_fields_len : ℕ
 filter_fields_len = 2
 
@@ -39,8 +40,8 @@ filter_fields_len = 2
 abbrev pub least_filter_len : ℕ
 least_filter_len = 45
 
--- The header with this number in its length field. The field does not count the padding after the other fields. If it is below the least
--- length, the header is not read.
+-- The header with this number in its length field. The number does not include the padding after the other fields. If the number is below
+-- the least length, the header is not read.
 abbrev pub by_filter_len : List ℕ → ℕ → Result FirstHeader LinkHeaderCutOff
 by_filter_len frame len =
     if nat_lt len least_filter_len then Ok (unread filter_fields_len pflog_number)
@@ -89,13 +90,13 @@ is_avs magic = magic == avs_1 || magic == avs_2
 abbrev pub avs_fields_len : ℕ
 avs_fields_len = 8
 
--- The frame after a header of AVS. `number` is the number of the link type, and `len` is the stated length of the header, which is at least
--- the length of its first fields.
+-- The frame after a header of AVS. `number` is the number of the link type, and `len` is the stated length of the header. If `len` is below
+-- the length of the first fields, the header is not read.
 abbrev pub by_avs_len : List ℕ → ℕ → ℕ → Result FirstHeader LinkHeaderCutOff
 by_avs_len frame number len = if nat_le avs_fields_len len then frame_at frame len else Ok (unread avs_fields_len number)
 
--- LINKTYPE_IEEE802_11_AVS. A header of AVS begins with a number of four bytes, which identifies it and its version. Its length follows in
--- four bytes, and then more fields. The number is not checked, since every version has the length at the same place.
+-- LINKTYPE_IEEE802_11_AVS. A header of AVS begins with a number of four bytes, which identifies the header and its version. The length of
+-- the header follows in four bytes, and then more fields. The number is not checked, since every version has the length at the same place.
 abbrev pub after_avs : List ℕ → Result FirstHeader LinkHeaderCutOff
 after_avs frame = with_bytes frame avs_fields_len (by_avs_len frame avs_number (be_number frame 4 4))
 
@@ -104,8 +105,8 @@ after_avs frame = with_bytes frame avs_fields_len (by_avs_len frame avs_number (
 abbrev pub prism_len : ℕ
 prism_len = 144
 
--- LINKTYPE_IEEE802_11_PRISM. The frame begins with a Prism header, or with a header of AVS if its first number is the number of AVS version
--- 1 or 2.
+-- LINKTYPE_IEEE802_11_PRISM. If the first four bytes are the number of AVS version 1 or 2, the frame begins with a header of AVS. Otherwise
+-- it begins with a Prism header.
 abbrev pub after_prism : List ℕ → Result FirstHeader LinkHeaderCutOff
 after_prism frame = with_bytes frame avs_fields_len (
     if is_avs (be_number frame 0 4) then by_avs_len frame prism_number (be_number frame 4 4) else frame_at frame prism_len)
@@ -129,15 +130,15 @@ enclosed_at frame place number = with_bytes frame place (enclosed_in frame place
 abbrev pub ppi_fields_len : ℕ
 ppi_fields_len = 8
 
--- The frame after a LINKTYPE_PPI header with this version and length. It is read only if the version is 0 and the length is at least the
--- length of the first fields.
+-- The frame after a LINKTYPE_PPI header with this version and length. The frame is read only if the version is 0 and the length is at least
+-- the length of the first fields.
 abbrev pub by_ppi : List ℕ → ℕ → ℕ → Result FirstHeader LinkHeaderCutOff
 by_ppi frame version len =
     if version == 0 && nat_le ppi_fields_len len then enclosed_at frame len (short_at LittleEndian frame 4)
     else Ok (unread ppi_fields_len ppi_number)
 
 -- LINKTYPE_PPI, Per-Packet Information. The header begins with a version and flags in one byte each, its length in two bytes, and a link
--- type in four bytes. The numbers are little-endian. Only 16 bits of the link type are its number.
+-- type in four bytes. The numbers are little-endian. Only the low 16 bits of the link type are its number.
 abbrev pub after_ppi : List ℕ → Result FirstHeader LinkHeaderCutOff
 after_ppi frame = with_bytes frame ppi_fields_len (by_ppi frame (slice_index frame 0) (short_at LittleEndian frame 2))
 
@@ -149,14 +150,14 @@ tap_fields_len = 12
 abbrev pub packet_record : ℕ
 packet_record = 1
 
--- The frame after a LINKTYPE_PKTAP header with this length and this type of record. It is read only if the record is a packet and the
--- length is at least the length of the first fields.
+-- The frame after a LINKTYPE_PKTAP header with this length and this type of record. The frame is read only if the record is a packet and
+-- the length is at least the length of the first fields.
 abbrev pub by_tap : List ℕ → ℕ → ℕ → Result FirstHeader LinkHeaderCutOff
 by_tap frame len record_type =
     if nat_le tap_fields_len len && record_type == packet_record then enclosed_at frame len (short_at LittleEndian frame 8)
     else Ok (unread tap_fields_len pktap_number)
 
 -- LINKTYPE_PKTAP, of the packet tap of Apple. The header begins with its length, a type of record, and a link type, in four bytes each.
--- More fields follow. The numbers are little-endian. Only 16 bits of the link type are its number.
+-- More fields follow. The numbers are little-endian. Only the low 16 bits of the link type are its number.
 abbrev pub after_tap : List ℕ → Result FirstHeader LinkHeaderCutOff
 after_tap frame = with_bytes frame tap_fields_len (by_tap frame (number_at LittleEndian frame 0) (number_at LittleEndian frame 4))

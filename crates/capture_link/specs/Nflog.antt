@@ -45,18 +45,19 @@ abbrev pub unread_log : ℕ → FirstHeader
 unread_log place = unread place nflog_number
 
 -- The byte order of the attributes, which is the byte order of the machine that logged the packet. Bytes 6 and 7 are the type of the first
--- attribute, which is above 0 and below 256. So one of these bytes is 0, and it is the most significant byte.
+-- attribute, which is above 0 and below 256. So one of these bytes is 0, and this byte is the most significant one. `None` if both bytes
+-- are 0 or neither is.
 abbrev pub attribute_order : List ℕ → Option ByteOrder
 attribute_order frame =
     if slice_index frame 6 == 0 then (if slice_index frame 7 == 0 then None else Some BigEndian)
     else (if slice_index frame 7 == 0 then Some LittleEndian else None)
 
--- the end of a packet; `None` if the frame ends before, so that the packet ends with the frame
+-- the end of a packet; `None` if the frame is shorter, so that the packet ends with the frame
 abbrev pub end_within : List ℕ → ℕ → Option ℕ
 end_within frame end = if nat_le end (length frame) then Some end else None
 
--- The header up to the packet. The attribute at this place, with this length, contains the packet after its first fields. Byte 0 is the
--- address family.
+-- The header from the start of the frame to the packet. The attribute at `place` contains the packet, after its length and its type. `len`
+-- is the length of this attribute. Byte 0 of the frame is the address family.
 abbrev pub payload_at : List ℕ → ℕ → ℕ → FirstHeader
 payload_at frame place len = Whole (record {
   len = place + attribute_fields_len;
@@ -64,15 +65,15 @@ payload_at frame place len = Whole (record {
   end = end_within frame (place + len);
 })
 
--- The result of reading the attribute at this place, which consists of its fields and a value. Its length counts the fields and the value,
--- but not the padding to a multiple of four. If the length is below the length of the fields, the header is not read.
+-- The result of reading the attribute at this place. An attribute consists of its length, its type and a value. The length counts these
+-- three parts, but not the padding to a multiple of four. If the length is below 4, the header is not read.
 abbrev pub attribute_at : ByteOrder → List ℕ → ℕ → Result Attribute LinkHeaderCutOff
 attribute_at order frame place = with_bytes frame (place + attribute_fields_len) (
     if nat_lt (short_at order frame place) attribute_fields_len then Ok (Last (unread_log (place + attribute_fields_len)))
     else if short_at order frame (place + 2) == payload_type then Ok (Last (payload_at frame place (short_at order frame place)))
     else with_bytes frame (place + padded (short_at order frame place)) (Ok (Other (place + padded (short_at order frame place)))))
 
--- The header, after this attribute was read. If it is not the last attribute, `next` returns the header for the place of the next
+-- The header, after this attribute was read. If this is not the last attribute, `next` returns the header for the place of the next
 -- attribute.
 abbrev pub after_attribute : (ℕ → Result FirstHeader LinkHeaderCutOff) → Result Attribute LinkHeaderCutOff
     → Result FirstHeader LinkHeaderCutOff
@@ -88,7 +89,7 @@ attributes_within (suc more) order frame place =
     if nat_lt place (length frame) then after_attribute (λ next. attributes_within more order frame next) (attribute_at order frame place)
     else Ok (unread_log place)
 
--- The header with all its attributes. The frame has more bytes than attributes, so their number is no limit.
+-- The header with all its attributes. The limit is never reached, since the frame has more bytes than attributes.
 abbrev pub attributes : ByteOrder → List ℕ → Result FirstHeader LinkHeaderCutOff
 attributes order frame = attributes_within (length frame) order frame attributes_at
 
@@ -103,7 +104,7 @@ abbrev pub log_header : List ℕ → Result FirstHeader LinkHeaderCutOff
 log_header frame = with_bytes frame shortest_len (
     if slice_index frame 1 == 0 then by_order frame (attribute_order frame) else Ok (unread_log shortest_len))
 
--- the frame contains the attribute at this place; after the last attribute, it contains the header
+-- the frame contains the attribute at this place; if this is the last attribute, the frame contains the whole header
 abbrev pub IsWithin : List ℕ → ℕ → Attribute → Type 0
 IsWithin frame place (Last header) = Fits frame header
 IsWithin frame place (Other end) = (place + attribute_fields_len ≤ end) × (end ≤ length frame)

@@ -9,8 +9,8 @@ use Rattle.capture_link.specs.declared.link.header.LinkHeader.{LinkHeader}
 use Rattle.capture_link.specs.declared.network_protocol.NetworkProtocol.{NetworkProtocol}
 use Rattle.capture_link.specs.declared.network_protocol.NetworkProtocol.TheVariants.{EtherType, PppProtocol}
 
--- the next protocol according to a protocol number: 0021 is IPv4 (RFC 1332, section 2.1), and 0057 is IPv6 (RFC 5072, section 2); `None` is
--- IP
+-- The next protocol according to a protocol number. `None` is IP: 0021 is IPv4 (RFC 1332, section 2.1), and 0057 is IPv6 (RFC 5072, section
+-- 2).
 abbrev pub by_ppp_protocol : ℕ → Option NetworkProtocol
 by_ppp_protocol number = if number == 0x0021 || number == 0x0057 then None else Some (PppProtocol number)
 
@@ -21,8 +21,8 @@ after_protocol frame place number =
     if number == 0x0281 || number == 0x0283 then stack_at frame (PppProtocol number) place
     else Ok (record { len = place; next = by_ppp_protocol number; end = None })
 
--- The header that ends after the Protocol field at this place. The field has two bytes, or one byte if it is compressed. If its first byte
--- is odd, the field has one byte (RFC 1661, sections 2 and 6.5).
+-- The header that ends after the Protocol field at this place, or after the stack of MPLS labels after this field. If the first byte of the
+-- field is odd, the field is compressed and has only this byte. Otherwise it has two bytes (RFC 1661, sections 2 and 6.5).
 abbrev pub protocol_at : List ℕ → ℕ → Result LinkHeader LinkHeaderCutOff
 protocol_at frame place = with_bytes frame (place + 1) (
     if flag frame place 0x01 then after_protocol frame (place + 1) (slice_index frame place)
@@ -40,28 +40,31 @@ ppp_header frame = protocol_at frame (if has_address frame then 2 else 0)
 abbrev pub unread_session : ℕ → LinkHeader
 unread_session place = record { len = place; next = Some (EtherType pppoe_session); end = None }
 
--- The header up to the packet in a PPPoE payload with this start and this end. The last argument is the result of reading the PPP header in
--- the payload. If the payload is too short for its PPP header, it is not read.
+-- The link header from the start of the frame to the packet in a PPPoE session. The PPPoE payload begins at `start` and ends at `end`. The
+-- last argument is the result of reading the PPP header in this payload. If the payload is too short for the PPP header, it is not read.
 abbrev pub in_payload : ℕ → ℕ → Result LinkHeader LinkHeaderCutOff → LinkHeader
 in_payload start end (Ok header) = record { len = header.len; next = header.next; end = Some end }
 in_payload start end (Err error) = unread_session start
 
--- The header up to the packet in a PPPoE payload with this start and this end. Bytes after the payload, such as the padding of a short
--- Ethernet frame, do not belong to the packet. If the frame ends before the payload does, the payload ends with the frame.
+-- The link header from the start of the frame to the packet in a PPPoE session. The PPPoE payload begins at `start` and ends at `end`.
+-- Bytes after the payload, such as the padding of a short Ethernet frame, do not belong to the packet. If the frame ends before `end`, the
+-- payload ends with the frame.
 abbrev pub session_payload : List ℕ → ℕ → ℕ → Result LinkHeader LinkHeaderCutOff
 session_payload frame start end =
     if nat_le end (length frame) then Ok (in_payload start end (protocol_at (take end frame) start))
     else protocol_at frame start
 
--- A PPPoE header at this place (RFC 2516, section 4). Its first byte contains version 1 and type 1. The code follows, which is 0 in a
--- session. The number of the session and the length of the payload have two bytes each. The payload begins with the Protocol field of PPP.
+-- The link header from the start of the frame to the packet in a PPPoE session. The PPPoE header begins at `place` (RFC 2516, section 4).
+-- Its first byte contains version 1 and type 1. The code follows, which is 0 in a session. The number of the session and the length of the
+-- payload have two bytes each. The payload begins with the Protocol field of PPP. With another version, type or code, the payload is not
+-- read.
 abbrev pub session_at : List ℕ → ℕ → Result LinkHeader LinkHeaderCutOff
 session_at frame place = with_bytes frame (place + 6) (
     if be_number frame place 2 == 0x1100 then session_payload frame (place + 6) (place + 6 + be_number frame (place + 4) 2)
     else Ok (unread_session (place + 6)))
 
--- The frame begins with the PPPoE header of a discovery packet. Its first byte contains version 1 and type 1. Its code is not 0, which is
--- the code of a session (RFC 2516, sections 5 and 6).
+-- The frame begins with the PPPoE header of a discovery packet. The first byte of the header contains version 1 and type 1. The code of the
+-- header is not 0, since 0 is the code of a session (RFC 2516, sections 5 and 6).
 abbrev pub is_discovery : List ℕ → Bool
 is_discovery frame = slice_index frame 0 == 0x11 && not (be_number frame 0 2 == 0x1100)
 

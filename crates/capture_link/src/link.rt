@@ -226,7 +226,7 @@ fn first_header(
     }
 }
 
-/// A header with an ether type, and its tags.
+/// The link header that begins with this header, and contains its tags and the headers after them.
 fn tagged_header(header: EtherHeader, frame: &[u8]) -> Result<LinkHeader, LinkHeaderCutOff>
     requires { header.ether_type_at + 2 ≤ header.len }
     ensures found { IfOk result (λ found. HasEtherHeader header frame.now found.len found.next found.end) }
@@ -245,8 +245,8 @@ fn tagged_header(header: EtherHeader, frame: &[u8]) -> Result<LinkHeader, LinkHe
     after_tags(header, frame, len, ether_type)
 }
 
-/// The header that ends after a header, its tags, and what follows them. The last ether type ends at this place. After a tag, a number
-/// below 1536 is the length of a frame with an LLC header.
+/// The link header that consists of `header`, its tags, and the headers after them. The last ether type ends at `place`. After a tag, a
+/// number below 1536 is a length, and an LLC header follows.
 fn after_tags(
     header: EtherHeader,
     frame: &[u8],
@@ -269,7 +269,8 @@ fn after_tags(
     }
 }
 
-/// The header that ends after this ether type, or after the PPPoE header or the MPLS label stack that follows the ether type.
+/// The link header whose last ether type ends at `len`. A PPPoE header or a stack of MPLS labels after this ether type belongs to the link
+/// header.
 fn after_ether_type(
     frame: &[u8],
     len: usize,
@@ -307,7 +308,7 @@ fn family_at(order: ByteOrder, frame: &[u8], place: usize) -> Result<FirstHeader
     }))
 }
 
-/// The network protocol of the loopback frame at this place. `None` is IP. An address family of IP counts in either byte order.
+/// The network protocol of the loopback frame at this place. `None` is IP. An address family of IP is accepted in either byte order.
 fn by_family(order: ByteOrder, frame: &[u8], place: usize) -> Option<NetworkProtocol>
     requires { place + 4 ≤ length frame.now }
     ensures { result ≡ families.by_family order frame.now place }
@@ -330,7 +331,7 @@ fn is_ip_family(number: u32) -> bool
     )
 }
 
-/// The header of the Ethernet frame at this place: a header with an ether type, or an LLC header after a length.
+/// The header of the Ethernet frame at this place. It contains an ether type, or a length and then an LLC header.
 fn ethernet_at(frame: &[u8], place: usize) -> Result<FirstHeader, LinkHeaderCutOff>
     requires { place ≤ max_frame_place }
     ensures is { result ≡ ethernet_at frame.now place }

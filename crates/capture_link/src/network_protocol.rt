@@ -8,13 +8,13 @@ pub enum NetworkProtocol {
     /// An unknown protocol in a frame of the link type with this number. Either the link type or the link header is not read. The number is
     /// 104 for SLARP and CDP in Cisco HDLC, and 253 for netlink in a Linux cooked frame.
     LinkType(u16),
-    /// An IEEE 802.11 frame with a body that is not read. The frame is not a data frame, contains no data, is encrypted, or contains
-    /// something other than one whole data unit.
+    /// An IEEE 802.11 frame whose body is not read. The frame is not a data frame, contains no data, is encrypted, or contains something
+    /// other than one whole data unit.
     Ieee80211 {
         /// The Frame Control field (IEEE 802.11, clause 9.2.4.1), its first byte first.
         frame_control: u16,
     },
-    /// A frame after a radiotap header that is not read. Its version is not 0, or its length does not count the first fields of the header.
+    /// A frame after a radiotap header that is not read. The version of this header is not 0, or its stated length is below 8.
     Radiotap {
         /// The version of the header.
         version: u8,

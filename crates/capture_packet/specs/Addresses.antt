@@ -32,12 +32,12 @@ IsDestination (Ipv6 source (Some destination)) (Some address) = IsIpv6Address de
 IsDestination (Ipv6 source (Some destination)) None = ⊥
 IsDestination (Ipv6 source None) address = address ≡ None
 
--- the source as text, in the format of RFC 5952 over IPv6
+-- the source address as text; an IPv6 address is in the format of RFC 5952
 abbrev pub source_text : Addresses → List ℕ
 source_text (Ipv4 source destination) = ipv4_text source
 source_text (Ipv6 source destination) = ipv6_text (segments_of source)
 
--- the final destination as text, in the format of RFC 5952 over IPv6, or `unknown`
+-- the address of the final receiver as text, or `unknown`; an IPv6 address is in the format of RFC 5952
 abbrev pub destination_text : Addresses → List ℕ
 destination_text (Ipv4 source destination) = ipv4_text destination
 destination_text (Ipv6 source (Some destination)) = ipv6_text (segments_of destination)

@@ -47,17 +47,17 @@ abbrev pub begins_with_ports : TransportInIp → Bool
 begins_with_ports found =
     begins_with_ports_by found.is_later_fragment (proto_over (by_value found.addresses) found.protocol.0) found.payload.now
 
--- The source port (bytes 0 and 1) and the destination port (bytes 2 and 3), if these bytes begin with ports. `proto` is the protocol of the
+-- The source port (bytes 0 and 1) and the destination port (bytes 2 and 3), if `bytes` begin with ports. `proto` is the protocol of these
 -- bytes.
 abbrev pub ports_at : Bool → Option Proto → List ℕ → Option (ℕ × ℕ)
 ports_at is_later_fragment proto bytes =
     if begins_with_ports_by is_later_fragment proto bytes then Some (be_number bytes 0 2, be_number bytes 2 2) else None
 
--- the ports of a transport, if it begins with ports
+-- the ports at the front of a transport, if the transport begins with ports
 abbrev pub ports_in : TransportInIp → Option (ℕ × ℕ)
 ports_in found = ports_at found.is_later_fragment (proto_over (by_value found.addresses) found.protocol.0) found.payload.now
 
--- no transport header is read: there is none, it is refused, or the verdict refuses its length
+-- no transport header is read: the header is absent or refused, or the verdict refuses its length field
 abbrev pub LacksHeader : TransportInIp → Verdict → Type 0
 LacksHeader found verdict = (read_in found ≡ None) ⊎ (is_length_refused verdict ≡ true)
 
@@ -72,7 +72,7 @@ Holds found verdict (transports.Ports source destination payload) =
 Holds found verdict (transports.Unread payload) =
     LacksHeader found verdict × ((begins_with_ports found ≡ false) × (payload.now ≡ found.payload.now))
 
--- the content is the content of an IP packet with these bytes and this verdict
+-- this content is the content of an IP packet with these bytes, this transport and this verdict
 abbrev pub Shows : List ℕ → TransportInIp → Verdict → Content → Type 0
 Shows bytes found verdict Unread = ⊥
 Shows bytes found verdict (IpHeader addresses) = ⊥
@@ -91,7 +91,7 @@ addresses_in (fixed.Ipv6 source destination hop_limit next_header) = Ipv6 source
 abbrev pub fixed_addresses : List ℕ → Option Addresses
 fixed_addresses packet = option_map addresses_in (fixed_header packet)
 
--- the content of an IP packet whose headers are refused: the addresses in the fixed part of its header, if that is complete
+-- the content of an IP packet whose headers are refused: the addresses in its IP header if the fixed part is complete, otherwise nothing
 abbrev pub ShowsRefused : List ℕ → Content → Type 0
 ShowsRefused packet Unread = fixed_addresses packet ≡ None
 ShowsRefused packet (IpHeader addresses) = fixed_addresses packet ≡ Some (by_value addresses)

@@ -27,7 +27,7 @@ max_packet_len = 524288
 
 -- ---- IP packets
 
--- the packet has this transport: its content, and the verdict on its checksum
+-- the content of the packet contains this transport, and the verdict on the packet is the verdict on this transport
 abbrev pub IsInPacket : Bool → List ℕ → TransportInIp → Packet → Type 0
 IsInPacket is_cut bytes found packet = Shows bytes found packet.verdict packet.content × JudgesTransport is_cut found packet.verdict
 
@@ -49,14 +49,14 @@ IsIpPacket is_cut bytes packet = (packet.hop_limit ≡ hop_limit_of bytes)
     × MatchOption (lax_refusal bytes) (IsCarried is_cut bytes packet)
     (λ error. IsUnread (is_cut_off is_cut bytes (refusal bytes)) bytes error packet)
 
--- an IP packet in these tunnels
+-- the packet is the IP packet in these tunnels
 abbrev pub IsInTunnels : Nested → Packet → Type 0
 IsInTunnels nested packet = (map by_value packet.tunnels.items ≡ nested.outers) × IsIpPacket nested.is_cut nested.bytes packet
 
 -- ---- frames
 
--- The capture cut bytes after a link header. If the link header states the end of these bytes, none of them was cut, even if the frame was
--- cut after them.
+-- Some bytes after the link header are missing, since the capture cut the frame. This is false if the link header states where these bytes
+-- end. Then all of them are present, and only bytes after their end are missing.
 abbrev pub are_bytes_cut : Bool → Bool → Bool
 are_bytes_cut is_cut is_end_stated = is_cut && not is_end_stated
 
@@ -71,7 +71,7 @@ pub record IsAfterHeader (link_type : LinkType) (order : ByteOrder) (frame : Lis
   pub after_header : IsFoundAfter (HasLinkHeader link_type order frame) frame found
   pub is_in : IsInFrame is_cut found packet
 
--- the verdict on a frame that ends within its link header: it is refused, unless the capture cut the frame
+-- the verdict on a frame that ends within its link header: the frame is refused, unless the capture cut it
 abbrev pub link_verdict : Bool → LinkHeaderCutOff → Verdict
 link_verdict true error = untested CutOff
 link_verdict false error = Refused (refusals.Link error)

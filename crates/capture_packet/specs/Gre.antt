@@ -6,8 +6,8 @@ use Rattle.net_base.specs.Bytes.{be_number}
 abbrev pub first_bits : List ℕ → ℕ
 first_bits header = be_number header 0 2
 
--- The header is read. Its first four bytes are present, the version in bits 13 to 15 is 0 (RFC 2784, section 2.3.1), and the reserved bits
--- 1, 4 and 5 are 0 (RFC 2784, section 2.3). Bits 2 and 3 announce optional fields (RFC 2890). Bits 6 to 12 are ignored.
+-- The header is read. Its first four bytes are present. The version in bits 13 to 15 is 0 (RFC 2784, section 2.3.1). The reserved bits 1, 4
+-- and 5 are 0 (RFC 2784, section 2.3). Bits 2 and 3 announce optional fields (RFC 2890). Bits 6 to 12 are ignored.
 abbrev pub is_read : List ℕ → Bool
 is_read header = nat_le 4 (length header) && bit_and (first_bits header) 0x4C07 == 0
 
@@ -16,7 +16,7 @@ abbrev pub field_len : ℕ → ℕ → ℕ
 field_len bits bit = if bit_and bits bit == 0 then 0 else 4
 
 -- The length of a header with these first bits. Four bytes are always present. Bit 0 adds the checksum and two reserved bytes (RFC 2784,
--- section 2.2), bit 2 adds the key (RFC 2890, section 2.1), and bit 3 adds the sequence number (RFC 2890, section 2.2).
+-- section 2.2). Bit 2 adds the key (RFC 2890, section 2.1). Bit 3 adds the sequence number (RFC 2890, section 2.2).
 abbrev pub len_with : ℕ → ℕ
 len_with bits = 4 + field_len bits 0x8000 + field_len bits 0x2000 + field_len bits 0x1000
 

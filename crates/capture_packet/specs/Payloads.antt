@@ -20,12 +20,12 @@ payload_in (Unread payload) = payload.now
 abbrev pub counted_payload_len : List ℕ → TransportInIp → ℕ
 counted_payload_len packet found = counted_len found.is_length_missing packet - found.payload_offset
 
--- The length of a UDP datagram (RFC 768). If the length field is at least 8 and at most `counted_len`, it is the length field. Otherwise it
--- is `counted_len`, the number of bytes after the IP headers that the IP header counts.
+-- The length of a UDP datagram (RFC 768). If the length field is at least 8 and at most `counted_len`, this field is the length. Otherwise
+-- the length is `counted_len`, the number of bytes that the IP header counts after the IP headers.
 abbrev pub datagram_len : ℕ → ℕ → ℕ
 datagram_len counted_len length = if nat_lt length 8 then counted_len else min counted_len length
 
--- the length of a transport with its header; `counted_len` is the number of bytes after the IP headers that the IP header counts
+-- the length of a transport with its header; `counted_len` is the number of bytes that the IP header counts after the IP headers
 abbrev pub transport_len : ℕ → TransportSlice → ℕ
 transport_len counted_len (Udp packet) = datagram_len counted_len (length_field packet)
 transport_len counted_len (Tcp segment) = counted_len

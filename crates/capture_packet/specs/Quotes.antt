@@ -35,7 +35,7 @@ quoted_with between number is_later_fragment bytes = record {
   ports = ports_at is_later_fragment (proto_over between number) bytes;
 }
 
--- the quoted packet with this transport
+-- the quoted packet whose headers and payload are in `found`
 abbrev pub quoted_by : TransportInIp → Quoted
 quoted_by found = quoted_with (addresses.by_value found.addresses) found.protocol.0 found.is_later_fragment found.payload.now
 
@@ -45,7 +45,8 @@ quoted_after (Err error) bytes = None
 quoted_after (Ok headers) bytes =
     Some (quoted_with headers.addresses headers.protocol.0 headers.is_later_fragment (drop headers.len bytes))
 
--- The quoted packet with these IP headers. `None` if an error refuses the packet.
+-- The quoted packet with these IP headers. `None` if this error refuses the packet, or if the headers are refused. `bytes` are the bytes
+-- that the IP header counts.
 abbrev pub quoted_unless : Option IpError → Result Headers IpError → List ℕ → Option Quoted
 quoted_unless (Some error) headers bytes = None
 quoted_unless None headers bytes = quoted_after headers bytes
@@ -55,7 +56,8 @@ quoted_unless None headers bytes = quoted_after headers bytes
 abbrev pub quoted_at : List ℕ → Option Quoted
 quoted_at bytes = quoted_unless (lax_refusal bytes) (headers_of (lacks_len bytes) bytes) (counted (lacks_len bytes) bytes)
 
--- the packet that an ICMP error quotes (RFC 792; RFC 4443, section 3; RFC 4884, section 4)
+-- The packet that an ICMP error quotes (RFC 792; RFC 4443, section 3; RFC 4884, section 4). `None` for any other transport, or if the IP
+-- headers of the quoted packet are refused or cut off.
 abbrev pub quoted_in : Transport → Option Quoted
 quoted_in (Read transport) = option_and_then quoted_at (transport_slices.quoted_by transport)
 quoted_in (Ports source destination payload) = None

@@ -29,7 +29,7 @@ packet_of_type ether_type bytes =
     else if ether_type == 0x86DD then packet_of_version 6 bytes
     else None
 
--- the packet after the GRE header at the front of these bytes
+-- the IP packet after the GRE header at the front of these bytes, if the header is read and an IP packet follows
 abbrev pub packet_after_gre : List ℕ → Option (List ℕ)
 packet_after_gre bytes =
     if gre.is_read bytes then packet_of_type (gre.protocol_type bytes) (drop (gre.header_len bytes) bytes) else None
@@ -91,7 +91,8 @@ opened is_cut packet = opened_unless (lax_refusal packet) is_cut packet
 
 -- ---- tunnels in tunnels
 
--- an IP packet in tunnels: their outer packets, from the outermost to the innermost, and the bytes of the packet
+-- An IP packet in tunnels: the outer packets, from the outermost to the innermost, and the bytes of the IP packet. `is_cut` states whether
+-- the capture or an outer packet is cut off.
 pub record Nested : Type 0 where
   pub outers : List Outer
   pub bytes : List ℕ
@@ -101,16 +102,16 @@ pub record Nested : Type 0 where
 abbrev pub alone : Bool → List ℕ → Nested
 alone is_cut packet = record { outers = []; bytes = packet; is_cut = is_cut }
 
--- a packet in tunnels, after a tunnel around all of them is added
+-- the packet in its tunnels, with one more tunnel around all of them
 abbrev pub in_tunnel : Outer → Nested → Nested
 in_tunnel outer nested = record { outers = outer ∷ nested.outers; bytes = nested.bytes; is_cut = nested.is_cut }
 
--- the packet in this tunnel, which `read` returns, or `outside` if there is no tunnel
+-- If there is a tunnel, `read` returns the packet in it, and the tunnel is added around this packet. Otherwise the result is `outside`.
 abbrev pub inside : Option Opened → (Opened → Nested) → Nested → Nested
 inside None read outside = outside
 inside (Some tunnel) read outside = in_tunnel tunnel.outer (read tunnel)
 
--- The innermost packet in an IP packet, after at most this number of tunnels. A tunnel after these is not opened.
+-- The innermost packet in an IP packet, after at most this number of tunnels. A further tunnel is not opened.
 unfoldable pub nested_in : ℕ → Bool → List ℕ → Nested
 nested_in zero is_cut packet = alone is_cut packet
 nested_in (suc more) is_cut packet =

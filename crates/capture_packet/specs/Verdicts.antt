@@ -36,7 +36,7 @@ zero_length = refusals.Transport Udp (Len (record {
   layer_start_offset = 0;
 }))
 
--- the error for a packet whose checksum is not tested for this reason, if the packet is malformed for this reason
+-- the error that refuses a packet whose checksum is not tested for this reason; only a UDP length field of 0 is an error
 abbrev pub refusal_if_untested : Untested → Option Refusal
 refusal_if_untested ZeroLength = Some zero_length
 refusal_if_untested Fragment = None
@@ -63,7 +63,7 @@ refusal_of (Refused refusal) = Some refusal
 
 -- ---- the transport
 
--- the verdict of the report is the verdict on the checksum of this transport
+-- this verdict is the verdict on the checksum of this transport
 abbrev pub IsOnChecksum : TransportInIp → Verdict → Type 0
 IsOnChecksum found (Checksum verdict) = JudgesFound found verdict
 IsOnChecksum found LengthMissing = ⊥
@@ -76,8 +76,8 @@ abbrev pub JudgesRead : TransportInIp → Verdict → Type 0
 JudgesRead found verdict =
     MatchBool (found.is_length_missing && not found.is_fragment) (verdict ≡ LengthMissing) (IsOnChecksum found verdict)
 
--- The verdict on an accepted transport. The checksum of a protocol other than UDP, TCP and ICMP is not read. The verdict is then
--- `OtherProtocol`, even for a fragment, for a packet that is cut off, and for a packet without a length.
+-- The verdict on an accepted transport. Only the checksums of UDP, TCP, and ICMP of the IP version are tested. For any other protocol the
+-- verdict is `OtherProtocol`, even for a fragment, for a packet that is cut off, and for a packet that states no length.
 abbrev pub JudgesAccepted : TransportInIp → Verdict → Type 0
 JudgesAccepted found verdict =
     MatchOption (proto_over (by_value found.addresses) found.protocol.0) (verdict ≡ untested OtherProtocol) (λ proto. JudgesRead found verdict)
@@ -87,7 +87,7 @@ JudgesAccepted found verdict =
 abbrev pub is_transport_cut_off : Bool → TransportInIp → Bool
 is_transport_cut_off is_cut found = found.is_cut_off || (is_cut && found.is_length_missing)
 
--- The verdict on a transport with this error. If the packet is cut off and only its length is wrong, the verdict is `CutOff`.
+-- The verdict on a transport with this error. If the packet is cut off and this is a length error, the verdict is `CutOff`.
 abbrev pub refused : Bool → Proto → HeaderSliceError → Verdict
 refused true proto (Len error) = untested CutOff
 refused true proto (Content error) = Refused (refusals.Transport proto (Content error))
@@ -100,12 +100,13 @@ JudgesTransport is_cut found verdict = MatchOption (transports.refusal found) (J
 
 -- ---- IP packets
 
--- no byte of the extension header directly after an IPv6 header is counted: the payload length is 0
+-- The payload length of an IPv6 packet is 0, so that no byte of its first extension header is counted. `len` is the number of counted bytes
+-- that begin at `offset`.
 abbrev pub counts_no_payload : List ℕ → ℕ → ℕ → Bool
 counts_no_payload packet offset len = version packet == 6 && (offset == 40 && len == 0)
 
--- Only the first bytes of a packet are present, as the error that refuses its headers shows. Either the header counts more bytes than are
--- present, whether the capture cut the frame or not. Or the capture cut the frame, and the header is incomplete or states no length.
+-- Only the first bytes of a packet are present, as the error that refuses its headers shows. This is true if the header counts more bytes
+-- than are present. It is also true if the capture cut the frame, and the header is incomplete or states no length.
 abbrev pub is_cut_off : Bool → List ℕ → Option IpError → Bool
 is_cut_off is_cut packet (Some (PacketCutOff required_len len)) = true
 is_cut_off is_cut packet (Some (HeaderCutOff required_len len)) = is_cut

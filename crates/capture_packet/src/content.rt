@@ -20,13 +20,14 @@ pub enum Content<'a> {
         addresses: IpAddresses<'a>,
         /// The protocol number of the payload.
         protocol: IpNumber,
-        /// The protocol of the payload, if it is UDP, TCP, or ICMP of the IP version. A fragment also has a protocol.
+        /// The protocol of the payload, if it is UDP, TCP, or ICMP of the IP version. It is also set for a fragment.
         proto: Option<Proto>,
-        /// What is read of the transport.
+        /// The transport, as far as it is read.
         transport: Transport<'a>,
         /// The length of the payload, in bytes. The payload begins after the transport header, or after the IP headers if no transport
-        /// header is read. The IP header states where the payload ends. In a UDP datagram the length field states it, if it counts at least
-        /// a header (RFC 768). If no length is stated, the payload ends with the frame. If the packet is cut off, fewer bytes are present.
+        /// header is read. The IP header states where the payload ends. The length field of a UDP datagram can state an earlier end, if the
+        /// field counts at least a header (RFC 768). If no length is stated, the payload ends with the frame. If the packet is cut off,
+        /// fewer bytes are present.
         payload_len: usize,
     },
 }

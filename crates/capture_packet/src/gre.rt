@@ -14,7 +14,7 @@ const SHORTEST_LEN: usize = 4;
 /// The length of an optional field, in bytes.
 const FIELD_LEN: usize = 4;
 
-/// The bit that is set if a checksum is present, and two reserved bytes after it (RFC 2784, section 2.2).
+/// The bit that is set if a checksum and two reserved bytes after the checksum are present (RFC 2784, section 2.2).
 const CHECKSUM: u16 = 0x8000;
 
 /// The bit that is set if a key is present (RFC 2890, section 2.1).

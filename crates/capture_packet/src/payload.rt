@@ -8,14 +8,14 @@ use ip_part::TransportInIp;
 use transport_part::TransportSlice;
 use udp_part::UdpHeader;
 
-/// The number of bytes after the headers of an IP packet that the IP header counts. If the packet is cut off, fewer bytes are present.
+/// The number of bytes that an IP header counts after the IP headers. If the packet is cut off, fewer bytes are present.
 pub(crate) fn counted_payload_len(found: &TransportInIp<'_>) -> usize
     ensures { result ≡ found.now.counted_len - found.now.payload_offset }
 {
     found.counted_len.saturating_sub(found.payload_offset)
 }
 
-/// The length of the payload of a transport. `counted_len` is the number of bytes after the IP headers that the IP header counts.
+/// The length of the payload of a transport. `counted_len` is the number of bytes that the IP header counts after the IP headers.
 pub(crate) fn payload_len(transport: &Transport<'_>, counted_len: usize) -> usize
     ensures { result ≡ specs.payload_len counted_len transport.now }
 {
@@ -39,7 +39,7 @@ fn transport_len(transport: &TransportSlice<'_>, counted_len: usize) -> usize
     }
 }
 
-/// The length of a UDP datagram, as its length field states it (RFC 768).
+/// The length of a UDP datagram (RFC 768): its length field, but at most `counted_len`. If the field is below 8, this is `counted_len`.
 fn datagram_len(length: usize, counted_len: usize) -> usize
     ensures { result ≡ specs.datagram_len counted_len length }
 {

@@ -14,7 +14,7 @@ pub struct QuotedPacket<'a> {
     pub addresses: IpAddresses<'a>,
     /// The protocol number of the quoted packet's payload.
     pub protocol: IpNumber,
-    /// The protocol of the quoted packet's payload, if it is UDP, TCP, or ICMP of the IP version. A fragment also has a protocol.
+    /// The protocol of the quoted packet's payload, if it is UDP, TCP, or ICMP of the IP version. It is also set for a fragment.
     pub proto: Option<Proto>,
     /// The source port and the destination port: the first four bytes of UDP or TCP (RFC 768; RFC 9293, section 3.1). `None` if the error
     /// does not quote them, or if the quoted packet is a later fragment or has another protocol.

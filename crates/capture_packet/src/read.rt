@@ -25,22 +25,27 @@ pub const MAX_PACKET_LEN: usize = 524_288;
 /// The packet in a frame of this link type, as far as it can be read, and the verdict on its checksum. `order` is the byte order of the
 /// capture. If `is_cut` is true, the capture contains only the first bytes of the frame.
 ///
-/// A packet is cut off if its IP header counts more bytes than are present, whatever the capture states about its frame. It is also cut off
-/// if its IP header is incomplete in a frame with `is_cut`. A packet that is cut off is not refused for an incomplete header. Its checksum
-/// is not tested. A frame may contain padding after its packet. If only the padding was cut, the packet is whole. Bytes after the payload
-/// of PPPoE do not count as present. If the frame contains that payload, the packet is read as in a frame without `is_cut`.
+/// A packet is cut off if its IP header counts more bytes than are present, whatever the capture states about its frame. If `is_cut` is
+/// true, a packet is also cut off if its IP header is incomplete or states no length. A packet that is cut off is not refused for an
+/// incomplete header, and its checksum is not tested. A frame may contain padding after its packet. If only the padding was cut, the packet
+/// is whole.
+///
+/// PPPoE and LINKTYPE_NFLOG state where the bytes of the packet end. Bytes after this end are ignored. If the frame contains all bytes up
+/// to this end, the packet is read as if `is_cut` were false.
 ///
 /// If an IP packet contains another IP packet, the inner packet is read, and the outer packet is one of `tunnels`. An IPv4 packet follows
 /// an IP header with protocol 4 (RFC 2003), and an IPv6 packet follows protocol 41 (RFC 4213, section 3.5; RFC 2473). Protocol 47 is GRE,
 /// version 0, followed by IPv4 or IPv6. The GRE header may contain a checksum, a key and a sequence number (RFC 2784; RFC 2890). The
 /// checksum of GRE is not checked. If one of these statements is true, the inner packet is not read, and the payload of the outer packet
-/// counts as another protocol:
+/// is read as another protocol:
 /// - The outer packet is a fragment.
 /// - The fixed part of the inner IP header, 20 bytes of version 4 or 40 bytes of version 6, is not present.
-/// - A GRE header has another version, another protocol, or one of the reserved bits that a receiver refuses (RFC 2784, section 2.3).
+/// - The GRE header is incomplete, or has another version, another protocol, or one of the reserved bits that a receiver refuses (RFC 2784,
+///   section 2.3).
 /// - `MAX_TUNNELS` tunnels are around the outer packet.
 ///
-/// If the outer packet is cut off, the inner packet is cut off if its own IP header counts more bytes than are present.
+/// If the outer packet is cut off, the inner packet is read as if `is_cut` were true. If the outer packet is whole, the inner packet is
+/// read as if `is_cut` were false.
 pub fn read_packet<'a>(
     link_type: LinkType,
     order: ByteOrder,
@@ -105,7 +110,7 @@ fn read_ip_packet<'a>(packet: &'a [u8], is_cut: bool) -> Packet<'a>
     }
 }
 
-/// The packet in an outer packet. `None` if there is no inner packet, or if `tunnels` has no room for another tunnel.
+/// The inner packet of an outer packet. `None` if there is no inner packet, or if `tunnels` has no room for another tunnel.
 fn next_packet<'a>(tunnels: &Tunnels<'_>, outer: &TransportInIp<'a>) -> Option<&'a [u8]>
     ensures full { array_vec_len tunnels.now ≡ max_tunnels → result ≡ None }
     ensures room { array_vec_len tunnels.now < max_tunnels → option_map (λ packet. packet.now) result

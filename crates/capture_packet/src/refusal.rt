@@ -9,6 +9,6 @@ pub enum Refusal {
     Link(LinkHeaderCutOff),
     /// The IP headers are refused.
     Ip(IpError),
-    /// The transport is refused with the error of its slice.
+    /// The transport of this protocol is refused with this error.
     Transport(Proto, HeaderSliceError),
 }

@@ -29,8 +29,8 @@ pub enum Transport<'a> {
         /// The bytes after the IP headers.
         payload: &'a [u8],
     },
-    /// The bytes after the IP headers. No header and no ports are read: the protocol is another one, fewer than four bytes are present, or
-    /// the packet is a later fragment.
+    /// The bytes after the IP headers. Neither a header nor ports are read. The protocol is not UDP or TCP, fewer than four bytes are
+    /// present, or the packet is a later fragment. An ICMP message whose header is read is `Read` instead.
     Unread(&'a [u8]),
 }
 
@@ -89,8 +89,8 @@ pub(crate) fn read_transport<'a>(
     }
 }
 
-/// The verdict on the checksum of a transport whose header is read. The checksum is not tested if bytes are missing, since it covers all
-/// bytes.
+/// The verdict on the checksum of a transport whose header is read. The checksum covers all bytes. So it is not tested if bytes are
+/// missing, or if the packet states no length.
 #[inline(always)]
 fn tested(found: &TransportInIp<'_>, transport: &TransportSlice<'_>) -> Verdict
     requires { kept found.now ≡ Some transport.now }
@@ -151,7 +151,7 @@ fn has_ports(found: &TransportInIp<'_>) -> bool
     matches!(found.proto(), Some(Proto::Udp | Proto::Tcp))
 }
 
-/// The verdict on a transport with this error. If the packet is cut off and only its length is wrong, the verdict is `CutOff`.
+/// The verdict on a transport with this error. If the packet is cut off and this is a length error, the verdict is `CutOff`.
 fn refused(found: &TransportInIp<'_>, error: HeaderSliceError, is_cut: bool) -> Verdict
     requires { refusal found.now ≡ Some error }
     ensures { JudgesTransport is_cut found.now result }
@@ -165,8 +165,8 @@ fn refused(found: &TransportInIp<'_>, error: HeaderSliceError, is_cut: bool) -> 
     }
 }
 
-/// Whether only the first bytes of a transport are present: the IP header counts more bytes than are present, or it states no length and
-/// the capture cut the frame.
+/// Whether only the first bytes of a transport are present. Either the IP header counts more bytes than are present. Or the IP header
+/// states no length, and the capture cut the frame.
 pub(crate) fn is_transport_cut_off(found: &TransportInIp<'_>, is_cut: bool) -> bool
     ensures { result ≡ specs.is_transport_cut_off is_cut found.now }
 {

@@ -14,6 +14,7 @@ pub enum Verdict {
     /// - `OtherProtocol`: the frame contains no IP packet, or the protocol is not UDP, TCP, ICMPv4 over IPv4 or ICMPv6 over IPv6.
     /// - `Fragment`: the packet is a fragment.
     /// - `CutOff`: the frame or the packet is cut off.
+    /// - `ZeroLength`, `UnknownDestination` or `TooLong`, as `Untested` describes them.
     Checksum(ChecksumVerdict),
     /// The IP header states no length (RFC 791, section 3.1; RFC 8200, section 3). So it is unknown how many bytes the checksum covers. A
     /// host captures such a packet before its network card splits it. If the packet is a fragment or of another protocol, the verdict is

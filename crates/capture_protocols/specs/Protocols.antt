@@ -20,8 +20,8 @@ ip_protocols =
     (89, Ospf) ∷ (97, EtherIp) ∷ (103, Pim) ∷ (108, IpComp) ∷ (112, Vrrp) ∷ (115, L2tp) ∷ (132, Sctp) ∷ (136, UdpLite) ∷ (137, MplsInIp) ∷
     []
 
--- Protocols by their ether type (the registry "IEEE 802 Numbers" of IANA). The registry of IEEE also has the slow protocols (IEEE 802.3,
--- annex 57A), PTP (IEEE 1588) and CFM (IEEE 802.1Q, clause 21).
+-- Protocols by their ether type (the registry "IEEE 802 Numbers" of IANA). The slow protocols (IEEE 802.3, annex 57A), PTP (IEEE 1588) and
+-- CFM (IEEE 802.1Q, clause 21) are in the registry of IEEE.
 abbrev pub ether_types : List (ℕ × Protocol)
 ether_types =
     (0x0806, Arp) ∷ (0x8035, Rarp) ∷ (0x8137, Ipx) ∷ (0x8809, SlowProtocol) ∷ (0x8847, Mpls) ∷ (0x8848, Mpls) ∷ (0x8863, PppoeDiscovery) ∷
@@ -48,12 +48,12 @@ protocol_of protos.Tcp = Tcp
 protocol_of protos.Icmpv4 = Icmpv4
 protocol_of protos.Icmpv6 = Icmpv6
 
--- the row of a protocol over IP: a transport protocol, or another protocol in the list; `None` if it has no row of its own
+-- the row of a protocol over IP: a transport protocol, or a protocol in `ip_protocols`; `None` if the protocol has no row of its own
 abbrev pub ip_protocol : ℕ → Option Proto → Option Protocol
 ip_protocol number (Some proto) = Some (protocol_of proto)
 ip_protocol number None = protocol_in ip_protocols number
 
--- the spanning tree protocol, with the service access point 0x42 on both sides (IEEE 802.1D, clause 7.12.3)
+-- the spanning tree protocol if both service access points are 0x42 (IEEE 802.1D, clause 7.12.3), otherwise `None`
 abbrev pub llc_protocol : ℕ → ℕ → Option Protocol
 llc_protocol dsap ssap = if dsap == 0x42 && ssap == 0x42 then Some Stp else None
 
@@ -199,10 +199,10 @@ protocol_word Unknown = codes "unknown"
 
 -- ---- names
 
--- the name of a protocol over IP, or `None` if it has no name
+-- the name of a protocol over IP, or `None` if the protocol has no name
 abbrev pub ip_protocol_name : ℕ → Option Proto → Option (List ℕ)
 ip_protocol_name number proto = option_map protocol_word (ip_protocol number proto)
 
--- the name of the protocol of a frame without an IP packet, or `None` if its number has no name
+-- the name of the protocol of a frame without an IP packet, or `None` if the protocol has no name
 abbrev pub network_protocol_name : NetworkProtocol → Option (List ℕ)
 network_protocol_name protocol = option_map protocol_word (network_protocol protocol)

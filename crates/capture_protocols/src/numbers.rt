@@ -13,15 +13,15 @@ use net_base::IpNumber;
 /// The service access point of the spanning tree protocol (IEEE 802.1D, clause 7.12.3).
 const STP: u8 = 0x42;
 
-/// The name of a protocol over IP, or `None` if it has no name. UDP, TCP and ICMP of the right IP version have names, and some other
-/// protocols in the registry "Protocol Numbers" of IANA.
+/// The name of a protocol over IP, or `None` if it has no name. UDP, TCP, ICMPv4 over IPv4 and ICMPv6 over IPv6 have names. Some other
+/// protocols in the registry "Protocol Numbers" of IANA have names too.
 pub fn ip_protocol_name(protocol: IpNumber, proto: Option<Proto>) -> Option<&'static str>
     ensures { option_map (λ name. name.now) result ≡ specs.ip_protocol_name protocol.0 proto }
 {
     Some(ip_protocol(protocol, proto)?.name())
 }
 
-/// The name of the protocol of a frame without an IP packet, or `None` if its number has no name.
+/// The name of the protocol of a frame without an IP packet, or `None` if the protocol has no name.
 pub fn network_protocol_name(protocol: NetworkProtocol) -> Option<&'static str>
     ensures { option_map (λ name. name.now) result ≡ specs.network_protocol_name protocol }
 {
@@ -56,7 +56,8 @@ pub(crate) fn network_protocol(protocol: NetworkProtocol) -> Option<Protocol>
     }
 }
 
-/// The protocol with this number in the list of protocols over IP (the registry "Protocol Numbers" of IANA).
+/// The protocol over IP with this number (the registry "Protocol Numbers" of IANA), or `None` if the table of protocols has no entry for
+/// it.
 fn other_over_ip(number: u8) -> Option<Protocol>
     ensures { result ≡ protocol_in ip_protocols number }
 {
@@ -84,7 +85,8 @@ fn other_over_ip(number: u8) -> Option<Protocol>
     }
 }
 
-/// The protocol with this ether type (the registry "IEEE 802 Numbers" of IANA, and the registry of IEEE).
+/// The protocol with this ether type (the registry "IEEE 802 Numbers" of IANA, and the registry of IEEE), or `None` if the table of
+/// protocols has no entry for it.
 fn by_ether_type(number: u16) -> Option<Protocol>
     ensures { result ≡ protocol_in ether_types number }
 {
@@ -107,7 +109,7 @@ fn by_ether_type(number: u16) -> Option<Protocol>
     }
 }
 
-/// The protocol with this number in PPP (the registry "PPP Numbers" of IANA).
+/// The protocol with this number in PPP (the registry "PPP Numbers" of IANA), or `None` if the table of protocols has no entry for it.
 fn over_ppp(number: u16) -> Option<Protocol>
     ensures { result ≡ protocol_in ppp_protocols number }
 {
@@ -124,7 +126,7 @@ fn over_ppp(number: u16) -> Option<Protocol>
     }
 }
 
-/// The protocol with this network layer protocol ID (ISO/IEC TR 9577).
+/// The protocol with this network layer protocol ID (ISO/IEC TR 9577), or `None` if the table of protocols has no entry for it.
 fn by_nlpid(number: u8) -> Option<Protocol>
     ensures { result ≡ protocol_in nlpids number }
 {
@@ -136,7 +138,7 @@ fn by_nlpid(number: u8) -> Option<Protocol>
     }
 }
 
-/// The protocol with these service access points in an LLC header.
+/// The protocol with these service access points in an LLC header, or `None` if it is not the spanning tree protocol.
 fn by_access_points(dsap: u8, ssap: u8) -> Option<Protocol>
     ensures { result ≡ specs.llc_protocol dsap ssap }
 {

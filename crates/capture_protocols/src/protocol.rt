@@ -31,7 +31,7 @@ pub enum Protocol {
     Gre,
     /// ESP (RFC 4303).
     Esp,
-    /// AH (RFC 4302), if what follows it is not read.
+    /// AH (RFC 4302), if the bytes after it are not read.
     Ah,
     /// No next header (RFC 8200, section 4.7).
     NoNextHeader,
@@ -55,7 +55,7 @@ pub enum Protocol {
     UdpLite,
     /// MPLS-in-IP (RFC 4023).
     MplsInIp,
-    /// Another protocol over IP, whose number has no name here.
+    /// Another protocol over IP, for which this enum has no name.
     OtherOverIp,
     /// ARP (RFC 826).
     Arp,
@@ -109,9 +109,9 @@ pub enum Protocol {
     IsIs,
     /// STP (IEEE 802.1D).
     Stp,
-    /// Another frame without an IP packet, whose protocol has no name here.
+    /// Another frame without an IP packet, if this enum has no name for its protocol.
     OtherWithoutIp,
-    /// Unknown: the record is too long, or its link header or IP header is refused or cut off.
+    /// Unknown: the packet does not fit in the buffer, its link header is cut off, or its IP headers are refused or cut off.
     Unknown,
 }
 
@@ -179,7 +179,8 @@ impl Protocol {
         }
     }
 
-    /// The protocol of a packet, according to the numbers in its headers. A fragment and a refused packet also have a protocol.
+    /// The protocol of a packet, according to the numbers in its headers. A fragment, and a packet whose transport header is refused, also
+    /// have a protocol. If the IP headers are refused or cut off, the protocol is `Unknown`.
     pub fn of(content: &Content<'_>) -> Protocol
         ensures { result ≡ content_protocol content.now }
     {

@@ -6,8 +6,8 @@ use Rattle.std.specs.declared.io.ErrorKind.TheVariants as kinds
 use Rattle.capture_request.specs.declared.writing_error.WriteError.{WriteError}
 use Rattle.capture_request.specs.declared.writing_error.WriteError.TheVariants.{NoMemory, Write}
 
--- The exit status after this kind of error. If the reader of standard output ended first, it is the status that a shell reports for a
--- program that ended by SIGPIPE, which is signal 13. Otherwise it is 3.
+-- The exit status after this kind of error. If the reader of standard output or standard error ended first, it is 128 + 13, which a shell
+-- reports for a program that SIGPIPE (signal 13) ended. Otherwise it is 3.
 abbrev pub failure_number : ErrorKind → ℕ
 failure_number kinds.BrokenPipe = 128 + 13
 failure_number kind = 3

@@ -15,14 +15,14 @@ use Rattle.capture_selection.specs.declared.selection_error.SelectionError.{Sele
 use Rattle.capture_selection.specs.declared.selection_error.SelectionError.TheVariants.{Capture, Write}
 use Rattle.capture_report.specs.declared.input.FileId.{FileId}
 
--- two files are the same file; the numbers of both are known and equal
+-- two files are the same file: the numbers of both files are known, and are equal
 abbrev pub is_same_file : Option FileId → Option FileId → Bool
 is_same_file (Some file) (Some other) = file.device == other.device && file.number == other.number
 is_same_file file other = false
 
 -- ---- exit statuses
 
--- The end of a run that wrote the packets of a capture. It is the exit status that a report of the capture has, or the error of a write.
+-- The end of a run that wrote the packets of a capture: the exit status that a report of the capture would have, or the error of a write.
 abbrev pub written_status : Result Reached SelectionError → Result ExitStatus Error
 written_status (Ok reached) = Ok statuses.Success
 written_status (Err (Capture error)) = Ok (exit_status error)
@@ -39,30 +39,30 @@ IsStatusOf ended number = (status : ExitStatus) × (written_status ended ≡ Ok 
 
 -- ---- what is written to standard error
 
--- the lines for the end of a capture with this name; there is one line if the capture could not be read to its end
+-- the error lines at the end of a capture with this name: one line if the capture could not be read further, and otherwise no line
 abbrev pub AreErrorLines : Option (List ℕ) → Result Reached SelectionError → List (List ℕ) → Type 0
 AreErrorLines name (Ok reached) lines = AreEndLines name (Ok reached) lines
 AreErrorLines name (Err (Capture error)) lines = AreEndLines name (Err error) lines
 AreErrorLines name (Err (Write error)) lines = lines ≡ []
 
--- the line with the numbers of packets
+-- the line that states how many packets were read and how many were written
 abbrev pub counts_line : Counts → List ℕ
 counts_line counts =
     codes "capture_report: " ++ (decimal counts.read ++ (codes " packets read, " ++ (decimal counts.written ++ codes " written\n")))
 
--- the lines for the end of a capture, and then the line with the numbers of packets
+-- the error lines at the end of a capture, and then the line with the counts of packets
 abbrev pub AreSelectionLines : Option (List ℕ) → Result Reached SelectionError → Counts → List (List ℕ) → Type 0
 AreSelectionLines name ended counts lines =
     (errors : List (List ℕ)) × AreErrorLines name ended errors × (lines ≡ errors ++ counts_line counts ∷ [])
 
 -- ---- the run
 
--- the numbers before the first packet
+-- the counts before the first packet
 abbrev pub no_counts : Counts
 no_counts = record { read = 0; chosen = 0; written = 0 }
 
 -- The packets of a capture that have a line in a report with these options were written, up to the end of the capture or an error. Then the
--- output was flushed. At least a beginning of the lines for standard error was written, and all of them if the result is no error. `name`
+-- output was flushed. At least a beginning of the lines for standard error was written, and all lines if the result is not an error. `name`
 -- is the name of the capture in these lines. If the result is the error of writing a packet, nothing is stated about the output.
 pub record WritesSelection (options : Parts) (name left still_left held now_held told now_told : Option (List ℕ)) (result : Result ℕ Error) : Type 0 where
   pub ended : Result Reached SelectionError

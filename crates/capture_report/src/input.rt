@@ -30,8 +30,8 @@ impl Input {
     ///
     /// # Errors
     ///
-    /// The error of the operating system if the file can't be opened, and `InvalidFilename` if the name is escaped. A file can be opened
-    /// only by a name that is UTF-8.
+    /// The error of the operating system if the file can't be opened, and `InvalidFilename` if the name is escaped because it is not UTF-8.
+    /// A file can be opened only if its name is UTF-8.
     pub fn open(rt: &HostRuntime, name: &str) -> io::Result<Input>
         ensures { IfOk result (IsRequestedBy name.now) }
     {
@@ -57,7 +57,8 @@ impl Input {
         }
     }
 
-    /// Whether this input is the file with this name. The numbers of device and file are compared.
+    /// Whether this input is the file with this name. The numbers of the devices and of the files are compared. If they can't be read, the
+    /// result is `false`.
     pub fn is_named(&self, rt: &HostRuntime, name: &str) -> bool {
         let metadata = match self {
             Input::Standard(_) => fs::metadata(rt, STANDARD_INPUT_FILE),
@@ -77,7 +78,7 @@ pub struct FileId {
 }
 
 impl FileId {
-    /// Returns the numbers in the metadata of a file, or `None` if there are no metadata.
+    /// Returns the numbers in the metadata of a file, or `None` if the metadata could not be read.
     fn of(told: io::Result<Metadata>) -> Option<FileId> {
         let metadata = told.ok()?;
         Some(FileId {

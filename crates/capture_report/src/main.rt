@@ -135,7 +135,7 @@ fn report_to<W: Write + Drop>(
 }
 
 /// Writes the packets of the capture to the file with this name, or to standard output, and returns the exit status. The file is created
-/// when its first byte is written, hence only if the beginning of the capture was accepted.
+/// when its first byte is written. So it is created only if the beginning of the capture was accepted.
 fn write_to(rt: &HostRuntime, options: &Options<'_>, name: &str) -> io::Result<u8> {
     let capture = options.files.as_slice().first().copied();
     let input = match Input::open(rt, capture.unwrap_or(STANDARD_INPUT)) {
@@ -176,8 +176,8 @@ fn unopened<E: Write>(
     Ok(ExitStatus::Failed.number())
 }
 
-/// Writes the packets of a capture, and then writes their numbers to standard error. Returns the exit status. If the capture has a name,
-/// errors contain the name.
+/// Writes the packets of a capture that have a line, and then writes the counts of packets to standard error. Returns the exit status. If
+/// the capture has a name, errors contain the name.
 fn write_packets<W: Write + Drop>(
     rt: &HostRuntime,
     parts: &Parts,
@@ -193,12 +193,14 @@ fn write_packets<W: Write + Drop>(
     write_selection(rt.alloc(), parts, name, &mut copier, &mut rt.stderr())
 }
 
-/// Writes the packets of a capture to the output, and then writes their numbers to `errors`. Returns the exit status. If the capture can't
-/// be read to its end, the error is written before the numbers. If the capture has a name, errors contain the name.
+/// Writes the packets of a capture that have a line to the output, and then writes the counts of packets to `errors`. Returns the exit
+/// status. If the capture can't be read to its end, the error is written before the counts. If the capture has a name, errors contain the
+/// name.
 ///
 /// # Errors
 ///
-/// The error of writing to the output, or the error of writing to `errors`. All packets are written before anything is written to `errors`.
+/// The error of writing or flushing the output, or the error of writing to `errors`. It is also an error if no memory is left. All packets
+/// are written before anything is written to `errors`.
 fn write_selection<R: Read, W: Write, E: Write>(
     alloc: Global,
     parts: &Parts,
@@ -222,19 +224,19 @@ fn write_selection<R: Read, W: Write, E: Write>(
     finished(errors, alloc, name, written)
 }
 
-/// How the packets of a capture were written.
+/// The result of writing the packets of a capture.
 #[derive(Drop)]
 struct Written {
     /// How far the capture was read, or why it was not read further.
     ended: Result<Reached, SelectionError>,
-    /// Whether the output was flushed after the last packet.
+    /// The result of flushing the output after the last packet.
     flushed: io::Result<()>,
-    /// The numbers of packets.
+    /// The counts of the packets that were read, chosen and written.
     counts: Counts,
 }
 
-/// Writes the error of a capture if there is one, and then the numbers of packets. Returns the exit status. The numbers are left out if the
-/// output could not be flushed. If the capture has a name, the error contains the name.
+/// Writes the error of a capture if there is one, and then the counts of packets. Returns the exit status. The counts are left out if the
+/// output could not be written or flushed. If the capture has a name, the error contains the name.
 fn finished<E: Write>(
     errors: &mut E,
     alloc: Global,
@@ -283,7 +285,7 @@ fn write_counts<E: Write>(errors: &mut E, alloc: Global, counts: &Counts) -> io:
     write_whole(errors, line.as_bytes())
 }
 
-/// The line with the numbers of packets.
+/// The line that states how many packets were read and how many were written.
 fn counts_line(alloc: Global, counts: &Counts) -> Result<String, AllocError>
     ensures { IfOk result (λ line. string_bytes line ≡ counts_line counts.now) }
 {
@@ -303,8 +305,8 @@ fn write_failure(rt: &HostRuntime, error: &WriteError) -> u8
     ExitStatus::Failed.number()
 }
 
-/// Returns an input that shows the progress of reading if it is a long file. `lines_on_terminal` states whether other output is written to
-/// the terminal at the same time.
+/// Returns an input that shows the progress of reading if the input is a long file and standard error is a terminal. `lines_on_terminal`
+/// states whether other output is written to the terminal at the same time. Then no progress is shown.
 fn with_progress(rt: &HostRuntime, input: Input, lines_on_terminal: bool) -> Progress<Input>
     ensures inner { inner_of result ≡ input }
     ensures mixed { IsTrue lines_on_terminal → next_of result ≡ 2 ^ 64 - 1 }

@@ -56,7 +56,7 @@ impl<'a> Write for NewFile<'a> {
         written
     }
 
-    /// Does nothing, since each write is a write of the file.
+    /// Does nothing, since `write` writes directly to the file.
     fn flush(&mut self) -> io::Result<()> {
         Ok(())
     }

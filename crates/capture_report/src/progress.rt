@@ -15,7 +15,7 @@ const ERASED: &str = "                     \r";
 /// A reader of a capture that shows its progress on standard error, in percent. The line is not part of the report. It is erased at the end
 /// of the capture, and a failure to write it is ignored.
 ///
-/// The line ends with a return, and is shorter than any error line, so that an error line overwrites it.
+/// The progress line ends with a carriage return, and is shorter than any error line. So an error line overwrites it.
 pub struct Progress<R> {
     inner: R,
     errors: Stderr,
@@ -37,7 +37,8 @@ pub fn is_shown(len: u64, stderr_is_terminal: bool, lines_on_terminal: bool) -> 
     len > LONG && stderr_is_terminal && !lines_on_terminal
 }
 
-/// The percentage of the length that was read, as a whole number. It is 100 if the file has become longer since it was opened.
+/// The percentage of the length that was read, as a whole number. It is at most 100, even if the file has become longer since it was
+/// opened.
 fn percent(read: u64, len: u64) -> u8
     ensures { result ≡ percent_of read len }
 {
@@ -72,8 +73,8 @@ impl<R> Progress<R> {
         }
     }
 
-    /// Counts the bytes of a read. It writes the line if another percent was read, and erases the line at the end of the capture, where a
-    /// read returns no bytes.
+    /// Counts the bytes of a read, and writes the line if another percent was read. At the end of the capture a read returns no bytes, and
+    /// the line is erased.
     fn count(&mut self, bytes: usize)
         ensures inner { inner_of self.new ≡ inner_of self.old }
         ensures read { read_of self.new ≡ min (2 ^ 64 - 1) (read_of self.old + bytes) }

@@ -1,4 +1,4 @@
--- The end of the report of a capture: a beginning that is refused, the greatest number of packets, and the exit status.
+-- How the report of a capture ends: with a refused beginning, at the greatest number of packets, and with which exit status.
 use Rattle.std.specs.Prelude.{◌≡◌, ℕ, List, length, Some, Option, Result, Ok, Err}
 use Rattle.capture_file.specs.Opening.{ReadsBeginning}
 use Rattle.capture_file.specs.declared.classic.capture_header_error.CaptureHeaderError.TheVariants.{CutOff, Magic, Modified, Pcapng, Version}
@@ -16,7 +16,7 @@ use Rattle.capture_request.specs.declared.reached.Reached.{Reached}
 abbrev pub max_packets : ℕ
 max_packets = 18446744073709551614
 
--- the beginning of a capture is refused for this reason
+-- the beginning of a capture with these bytes is refused with this error
 abbrev pub IsRefusedCapture : OpenError → List ℕ → Type 0
 IsRefusedCapture error bytes =
     (still_left : Option (List ℕ)) × (buffer : List ℕ) × (length buffer ≡ max_packet_len)

@@ -14,16 +14,16 @@ abbrev pub compressed_text : Compression → List ℕ
 compressed_text compression =
     codes "The capture is compressed, and is read by " ++ (compression_name compression ++ codes " -dc FILE | capture_report.")
 
--- The text of an error. For a compressed capture it is the text with the command. For any other error nothing is stated about the text.
+-- This is the text of an error. For a compressed capture it is `compressed_text`. For any other error nothing is stated about the text.
 abbrev pub IsErrorText : CaptureError → List ℕ → Type 0
 IsErrorText error text = MatchOption (compression_of error) (Unit {0}) (λ compression. text ≡ compressed_text compression)
 
--- the start of an error's line: the name of the program, and then the name of the capture if there is one
+-- the start of the line of an error: the name of the program, and then the name of the capture if the capture has a name
 abbrev pub line_start : Option (List ℕ) → List ℕ
 line_start None = codes "capture_report: "
 line_start (Some name) = codes "capture_report: " ++ (name ++ codes ": ")
 
--- a line that consists of its start and of a text for which `IsText` holds
+-- this line consists of `line_start`, a text for which `IsText` holds, and a line feed
 abbrev pub IsLineOf : Option (List ℕ) → (List ℕ → Type 0) → List ℕ → Type 0
 IsLineOf name IsText line = (text : List ℕ) × IsText text × (line ≡ line_start name ++ (text ++ codes "\n"))
 
@@ -41,13 +41,13 @@ space = 32
 abbrev pub first_word : List ℕ → List ℕ
 first_word name = before_first (λ byte. byte == space) name
 
--- The hint at the options that select packets. It is empty, unless the name of the capture begins with a word of a filter, as in `tcp port
--- 80`.
+-- The hint that lists the options that select packets. The hint is empty unless the first word of the name is one of `filter_words`. An
+-- example of a name with a hint is `tcp port 80`.
 abbrev pub hint_of : List ℕ → List ℕ
 hint_of name =
     if list_any (λ word. bytes_eq word (first_word name)) filter_words then codes "; filters are --host, --port and --protocol" else []
 
--- the text for a capture that can't be opened; it ends with the hint at the options that select packets
+-- this is the text for a capture that can't be opened: the text of an error, and then the hint for this name
 abbrev pub EndsInHint : List ℕ → List ℕ → Type 0
 EndsInHint name text = (cause : List ℕ) × (text ≡ cause ++ hint_of name)
 
@@ -74,7 +74,7 @@ line_name count name = if count == 0 then None else Some (shown_name name)
 
 -- ---- what is written of the lines
 
--- of each line, the whole line or its beginning was written, in the order of the lines
+-- The beginning of each line was written, in the order of the lines. A beginning may be empty, or the whole line.
 abbrev pub AreBegun : List (List ℕ) → List ℕ → Type 0
 AreBegun [] written = written ≡ []
 AreBegun (line ∷ lines) written =

@@ -9,18 +9,18 @@ use Rattle.capture_request.specs.declared.capture_error.CaptureError.TheVariants
 use Rattle.capture_request.specs.declared.reached.Reached.{Reached}
 use Rattle.capture_request.specs.declared.reached.Reached.TheVariants.{End, Limit}
 
--- the number of counted packets has reached the requested number
+-- the number of counted packets has reached the requested number; this is false if no number is requested
 abbrev pub is_full : Option ℕ → ℕ → Bool
 is_full None counted = false
 is_full (Some limit) counted = not (nat_lt counted limit)
 
--- the number of counted packets does not exceed the requested number
+-- the number of counted packets does not exceed the requested number; this is true if no number is requested
 abbrev pub IsWithin : Option ℕ → ℕ → Type 0
 IsWithin None counted = Unit {0}
 IsWithin (Some limit) counted = counted ≤ limit
 
--- If the limit was reached, the requested number of packets was counted. At any other end of the packets, the requested number was not
--- counted. The other results are a refused beginning and a full counter. For them the statement always holds.
+-- If the report ended at the limit, the requested number of packets was counted. If it ended at the end of the capture, or at an error
+-- after the beginning, the requested number was not reached. Nothing is stated about an error in the beginning, or about `TooManyPackets`.
 abbrev pub EndsByLimit : Option ℕ → ℕ → Result Reached CaptureError → Type 0
 EndsByLimit limit counted (Ok End) = is_full limit counted ≡ false
 EndsByLimit limit counted (Ok Limit) = is_full limit counted ≡ true
@@ -31,7 +31,7 @@ EndsByLimit limit counted (Err TooManyPackets) = Unit {0}
 EndsByLimit limit counted (Err (Header error)) = Unit {0}
 EndsByLimit limit counted (Err (ReadHeader error)) = Unit {0}
 
--- the report of a capture ended for another reason than the requested number of packets
+-- the report of a capture ended, but not because the requested number of packets was reached
 abbrev pub EndsWithoutLimit : Result Reached CaptureError → Type 0
 EndsWithoutLimit (Ok Limit) = ⊥
 EndsWithoutLimit other = Unit {0}

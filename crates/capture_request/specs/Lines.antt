@@ -14,7 +14,7 @@ use Rattle.capture_summary.specs.declared.verdict_kind.VerdictKind.TheVariants.{
 abbrev pub is_fault : VerdictKind → Bool
 is_fault kind = verdict_place kind == verdict_place Wrong || verdict_place kind == verdict_place Refused
 
--- whether a packet with this verdict has a line, if it is chosen
+-- whether a chosen packet with this verdict has a line
 abbrev pub has_line : Lines → Verdict → Bool
 has_line lines.All verdict = true
 has_line lines.Wrong verdict = is_fault (verdict_kind verdict)
@@ -24,7 +24,7 @@ has_line lines.None verdict = false
 abbrev pub HasNoLine : Parts → Packet → Type 0
 HasNoLine parts packet = (IsChosen parts.choice packet → ⊥) ⊎ (has_line parts.lines packet.verdict ≡ false)
 
--- if the packet for which `IsPacket` holds has no line, `Statement` holds
+-- `IsPacket` holds for this packet. If this packet has no line, `Statement` holds too.
 pub record IfNoLine (IsPacket : Packet → Type 0) (parts : Parts) (Statement : Type 0) : Type 0 where
   pub packet : Packet
   pub is_packet : IsPacket packet

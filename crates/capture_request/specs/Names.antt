@@ -2,7 +2,7 @@
 use Rattle.std.specs.Prelude.{ℕ, ◌==◌, if◌then◌else◌, List, [], ◌∷◌}
 use Rattle.capture_facts.specs.ShownText.{shown_text}
 
--- A name without its mark. The name of a file that is not UTF-8 begins with the mark, a byte 0.
+-- A name without its mark, which is a byte 0. A file name that is not UTF-8 begins with this mark.
 abbrev pub without_mark : List ℕ → List ℕ
 without_mark [] = []
 without_mark (byte ∷ name) = if byte == 0 then name else byte ∷ name

@@ -31,8 +31,8 @@ use Rattle.capture_request.specs.declared.reached.Reached.TheVariants.{End, Limi
 use Rattle.capture_summary.specs.declared.capture_info.CaptureInfo.{CaptureInfo}
 use Rattle.capture_summary.specs.declared.flow.Flow.{Flow}
 
--- A packet was counted once in every table: by its protocol, its verdict, its flow, and the other facts. `info` is what the capture states
--- about the packet.
+-- A packet was counted once by its protocol, its verdict, its flow, and its link type. A refused packet was also counted by the reason of
+-- its refusal. `info` is what the capture states about the packet.
 pub record CountsRead (packet : Packet) (info : CaptureInfo) (before after : SummaryTables) : Type 0 where
   pub flow : Option Flow
   pub is_flow : IsFlowOf packet.content flow
@@ -43,7 +43,7 @@ abbrev pub CountsChosen : Choice → Packet → CaptureInfo → SummaryTables �
 CountsChosen choice packet info before after =
     (IsChosen choice packet × CountsRead packet info before after) ⊎ ((IsChosen choice packet → ⊥) × (after ≡ before))
 
--- the packet for which `IsPacket` holds was counted if it is chosen
+-- `IsPacket` holds for this packet, and the packet was counted if it is chosen
 pub record CountsPacket (choice : Choice) (IsPacket : Packet → Type 0) (info : CaptureInfo) (before after : SummaryTables) : Type 0 where
   pub packet : Packet
   pub is_packet : IsPacket packet
@@ -55,14 +55,15 @@ pub record CountsPacket (choice : Choice) (IsPacket : Packet → Type 0) (info :
 abbrev pub IsTooLong : ℕ → Packet → Type 0
 IsTooLong required_len packet = packet ≡ in_no_tunnel Unread (TooLong required_len)
 
--- The packet that is read from a frame of this link type. It is truncated if the captured length is below the original length.
+-- This packet is read from a frame of this link type. The frame is truncated if its captured length is below its original length. If the
+-- link type is not read, the frame contains no IP packet.
 abbrev pub IsReadAs : Result LinkType ℕ → CapturedPacket → List ℕ → Packet → Type 0
 IsReadAs (Ok link_type) captured frame packet =
     IsRead link_type captured.byte_order frame (nat_lt captured.captured_len captured.original_len) packet
 IsReadAs (Err number) captured frame packet =
     packet ≡ in_no_tunnel (NotIp (protocols.LinkType number)) (untested OtherProtocol)
 
--- the packet that is read from a packet of a capture
+-- this is what is read of a packet of a capture; a packet that does not fit in the buffer is not read
 abbrev pub IsPacketOf : FilePacket → Packet → Type 0
 IsPacketOf (kept captured frame) packet = IsReadAs captured.link_type captured frame packet
 IsPacketOf (too_long captured) packet = IsTooLong captured.required_len packet
@@ -89,7 +90,7 @@ too_long_info packet = record {
   len = option_map (λ original. record { original = original; captured = packet.required_len }) packet.original_len;
 }
 
--- what the capture states about a packet
+-- what the capture states about a packet, whether or not the packet fits in the buffer
 abbrev pub info_of : FilePacket → CaptureInfo
 info_of (kept packet frame) = captured_info packet
 info_of (too_long packet) = too_long_info packet
@@ -126,22 +127,22 @@ IsReadToEnd (Err (RecordCutOff number offset required_len len)) = Unit {0}
 IsReadToEnd (Err (Refused error)) = Unit {0}
 IsReadToEnd other = ⊥
 
--- `ended` is the result for the item after the last packet. The end of the input is no error. If a record or block is cut off, the error
--- contains the number of the packet, and both lengths. If a block is refused, the error contains the reason.
+-- This is the result for the item after the last packet. The end of the input is no error. If a record or block is cut off, the error
+-- contains its two lengths, and `number`, which is the number of the next packet. If a block is refused, the error contains the reason.
 abbrev pub IsAnsweredBy : NextPacket → ℕ → Result Reached CaptureError → Type 0
 IsAnsweredBy next number (Ok End) = next ≡ packets.End
 IsAnsweredBy next number (Err (RecordCutOff its_number offset required len)) = (next ≡ packets.CutOff required len) × (its_number ≡ number)
 IsAnsweredBy next number (Err (Refused error)) = next ≡ packets.Refused error
 IsAnsweredBy next number other = ⊥
 
--- The next item `next` was read, and is not a packet. `after` is the reader after it.
+-- The next item `next` was read, and is not a packet. `after` is the reader after this item.
 abbrev pub ReadsEnd : CaptureReader → Option (List ℕ) → NextPacket → Option (List ℕ) → CaptureReader → Type 0
 ReadsEnd before left next still_left after =
     (ends : EndsWith max_packet_len before left next) × (still_left ≡ ends.still_left) × (after ≡ ends.after)
 
--- No further packet could be read, and `ended` is the result. Either the next item was read and is not a packet, or reading it failed. An
--- error within a record or block contains the number of the packet, and the place where the record or block begins. `after` is the reader
--- at the end.
+-- No further packet could be read, and `ended` is the result. Either the next item was read and is not a packet, or reading it failed.
+-- `number` is the number of the next packet. If a record or block is cut off, or reading it failed, the error contains this number, and the
+-- place where the record or block begins. `after` is the reader at the end.
 abbrev pub EndsAtItem : ℕ → CaptureReader → Option (List ℕ) → Option (List ℕ) → CaptureReader → Result Reached CaptureError → Type 0
 EndsAtItem number before left still_left after (Ok End) = ReadsEnd before left packets.End still_left after
 EndsAtItem number before left still_left after (Err (RecordCutOff its_number offset required len)) =
@@ -151,16 +152,17 @@ EndsAtItem number before left still_left after (Err (Read its_number offset erro
     FailsToRead max_packet_len before left still_left after × (its_number ≡ number) × (offset ≡ offset_of after)
 EndsAtItem number before left still_left after other = ⊥
 
--- The report of a capture ended with this result. `count` is the number of packets of this capture and of the captures before it. If the
--- requested number of packets was counted, or if no further packet can be counted, nothing was read after the last packet. Otherwise the
--- item after the last packet ended the report. A packet there would have had this number. `after` is the reader at the end.
+-- The report of a capture ended with this result. `count` is the number of packets read from this capture, plus the number of packets
+-- counted in the captures before it. If the requested number of packets was counted, or if no further packet can be counted, nothing was
+-- read after the last packet. Otherwise the item after the last packet ended the report. `number` is the number that the next packet would
+-- have had. `after` is the reader at the end.
 abbrev pub HasEnded : ℕ → ℕ → CaptureReader → Option (List ℕ) → Option (List ℕ) → CaptureReader → Result Reached CaptureError → Type 0
 HasEnded count number before left still_left after (Ok Limit) = (still_left ≡ left) × (after ≡ before)
 HasEnded count number before left still_left after (Err TooManyPackets) = (max_packets ≤ count) × (still_left ≡ left) × (after ≡ before)
 HasEnded count number before left still_left after ended = EndsAtItem number before left still_left after ended
 
--- One of two things happened. The next packet, which has this number, was read, and was counted if it is chosen. Or there is no next
--- packet, and nothing was counted.
+-- If the result is `None`, the next packet was read, and was counted if it is chosen. Otherwise no packet could be read, nothing was
+-- counted, and the result is the reason. `number` is the number of the next packet.
 abbrev pub ReportsNext : Choice → ℕ → CaptureReader → Option (List ℕ) → Option (List ℕ) → CaptureReader → SummaryTables → SummaryTables → Option (Result Reached CaptureError) → Type 0
 ReportsNext choice number reader left still_left still_reader before after None = ReportsOne choice reader left still_left still_reader before after
 ReportsNext choice number reader left still_left still_reader before after (Some ended) =
@@ -172,8 +174,8 @@ EndsAfter reader packets ended bytes =
     (next : NextPacket) × HasPackets max_packet_len reader bytes packets next × IsAnsweredBy next (length packets + 1) ended
 
 -- These packets of a capture were read, and then the report of the capture ended with this result. `first` is the reader before these
--- packets, and `last` is the reader at the end. `counted` is the number of packets in the captures before this one. The bytes of the
--- capture begin with these packets. If the bytes were read to their end, they contain no other packet.
+-- packets, and `last` is the reader at the end. `counted` is the number of packets that were counted in the captures before this capture.
+-- The bytes of the capture begin with these packets. If the bytes were read to their end, they contain no other packet.
 pub record ReadsUntil (first : CaptureReader) (left still_left : Option (List ℕ)) (packets : List FilePacket) (counted : ℕ) (last : CaptureReader)
     (ended : Result Reached CaptureError) : Type 0 where
   pub middle : Option (List ℕ)

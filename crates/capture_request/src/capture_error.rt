@@ -20,19 +20,21 @@ use thiserror::Error;
 /// The reason why a capture can't be read further.
 #[derive(Debug, Error, Drop)]
 pub enum CaptureError {
-    /// The input is not a capture, or it is a capture of a format that is not read.
+    /// The beginning of the input is refused. The input is not a capture, or it is a capture that is not read, for example of an unknown
+    /// version.
     #[error(transparent)]
     Header(OpenError),
     /// The input ends within a record, or within a block of a pcapng file.
     #[error("At byte {offset} of the capture, in or before packet {number}: The record or block has at least {required_len} bytes, and {len} are left.")]
     RecordCutOff {
-        /// The number of the next packet. The first packet of a capture is number 1. A block of a pcapng file may contain no packet.
+        /// The number of the packet in the record or block. The first packet of a capture is number 1. If the block contains no packet,
+        /// this is the number of the next packet.
         number: u64,
         /// The start of the record or block, in bytes from the start of the capture.
         offset: u64,
-        /// The length of the record or block in bytes, or its least length if the length field is incomplete.
+        /// The length of the record or block in bytes, or the length of its header if the header is incomplete.
         required_len: usize,
-        /// The number of bytes that are left in the input.
+        /// The number of bytes of the record or block that are present.
         len: usize,
     },
     /// A block of a pcapng file can't be read.
@@ -44,14 +46,16 @@ pub enum CaptureError {
     /// Reading failed within a record, or within a block of a pcapng file.
     #[error("Reading at byte {offset} of the capture, in or before packet {number}, failed: {error}.")]
     Read {
-        /// The number of the next packet. The first packet of a capture is number 1. A block of a pcapng file may contain no packet.
+        /// The number of the packet in the record or block. The first packet of a capture is number 1. If the block contains no packet,
+        /// this is the number of the next packet.
         number: u64,
         /// The start of the record or block, in bytes from the start of the capture.
         offset: u64,
         /// The error of the operating system.
         error: io::Error,
     },
-    /// The report has counted 2^64 - 2 packets, which is the limit.
+    /// The limit of 2^64 - 2 packets is reached. It applies to the packets read from this capture, plus the packets counted in the captures
+    /// before it.
     #[error("2^64 - 2 packets were counted, and no more can be counted.")]
     TooManyPackets,
 }
@@ -112,8 +116,8 @@ pub fn write_end<E: Write>(
 ///
 /// # Errors
 ///
-/// The error of the first write that fails, and `OutOfMemory` if no memory is left. Then only the beginning of the line may have been
-/// written.
+/// The error of the first write that fails, and `OutOfMemory` if no memory is left. If a write fails, only the beginning of the line may
+/// have been written.
 pub fn write_error<E: Write>(
     errors: &mut E,
     alloc: Global,
@@ -176,7 +180,7 @@ static FILTER_WORDS: [&str; 16] = [
     "proto",
 ];
 
-/// The hint after an error, if the name of the capture begins like a filter of tcpdump.
+/// The hint after the error of opening a capture, if the name of the capture begins like a filter of tcpdump.
 const FILTER_HINT: &str = "; filters are --host, --port and --protocol";
 
 /// Writes the line for a capture that can't be opened: the name of the program, the name of the capture, and the text of the error. If the
@@ -184,8 +188,8 @@ const FILTER_HINT: &str = "; filters are --host, --port and --protocol";
 ///
 /// # Errors
 ///
-/// The error of the first write that fails, and `OutOfMemory` if no memory is left. Then only the beginning of the line may have been
-/// written.
+/// The error of the first write that fails, and `OutOfMemory` if no memory is left. If a write fails, only the beginning of the line may
+/// have been written.
 pub fn write_open_error<E: Write>(
     errors: &mut E,
     alloc: Global,
@@ -209,7 +213,7 @@ fn open_error_line(alloc: Global, name: &str, error: &io::Error) -> Result<Strin
     format!(in alloc; "capture_report: {shown}: {text}{hint}\n")
 }
 
-/// The hint at the options that select packets. It is empty, unless the name of the capture begins with a word of a filter.
+/// The hint that lists the options that select packets. The hint is empty unless the first word of the name is a word of `FILTER_WORDS`.
 fn hint_of(name: &str) -> &'static str
     ensures { result.now ≡ hint_of name.now }
 {

@@ -33,14 +33,15 @@ const XZ_MAGIC: u32 = 0xFD37_7A58;
 /// The first four bytes of an LZ4 frame: 184D2204, with the least significant byte first (LZ4 frame format, general structure).
 const LZ4_MAGIC: u32 = 0x0422_4D18;
 
-/// The first four bytes of a file of `bzip2`: `BZh`, and a digit from 1 to 9 for the size of its blocks.
+/// The first four bytes of a file of `bzip2` with the smallest blocks: `BZh1`. The digit is the size of the blocks.
 const FIRST_BZIP2_MAGIC: u32 = 0x425A_6831;
 
+/// The first four bytes of a file of `bzip2` with the largest blocks: `BZh9`.
 const LAST_BZIP2_MAGIC: u32 = 0x425A_6839;
 
 impl Compression {
-    /// Returns the compression of a file. `magic` contains its first four bytes as a big-endian number. `None` if they begin no compressed
-    /// file.
+    /// Returns the compression of a file. `magic` contains its first four bytes as a big-endian number. `None` if the file is not
+    /// compressed in any of these formats.
     pub fn from_magic(magic: u32) -> Option<Compression>
         ensures { result ≡ compression_with magic }
     {

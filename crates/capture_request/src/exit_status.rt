@@ -1,7 +1,7 @@
 ghost use Rattle.std.specs.Prelude.{◌≡◌};
 ghost use Rattle.capture_request.specs.ExitStatuses.{exit_number};
 
-/// The result of a run, as the exit status of the program. If several results apply, the greatest number counts.
+/// The result of a run, as the exit status of the program. If several results apply, the exit status is the greatest of their numbers.
 #[derive(Clone, Copy, Debug, PartialEq, Eq)]
 pub enum ExitStatus {
     /// 0: all captures were read to their ends, or to the last requested packet.

@@ -1,8 +1,8 @@
-//! What is requested of the report of a capture, what the report counts, and how it ends.
+//! The options of the report of a capture, the packets that the report reads, and the ways in which it ends.
 //!
-//! `Parts` are the options of a report. `packet_in_frame` reads the packet of a record or block. `Reached` and
-//! `CaptureError` state how a report ends, and `WriteError` is the reason why a report can't be written. `ExitStatus` is the exit status of the
-//! program. `capture_run` writes the report. `capture_selection` writes the packets that have a line in the report to another capture.
+//! `Parts` are the options of a report. `packet_in_frame` reads the packet of a record or block. `Reached` and `CaptureError` state how a
+//! report ends, and `WriteError` is the reason why a report can't be written. `ExitStatus` is the exit status of the program. `capture_run`
+//! writes the report. `capture_selection` writes the packets that have a line in the report to another capture.
 //!
 //! ```
 //! let parts = Parts::from_flags(false, false, true, false);

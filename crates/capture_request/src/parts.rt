@@ -26,17 +26,19 @@ pub struct Parts {
     pub summary: bool,
     /// The format of lines and summary.
     pub format: Format,
-    /// The greatest number of conversations that the summary lists. It lists the busiest ones.
+    /// The greatest number of conversations that the summary lists. It lists the busiest conversations.
     pub top: usize,
     /// Whether the exit status reports that a packet has a wrong checksum or was refused.
     pub check: bool,
-    /// The requested number of chosen packets, if a number is requested. The report ends after them, and reads no further packet.
+    /// The requested number of chosen packets, if a number is requested. The report ends after this many chosen packets, and reads no
+    /// further packet.
     pub limit: Option<u64>,
 }
 
 impl Parts {
-    /// Returns the options that these flags request. All packets are chosen, without a limit. The report is text without details. It shows
-    /// times since the first packet, and lists the ten busiest conversations.
+    /// Returns the options that these flags request: no lines, no summary, lines only for packets with a fault, and a check. All packets
+    /// are chosen, without a limit. The report is text without details. It shows times since the first packet, and lists the ten busiest
+    /// conversations.
     pub fn from_flags(
         summary_alone: bool,
         packets_alone: bool,
@@ -93,7 +95,7 @@ pub enum Lines {
 }
 
 impl Lines {
-    /// Whether a packet with this verdict has a line.
+    /// Whether a chosen packet with this verdict has a line.
     pub fn include(self, verdict: &Verdict) -> bool
         ensures { result ≡ has_line self verdict.now }
     {

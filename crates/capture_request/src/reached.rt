@@ -1,8 +1,8 @@
-/// How far a capture was read, if nothing prevented that it was read further.
+/// How far a capture was read, if its report ended without an error.
 #[derive(Clone, Copy, Debug, PartialEq, Eq)]
 pub enum Reached {
     /// The end of the capture.
     End,
-    /// The last of the packets that are requested. The rest of the capture is not read.
+    /// The last requested packet. The rest of the capture is not read.
     Limit,
 }

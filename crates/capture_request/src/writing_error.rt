@@ -31,7 +31,7 @@ impl From<io::Error> for WriteError {
 
     ghost from_gives = { λ error write_error. write_error ≡ variants.Write error };
 
-    /// The error `Write` for this error of the system.
+    /// The error `Write`, which contains this error.
     fn from(error: io::Error) -> WriteError {
         WriteError::Write(error)
     }

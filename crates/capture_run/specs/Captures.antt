@@ -25,7 +25,7 @@ use Rattle.capture_request.specs.declared.reached.Reached.{Reached}
 
 -- ---- one capture
 
--- What is kept from one capture to the next. `summary` contains the counts, and `status` is the greatest exit status. `is_empty` is true if
+-- The state of a run between two captures. `summary` contains the counts, and `status` is the greatest exit status. `is_empty` is true if
 -- no beginning of a capture was accepted. `capture` is the reader of the only capture whose beginning was accepted.
 pub record Progress : Type 0 where
   pub summary : SummaryTables
@@ -33,7 +33,7 @@ pub record Progress : Type 0 where
   pub is_empty : Bool
   pub capture : Option CaptureReader
 
--- the fields of the struct that are kept from capture to capture
+-- the fields of `CaptureReports` that are the state of a run
 abbrev pub progress_of : CaptureReports → Progress
 progress_of reports = record { summary = reports.summary; status = reports.status; is_empty = reports.is_empty; capture = reports.capture }
 
@@ -50,16 +50,17 @@ unopened before = record {
   capture = before.capture;
 }
 
--- The reader that is kept for the summary after another capture, if only one beginning of a capture was accepted. `before` was kept before
--- this capture. The last argument is the reader of this capture, or `None` if its beginning was refused. `is_empty` is true if no beginning
--- was accepted before.
+-- The reader of the only capture whose beginning was accepted, or `None` if no beginning or several beginnings were accepted. `before` is
+-- this reader before the new capture. The last argument is the reader of the new capture, or `None` if its beginning was not accepted.
+-- `is_empty` is true if no beginning was accepted before.
 abbrev pub only_capture : Bool → Option CaptureReader → Option CaptureReader → Option CaptureReader
 only_capture is_empty before None = before
 only_capture true before (Some reader) = Some reader
 only_capture false before (Some reader) = None
 
 -- A capture was reported. `left` contains its bytes, or is `None` if they are unknown. `text` is the text of its packets. `lines` contains
--- the line of its error, if there is one, with the name `shown`. `reader` is the reader after the packets.
+-- the line of its error, if there is one, with the name `shown`. `reader` is the reader after the packets, or `None` if the beginning of
+-- the capture was not accepted.
 pub record ReportsOpened (parts : Parts) (shown : Option (List ℕ)) (left : Option (List ℕ)) (before after : Progress) (text : List ℕ) (lines : List (List ℕ)) : Type 0 where
   pub ended : Result Reached CaptureError
   pub still_left : Option (List ℕ)
@@ -96,11 +97,11 @@ ReportsNamed Reads parts shown name before after text lines =
 
 -- ---- all captures
 
--- the heading as text: the name of the capture between arrows, with an empty line before it unless it is the first capture
+-- the heading as text: the name of the capture between arrows; an empty line precedes it, except before the first capture
 abbrev pub text_heading : ℕ → List ℕ → List ℕ
 text_heading place name = (if place == 0 then [] else codes "\n") ++ (codes "==> " ++ (shown_name name ++ codes " <==\n"))
 
--- the heading in a format: a line of text, or a JSON object with the member `file`
+-- the heading in a format: as text, or as a JSON object with the member `file`
 abbrev pub heading_in : Format → ℕ → List ℕ → List ℕ
 heading_in formats.Text place name = text_heading place name
 heading_in formats.Json place name = json_line (file_members (without_mark name))
@@ -117,7 +118,7 @@ heading_of parts count place name = if nat_lt 1 count && has_lines parts.lines t
 
 -- The capture with this name was reported. `count` is the number of named captures, and `place` is the place of this capture among them.
 -- `text` is its heading and the text of its packets, and `lines` are the lines of its errors. If the requested number of packets was
--- counted before, the capture is skipped.
+-- already counted, the capture is skipped.
 abbrev pub ReportsHeaded : (List ℕ → Given → Type 0) → Parts → ℕ → ℕ → List ℕ → Progress → Progress → List ℕ → List (List ℕ) → Type 0
 ReportsHeaded Reads parts count place name before after text lines =
     MatchBool (is_full parts.limit before.summary.packets) ((after ≡ before) × (text ≡ []) × (lines ≡ []))
@@ -139,8 +140,8 @@ abbrev pub captures_of : List (List ℕ) → List (List ℕ)
 captures_of [] = codes "-" ∷ []
 captures_of (name ∷ names) = name ∷ names
 
--- The report of a run with this exit status. `text` is the text of each capture, and then the summary if the beginning of a capture was
--- accepted. `lines` are the lines of all errors, in the order of the captures.
+-- The report of a run with this exit status. `text` is the text of each capture, and then the summary if it is requested and the beginning
+-- of a capture was accepted. `lines` are the lines of all errors, in the order of the captures.
 pub record IsRun (Reads : List ℕ → Given → Type 0) (parts : Parts) (names : List (List ℕ)) (status : ExitStatus) (text : List ℕ) (lines : List (List ℕ)) : Type 0 where
   pub after : Progress
   pub captures : List ℕ
@@ -165,8 +166,8 @@ WritesRun before after errors_before errors_after IsReport =
     (text : List ℕ) × (lines : List (List ℕ)) × IsReport text lines × Appends before after text
     × Appends errors_before errors_after (concat lines)
 
--- The first of these captures were reported. The beginnings of the lines of their errors were written, and nothing else was written to that
--- writer.
+-- The captures `first`, with which `names` begins, were reported. The beginnings of the lines of their errors were written to the writer of
+-- the errors, and nothing else was written to it.
 pub record TellsFirst (Reads : List ℕ → Given → Type 0) (parts : Parts) (count : ℕ) (names : List (List ℕ)) (before : Progress) (errors_before errors_after : Option (List ℕ)) : Type 0 where
   pub first : List (List ℕ)
   pub others : List (List ℕ)

@@ -1,4 +1,4 @@
--- The text of a report: the line of each packet that has one, in the order of the packets, then an empty line, and then the summary.
+-- The text of a report: the line of each packet that has a line, in the order of the packets, then an empty line, and then the summary.
 use Rattle.std.specs.Prelude.{◌≡◌, ℕ, ◌+◌, ◌||◌, nat_lt, Bool, false, if◌then◌else◌, List, [], ◌∷◌, ◌++◌, codes, is_none, Option, Some, None, Result, Ok}
 use Rattle.std.specs.Option.{option_or}
 use Rattle.capture_file.specs.CapturePackets.{BeginsInput, FilePacket}
@@ -26,7 +26,7 @@ use Rattle.capture_request.specs.declared.reached.Reached.TheVariants.{Limit}
 abbrev pub IsPacketText : Parts → ℕ → Option PacketTime → FilePacket → List ℕ → Type 0
 IsPacketText parts number first packet text = IsTextOfOne (IsPacketOf packet) parts number first (info_of packet) text
 
--- The first time of these packets and of the packets before them. `first` is the first time of the packets before them, if there is one.
+-- The first known time of the packets so far, these packets included. `first` is the first known time of the packets before these packets.
 abbrev pub first_time : Option PacketTime → List FilePacket → Option PacketTime
 first_time first [] = first
 first_time first (packet ∷ packets) = first_time (option_or first (packet_time packet)) packets
@@ -55,40 +55,42 @@ pub record WritesPackets (reader last : CaptureReader) (parts : Parts) (first : 
   pub counted : CountsEach parts.choice before packets after
   pub is_text : IsPacketsText parts 1 first packets text
 
--- the report of a capture with an accepted beginning; times are shown since the first packet of this capture
+-- the report of a capture with an accepted beginning; times are counted from the first packet of this capture that has a time
 pub record WritesCapture (parts : Parts) (left still_left : Option (List ℕ)) (ended : Result Reached CaptureError) (before after : SummaryTables) (last : CaptureReader) (text : List ℕ) : Type 0 where
   pub reader : CaptureReader
   pub after_beginning : Option (List ℕ)
   pub begins : BeginsInput max_packet_len reader left after_beginning
   pub writes : WritesPackets reader last parts None after_beginning still_left ended before after text
 
--- The report of a capture: the counts after it, the reader after its packets, and its text. If the beginning of the capture is refused,
--- nothing is counted, there is no reader, and the text is empty.
+-- The report of a capture: the counts after it, the reader after its packets, and its text. If the beginning of the capture is refused or
+-- can't be read, nothing is counted, there is no reader, and the text is empty.
 abbrev pub IsCaptureReport : Parts → Option (List ℕ) → Option (List ℕ) → Result Reached CaptureError → SummaryTables → SummaryTables → Option CaptureReader → List ℕ → Type 0
 IsCaptureReport parts left still_left ended before after None text = RejectsBeginning left ended × (after ≡ before) × (text ≡ [])
 IsCaptureReport parts left still_left ended before after (Some last) text = WritesCapture parts left still_left ended before after last text
 
--- A packet with these counts has a line. Each counted packet has one, or only each packet whose checksum is wrong or which is refused.
+-- At least one of the counted packets has a line. Lines are written for all counted packets, for packets with a wrong checksum and refused
+-- packets, or for no packets.
 abbrev pub has_packet_line : Lines → SummaryTables → Bool
 has_packet_line lines.All tables = nat_lt 0 tables.packets
 has_packet_line lines.Wrong tables = has_fault tables
 has_packet_line lines.None tables = false
 
--- lines of packets are requested, and several captures were read, so that headings were written
+-- lines of packets are requested, and several captures were read; then headings were written
 abbrev pub has_headings : Lines → Option CaptureReader → Bool
 has_headings lines.All capture = is_none capture
 has_headings lines.Wrong capture = is_none capture
 has_headings lines.None capture = false
 
--- The empty line before the summary. It is left out if nothing was written before: no packet has a line, and there are no headings.
+-- the empty line before the summary; it is left out unless a packet has a line, or `has_headings` is true
 abbrev pub empty_line : Lines → Option CaptureReader → SummaryTables → List ℕ
 empty_line lines capture tables = if has_packet_line lines tables || has_headings lines capture then codes "\n" else []
 
--- The summary in a format. As text it consists of the facts of the capture and the tables, after the empty line. As JSON it is an object.
+-- The summary in a format. As text it consists of the empty line, the facts about the capture if only one was read, and the tables. As JSON
+-- it is an object.
 abbrev pub summary_in : Format → Lines → ℕ → Option CaptureReader → SummaryTables → List ℕ
 summary_in formats.Text lines top capture tables = empty_line lines capture tables ++ (facts_text capture ++ summary_text top tables)
 summary_in formats.Json lines top capture tables = json_summary capture top tables
 
--- the end of a report: the summary in the requested format if a summary is requested, and nothing otherwise
+-- the end of a report: the summary in the requested format; the text is empty if no summary is requested
 abbrev pub end_text : Parts → Option CaptureReader → SummaryTables → List ℕ
 end_text parts capture tables = if parts.summary then summary_in parts.format parts.lines parts.top capture tables else []

@@ -12,7 +12,7 @@ use Rattle.capture_request.specs.declared.parts.Format.TheVariants as formats
 use Rattle.capture_request.specs.declared.parts.Parts.{Parts}
 use Rattle.capture_words.specs.declared.times.Times.{Times}
 
--- The line of a packet in a format. Only a verbose line of text contains the details. Each line of JSON contains them.
+-- The line of a packet in a format. A line of text contains the details only if it is verbose. A line of JSON always contains them.
 abbrev pub IsLineIn : Format → Times → Bool → ℕ → Option PacketTime → CaptureInfo → Packet → List ℕ → Type 0
 IsLineIn formats.Text times verbose number first info packet line = IsLine times verbose number first info.time info.len packet line
 IsLineIn formats.Json times verbose number first info packet line = IsJsonLine times number first info.time info.len packet line
@@ -28,7 +28,7 @@ IsTextOf parts number first info packet text =
     (IsChosen parts.choice packet × IsTextOfChosen parts number first info packet text)
     ⊎ ((IsChosen parts.choice packet → ⊥) × (text ≡ []))
 
--- the text of some packet for which `IsPacket` holds
+-- `IsPacket` holds for this packet, and this is the text of the packet
 pub record IsTextOfOne (IsPacket : Packet → Type 0) (parts : Parts) (number : ℕ) (first : Option PacketTime) (info : CaptureInfo) (text : List ℕ) : Type 0 where
   pub packet : Packet
   pub is_packet : IsPacket packet

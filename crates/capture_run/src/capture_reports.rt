@@ -27,19 +27,19 @@ use std::hash::RandomState;
 use std::io;
 use std::io::{Read, Write};
 
-/// What is kept from one capture to the next.
+/// The state of a run between two captures.
 #[derive(Drop)]
 pub(crate) struct CaptureReports {
     parts: Parts,
     summary: Summary,
     /// The greatest exit status of the reports so far.
     status: ExitStatus,
-    /// Whether the beginning of every capture so far was refused, or no capture was read.
+    /// True until the beginning of a capture is accepted.
     is_empty: bool,
-    /// The reader of the only capture whose beginning was accepted, after its packets. `None` if no beginning was accepted, or several
-    /// were.
+    /// The reader of the only capture whose beginning was accepted, after the packets were read. `None` if no beginning or several
+    /// beginnings were accepted.
     capture: Option<CaptureReader>,
-    /// The last failure to write the line of an error.
+    /// The last failure to write the line of an error, if writing a line failed.
     unwritten: Option<io::Error>,
 }
 
@@ -65,8 +65,8 @@ impl CaptureReports {
     }
 
     /// Reads a capture, and adds its chosen packets to the counts of the captures before it. Writes the line of each chosen packet that has
-    /// a line. In each capture the first packet has number 1, and times are counted from the first packet that has a time. Both do not
-    /// depend on which packets are chosen.
+    /// a line. In each capture the first packet has number 1, and times are counted from the first packet that has a time. Packets that are
+    /// not chosen have a number too, and can be the first packet.
     ///
     /// The inner error is the reason why the capture is refused, or why no further packet can be read. Packets before the error are
     /// counted, and another capture can follow.
@@ -123,7 +123,8 @@ impl CaptureReports {
         &self.parts
     }
 
-    /// Whether the number of counted packets has reached the requested number. Then no further capture is read.
+    /// Whether the number of counted packets has reached the requested number. Then no further capture is read. `false` if no number is
+    /// requested.
     pub fn is_full(&self) -> bool
         ensures { result ≡ is_full self.now.parts.limit self.now.summary.packets }
     {
@@ -140,7 +141,7 @@ impl CaptureReports {
         }
     }
 
-    /// Notes the result of writing the line of an error. A failure is kept until the end of the run.
+    /// Notes the result of writing the line of an error. The last failure is kept until the end of the run.
     pub fn after_line(self, written: io::Result<()>) -> CaptureReports
         ensures progress { progress_of result ≡ progress_of self }
         ensures parts { result.parts ≡ self.parts }
@@ -162,9 +163,9 @@ impl CaptureReports {
         self.unwritten
     }
 
-    /// Writes the summary of all captures, if a summary is requested and the beginning of a capture was accepted. Returns the exit status.
-    /// It is `Fault` if a check is requested, and a packet has a wrong checksum or was refused. Otherwise it is the greatest status of the
-    /// reports.
+    /// Writes the summary of all captures, if a summary is requested and the beginning of a capture was accepted. Then it flushes the
+    /// output and returns the exit status. It is `Fault` if a check is requested, and a packet has a wrong checksum or was refused.
+    /// Otherwise it is the greatest status of the reports.
     ///
     /// # Errors
     ///
@@ -208,8 +209,8 @@ impl CaptureReports {
         }
     }
 
-    /// The exit status of the run. It is `Fault` if a check is requested and finds a fault. Otherwise it is the greatest status of the
-    /// reports.
+    /// The exit status of the run. It is `Fault` if a check is requested, and a packet has a wrong checksum or was refused. Otherwise it is
+    /// the greatest status of the reports.
     fn final_status(&self) -> ExitStatus
         ensures { result ≡ final_status self.now.parts.check self.now.status self.now.summary }
     {
@@ -220,7 +221,8 @@ impl CaptureReports {
     }
 }
 
-/// Writes the facts of the capture and the tables. If lines of packets or headings were written, an empty line comes first.
+/// Writes the facts about the capture, if only one was read, and then the tables. `write_empty_line` decides whether an empty line comes
+/// first.
 fn write_text_summary<W: Write>(
     output: &mut W,
     lines: Lines,
@@ -235,7 +237,7 @@ fn write_text_summary<W: Write>(
     Ok(write_facts_and_tables(output, capture, summary, busiest)?)
 }
 
-/// Writes the facts about the capture, and then the tables.
+/// Writes the facts about the capture, if only one was read, and then the tables.
 fn write_facts_and_tables<W: Write>(
     output: &mut W,
     capture: &Option<CaptureReader>,
@@ -248,7 +250,7 @@ fn write_facts_and_tables<W: Write>(
     write_summary(output, summary, busiest)
 }
 
-/// Writes the empty line before the summary, unless nothing was written before.
+/// Writes the empty line before the summary, if a packet has a line, or if `has_headings` is true.
 fn write_empty_line<W: Write>(
     output: &mut W,
     lines: Lines,
@@ -263,7 +265,7 @@ fn write_empty_line<W: Write>(
     Ok(())
 }
 
-/// Whether a packet with these counts has a line.
+/// Whether at least one of the counted packets has a line.
 fn has_packet_line(lines: Lines, summary: &Summary) -> bool
     ensures { result ≡ has_packet_line lines summary.now }
 {
@@ -274,7 +276,8 @@ fn has_packet_line(lines: Lines, summary: &Summary) -> bool
     }
 }
 
-/// Whether headings were written. `capture` is the reader of the only capture that was read, if only one was.
+/// Whether lines of packets are requested, and several captures were read. Then headings were written. `capture` is the reader of the
+/// capture, if only one was read.
 fn has_headings(lines: Lines, capture: &Option<CaptureReader>) -> bool
     ensures { result ≡ has_headings lines capture.now }
 {
@@ -292,8 +295,9 @@ fn greater(status: ExitStatus, other: ExitStatus) -> ExitStatus
     }
 }
 
-/// Returns the reader that is kept for the summary after another capture. `capture` was kept before it. `reader` is the reader of the new
-/// capture, or `None` if its beginning was refused.
+/// Returns the reader of the only capture whose beginning was accepted, or `None` if no beginning or several beginnings were accepted.
+/// `capture` is this reader before the new capture. `reader` is the reader of the new capture, or `None` if its beginning was not accepted.
+/// `is_empty` is true if no beginning was accepted before.
 fn only_capture(
     is_empty: bool,
     capture: Option<CaptureReader>,
@@ -308,7 +312,7 @@ fn only_capture(
     }
 }
 
-/// Whether the report ended before the first record.
+/// Whether the report of a capture ended within the beginning of the capture.
 fn ends_at_header(ended: &Result<Reached, CaptureError>) -> bool
     ensures { IsTrue result ↔ EndsAtHeader ended.now }
 {

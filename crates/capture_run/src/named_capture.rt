@@ -1,4 +1,4 @@
-/// A capture of a run.
+/// A capture that a run reads.
 #[derive(Drop)]
 pub(crate) struct NamedCapture<'a> {
     /// How many captures are named. It is 0 if standard input is read without a name.

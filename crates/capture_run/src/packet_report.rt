@@ -19,7 +19,7 @@ use capture_text::write_packet_line;
 use std::alloc::Global;
 use std::io::Write;
 
-/// What is kept from one packet to the next.
+/// The state of a report between two packets.
 #[derive(Drop)]
 pub struct PacketReport {
     alloc: Global,
@@ -43,7 +43,7 @@ impl PacketReport {
         }
     }
 
-    /// Begins a new capture. The times in its lines are counted from its first packet.
+    /// Begins a new capture. Times since the first packet are counted from the first packet of this capture that has a time.
     pub fn start_capture(&mut self)
         ensures { self.new ≡ record self.old { first = None } }
     {
@@ -57,7 +57,7 @@ impl PacketReport {
         &self.summary
     }
 
-    /// Whether the number of counted packets has reached the requested number.
+    /// Whether the number of counted packets has reached the requested number. `false` if no number is requested.
     pub fn is_full(&self) -> bool
         ensures { result ≡ is_full self.now.parts.limit self.now.summary.packets }
     {
@@ -71,8 +71,8 @@ impl PacketReport {
         self.summary
     }
 
-    /// Counts the packet in this frame if it is chosen, and writes its line if it has one. `number` is the number of the packet in the
-    /// capture.
+    /// Counts the packet in this frame if it is chosen, and then writes its line if it has a line. `number` is the number of the packet in
+    /// the capture.
     pub fn add<W: Write>(
         &mut self,
         output: &mut W,
@@ -94,7 +94,8 @@ impl PacketReport {
         self.add_packet(output, number, &captured_info(captured), &packet)
     }
 
-    /// Counts a packet that is longer than the buffer, if it is chosen, and writes its line if it has one. Its checksum is not tested.
+    /// A packet that is longer than the buffer is counted if it is chosen. Then its line is written if it has a line. The checksum of this
+    /// packet is not tested.
     pub fn add_too_long<W: Write>(
         &mut self,
         output: &mut W,
@@ -115,7 +116,7 @@ impl PacketReport {
         self.add_packet(output, number, &too_long_info(captured), &packet)
     }
 
-    /// Counts a packet if it is chosen, and writes its line if it has one.
+    /// Counts a packet if it is chosen, and then writes its line if it has a line.
     fn add_packet<W: Write>(
         &mut self,
         output: &mut W,
@@ -145,7 +146,7 @@ impl PacketReport {
         self.write_if_included(output, &placed, packet)
     }
 
-    /// Writes the line of a packet, if it has one.
+    /// Writes the line of a chosen packet, if the packet has a line.
     fn write_if_included<W: Write>(
         &self,
         output: &mut W,
@@ -180,7 +181,7 @@ impl PacketReport {
     }
 }
 
-/// Whether the number of counted packets has reached this limit. `false` without a limit.
+/// Whether the number of counted packets has reached this limit. `false` if there is no limit.
 pub(crate) fn is_full(limit: Option<u64>, summary: &Summary) -> bool
     ensures { result ≡ is_full limit summary.now.packets }
 {
@@ -190,7 +191,7 @@ pub(crate) fn is_full(limit: Option<u64>, summary: &Summary) -> bool
     }
 }
 
-/// Counts a packet.
+/// Counts a packet by its protocol, its verdict, its flow, and what the capture states about it.
 fn count(summary: &mut Summary, info: &CaptureInfo, packet: &Packet<'_>) -> Result<(), WriteError>
     requires room { summary.old.packets < 2 ^ 64 - 1 }
     ensures counted { OnOk result (CountsRead packet.now info.now summary.old summary.new) }

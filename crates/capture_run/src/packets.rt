@@ -17,8 +17,8 @@ use capture_file::reader::{CaptureReader, NextPacket};
 use std::io::{Read, Write};
 
 /// Reads a capture and counts its chosen packets. Writes the line of each chosen packet that has a line. The inner error is the reason why
-/// the capture is refused, or why no further packet can be read. After the last requested packet no byte is read. If the beginning of the
-/// capture is accepted, `capture` becomes the reader after the packets.
+/// the capture is refused, or why no further packet can be read. After the last requested packet no byte is read. `capture` becomes the
+/// reader after the packets, or `None` if the beginning of the capture is not accepted.
 pub(crate) fn report_packets<R: Read, W: Write>(
     packets: &mut PacketReport,
     capture: &mut Option<CaptureReader>,
@@ -57,10 +57,11 @@ fn read_header<R: Read>(input: &mut R, buffer: &mut [u8]) -> Result<CaptureReade
     }
 }
 
-/// Counts each chosen packet, and writes its line if it has one. Returns how far the capture was read. The
-/// inner error is the reason why no further packet can be read. After an outer error nothing more can be written or counted.
+/// Counts each chosen packet, and writes the line of each chosen packet that has a line. Returns how far the capture was read. The inner
+/// error is the reason why no further packet can be read. After an outer error nothing more can be written or counted.
 ///
-/// If a capture was truncated, only the packets whose record or block ends at or before the cut are counted, in both file formats.
+/// If a capture file was truncated, only packets whose record or block ends at or before the cut are counted. This holds for both file
+/// formats.
 fn report_each_packet<R: Read, W: Write>(
     packets: &mut PacketReport,
     reader: &mut CaptureReader,
@@ -95,8 +96,8 @@ fn report_each_packet<R: Read, W: Write>(
     Ok(Err(CaptureError::TooManyPackets))
 }
 
-/// Counts the next packet if it is chosen, and writes its line if it has one. Returns `None` after a packet. Otherwise the result states
-/// how the report of the capture ends.
+/// Reads the next packet, counts it if it is chosen, and then writes its line if it has a line. Returns `None` if a packet was read.
+/// Otherwise the result states how the report of the capture ends.
 fn report_next<R: Read, W: Write>(
     input: &mut R,
     output: &mut W,

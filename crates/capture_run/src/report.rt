@@ -24,13 +24,13 @@ use std::io::Write;
 
 /// Reports the captures of `sources` in their order. Then it writes the summary of all captures, and returns the exit status. `state`
 /// provides the keys for hashing flows. With random keys, no capture can be crafted to slow down the search for a flow. Packets are read
-/// into `buffer`. A longer packet is counted, but not read.
+/// into `buffer`. A packet that is longer than the buffer is not read. It is counted if it is chosen.
 ///
 /// If a number of packets is requested, the run ends after the last requested packet, and reads no further capture.
 ///
 /// If a capture can't be opened, or can't be read to its end, a line with its name and the error is written to `outputs.errors`. Then the
-/// next capture follows. The exit status is the greatest status of all captures. If a check is requested, and a packet has a wrong checksum
-/// or was refused, the status is `Fault`. This holds even if a capture can't be opened or can't be read to its end.
+/// next capture follows. The exit status is `Fault` if a check is requested, and a packet has a wrong checksum or was refused. This holds
+/// even if a capture can't be opened or can't be read to its end. Otherwise the exit status is the greatest status of all captures.
 ///
 /// # Errors
 ///
@@ -89,7 +89,7 @@ fn report_captures<O: Open, W: Write, E: Write>(
     }
 }
 
-/// Reports each of these captures, with a heading before its packets.
+/// Reports each of these captures, in their order.
 fn report_each_capture<O: Open, W: Write, E: Write>(
     sources: &Sources<'_, O>,
     reports: CaptureReports,
@@ -118,7 +118,8 @@ fn report_each_capture<O: Open, W: Write, E: Write>(
     Ok(reports)
 }
 
-/// Reports a capture, with a heading before its packets. The capture is skipped if the requested number of packets was counted before.
+/// Reports a capture. A heading precedes its packets if several captures are named and packets may have lines. The capture is skipped if
+/// the requested number of packets was already counted.
 fn report_headed<O: Open, W: Write, E: Write>(
     capture: &NamedCapture<'_>,
     opener: &O,
@@ -152,7 +153,7 @@ fn line_name<'a>(count: usize, name: &'a str) -> Option<&'a str>
     Some(name)
 }
 
-/// Reports a capture without its heading.
+/// Reports a capture without its heading, and writes the line of its error if there is an error.
 fn report_capture<O: Open, W: Write, E: Write>(
     capture: &NamedCapture<'_>,
     opener: &O,

@@ -1,5 +1,5 @@
--- The blocks of a pcapng file as parts (draft-ietf-opsawg-pcapng, section 3.1). The state is the report's reader, which has a section and
--- an offset, and the number of the next packet.
+-- The blocks of a pcapng file as parts (draft-ietf-opsawg-pcapng, section 3.1). The state consists of the report's reader and the number of
+-- the next packet. The reader contains the section and the offset of the next block.
 use Rattle.std.specs.Prelude.{◌≡◌, ◌≢◌, ◌<◌, ◌≤◌, ℕ, false, if◌then◌else◌, List, [], ◌+◌, ◌++◌, drop, length, replicate, take, Option, Some, None, Result, Ok, Err}
 use Rattle.capture_file.specs.CapturePackets.{FilePacket, packet_in}
 use Rattle.capture_file.specs.Pcapng.{block_header, block_refusal, is_section_header}
@@ -32,21 +32,22 @@ use Rattle.capture_selection.specs.declared.place.Place.{Place}
 use Rattle.capture_selection.specs.declared.selection_error.SelectionError.{SelectionError}
 use Rattle.capture_selection.specs.declared.selection_error.SelectionError.TheVariants.{Capture}
 
--- The outcome of a block that gives this next item. It is the outcome of the packet in the block, which is read as the report reads it. A
--- block without a packet gives no item, and has no outcome.
+-- The outcome of a block for which the reader returns this item. It is the outcome of the packet in the block, which is read as the report
+-- reads it. If the block contains no packet, the reader returns no item, and the block has no outcome.
 abbrev pub HasBlockOutcome : Parts → List ℕ → Option NextPacket → Option Outcome → Type 0
 HasBlockOutcome options buffer None outcome = outcome ≡ None
 HasBlockOutcome options buffer (Some next) outcome =
     (packet : FilePacket) × (packet_in buffer next ≡ Some packet) × HasOutcome options (IsPacketOf packet) outcome
 
--- The reader reads this block. `after` is the reader after the block, and `next` is the item that the block gives, if it gives one.
+-- The reader reads this block. `after` is the reader after the block, and `next` is the item that the reader returns for the block, if
+-- there is one.
 pub record StepsOver (before : PcapngReader) (bytes : List ℕ) (after : PcapngReader) (buffer : List ℕ) (next : Option NextPacket) : Type 0 where
   pub has_room : length buffer ≡ max_packet_len
   pub block : NextBlock
   pub is_next : IsNextBlock before.section.byte_order bytes buffer block
   pub is_step : IsStep before buffer block after next
 
--- a whole block, with the outcome of its packet; without a packet it has no outcome
+-- a whole block, with the outcome of its packet, or with no outcome if it contains no packet
 pub record IsBlockPart (options : Parts) (before : PcapngReader) (bytes : List ℕ) (outcome : Option Outcome) (after : PcapngReader) : Type 0 where
   pub buffer : List ℕ
   pub next : Option NextPacket
@@ -79,19 +80,20 @@ number_after number (Some outcome) = one_more number
 abbrev pub block_place : Blocks → Place
 block_place blocks = record { number = blocks.number; offset = blocks.reader.offset }
 
--- the place of the length of the section in a section header block, and the place of the options after it (section 4.1)
+-- the offset of the field for the section's length, in a section header block (section 4.1)
 abbrev pub section_len_at : ℕ
 section_len_at = 16
 
+-- the offset of the options in a section header block (section 4.1)
 abbrev pub section_options_at : ℕ
 section_options_at = body_at + section_header_len
 
--- the length -1 in eight bytes, which means that the length of the section is not specified (section 4.1)
+-- the number -1 in eight bytes, which means that the length of the section is not specified (section 4.1)
 abbrev pub not_specified : List ℕ
 not_specified = replicate 8 255
 
--- What is written for a block. The length of a section changes if a block is left out. So the copy of a section header block has a length
--- that is not specified. Every other block is its own copy.
+-- What is written for a block. If a block is left out, the length of its section changes. So the copy of a section header block does not
+-- specify a length. The copy of every other block is the block itself.
 abbrev pub block_copy : List ℕ → List ℕ
 block_copy block = if is_section_header block then take section_len_at block ++ (not_specified ++ drop section_options_at block) else block
 
@@ -108,6 +110,7 @@ block_selection options = record {
   copy_of = block_copy;
 }
 
+-- the format of pcapng files from which packets are selected with these options
 abbrev pub blocks_of : Parts → Format
 blocks_of options = format_of (block_selection options)
 
@@ -120,7 +123,8 @@ pub record IsFileStart (blocks : Blocks) : Type 0 where
 
 -- ---- the first block
 
--- the error as the report states it, if the first block of a file caused it: an error of the header
+-- The error in the form of the report, if the first block of a file causes the error. A refused or incomplete first block is an error of
+-- the header. Other errors are unchanged.
 abbrev pub at_beginning : SelectionError → SelectionError
 at_beginning (Capture (RecordCutOff number offset required len)) = Capture (Header (Pcapng (errors.Block (CutOff required len))))
 at_beginning (Capture (Refused error)) = Capture (Header (Pcapng error.error))
@@ -133,14 +137,14 @@ pub record RefusesFirst (options : Parts) (start : Blocks) (error : PacketError)
   pub is : at_beginning given ≡ Capture (Header (Pcapng error))
   pub stops : StopsBy (blocks_of options) given start left still_left held now_held counts now_counts
 
--- if the error refuses a block, this block is not the first block of the file
+-- if the error is a block that is refused or cut off, this block is not the first block of the file
 abbrev pub IsPastFirst : {A : Type 0} → Result A SelectionError → Type 0
 IsPastFirst (Err (Capture (RecordCutOff number offset required len))) = 1 ≤ offset
 IsPastFirst (Err (Capture (Refused error))) = 1 ≤ error.offset
 IsPastFirst other = Unit {0}
 
--- What was read and written of a file, from its start up to this result. If the first block is refused, the result is an error of the
--- header.
+-- What was read from a file and written, from the start of the file up to this result. If the first block is refused, the result is an
+-- error of the header.
 abbrev pub PassesFile : Parts → Result Reached SelectionError → Blocks → Blocks → Option (List ℕ) → Option (List ℕ) → Option (List ℕ)
     → Option (List ℕ) → Counts → Counts → Type 0
 PassesFile options (Err (Capture (Header (Pcapng error)))) start after left still_left held now_held counts now_counts =
@@ -150,7 +154,7 @@ PassesFile options result start after left still_left held now_held counts now_c
 
 -- ---- results
 
--- the error of the selection for bytes at this place that are refused as a block
+-- the error of the selection if the block at this place is malformed or cut off
 abbrev pub refused_by : Place → BlockError → SelectionError
 refused_by place (CutOff required len) = Capture (RecordCutOff place.number place.offset required len)
 refused_by place error = Capture (Refused (record { offset = place.offset; error = errors.Block error }))

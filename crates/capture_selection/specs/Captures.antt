@@ -15,7 +15,7 @@ use Rattle.capture_selection.specs.declared.counts.Counts.{Counts}
 use Rattle.capture_selection.specs.declared.selection_error.SelectionError.{SelectionError}
 use Rattle.capture_selection.specs.declared.selection_error.SelectionError.TheVariants.{Capture, Write}
 
--- the selection of a classic capture: its header was written as it was read, and then its records were passed
+-- the selection of a classic capture up to this result: its header was copied, and then its records were copied or left out
 abbrev pub SelectsRecords : Parts → Result Reached SelectionError → Option (List ℕ) → Option (List ℕ) → Option (List ℕ) → Option (List ℕ)
     → Counts → Counts → Type 0
 SelectsRecords options result left still_left held now_held counts now_counts =
@@ -25,8 +25,8 @@ SelectsRecords options result left still_left held now_held counts now_counts =
 abbrev pub SelectsNothing : Option (List ℕ) → Option (List ℕ) → Counts → Counts → Type 0
 SelectsNothing held now_held counts now_counts = (now_held ≡ held) × (now_counts ≡ counts)
 
--- The selection of a pcapng file, whose first bytes are the type of a section header block: its blocks were passed. If the requested number
--- of packets was reached before the file, nothing was written.
+-- The selection of a pcapng file up to this result: its blocks were copied or left out. The file begins with the type of a section header
+-- block. If the requested number of packets was reached before the file, nothing was written.
 abbrev pub SelectsBlocks : Parts → Result Reached SelectionError → Option (List ℕ) → Option (List ℕ) → Option (List ℕ) → Option (List ℕ)
     → Counts → Counts → Type 0
 SelectsBlocks options result left still_left held now_held counts now_counts =
@@ -35,8 +35,8 @@ SelectsBlocks options result left still_left held now_held counts now_counts =
     × PassesFile options result start after left still_left held now_held counts now_counts)
     ⊎ ((is_full options.limit counts.chosen ≡ true) × SelectsNothing held now_held counts now_counts × (result ≡ Ok Limit)))
 
--- The selection of a capture. If the header of a classic capture is refused or can't be read, nothing was written. The header of a pcapng
--- file is not refused as the header of a classic capture. If a write failed, nothing is known.
+-- The selection of a capture up to this result. If the header of a classic capture is refused or can't be read, nothing was written. A
+-- pcapng file does not cause an error for the header of a classic capture. If a write failed, nothing is stated.
 abbrev pub SelectsCapture : Parts → Result Reached SelectionError → Option (List ℕ) → Option (List ℕ) → Option (List ℕ) → Option (List ℕ)
     → Counts → Counts → Type 0
 SelectsCapture options (Err (Capture (Header (Classic error)))) left still_left held now_held counts now_counts =

@@ -1,4 +1,4 @@
--- The outcomes of the packets of a capture, and how many packets have them.
+-- The outcomes of the packets of a capture, and the counts of packets.
 use Rattle.std.specs.Prelude.{◌≡◌, true, false, Option, Some}
 use Rattle.capture_copy.specs.Passing.{one_more}
 use Rattle.capture_packet.specs.declared.packet.Packet.{Packet}
@@ -9,7 +9,8 @@ use Rattle.capture_selection.specs.declared.counts.Counts.{Counts}
 use Rattle.capture_selection.specs.declared.outcome.Outcome.{Outcome}
 use Rattle.capture_selection.specs.declared.outcome.Outcome.TheVariants.{Excluded, Unlisted, Written}
 
--- The outcome of a packet with these options: `Written` if it is chosen and has a line in the report.
+-- The outcome of a packet with these options. `Excluded` means that the packet is not chosen. A chosen packet is `Written` if it has a line
+-- in the report, and otherwise `Unlisted`.
 abbrev pub IsOutcomeOf : Parts → Packet → Outcome → Type 0
 IsOutcomeOf options packet Excluded = IsChosen options.choice packet → ⊥
 IsOutcomeOf options packet Unlisted = IsChosen options.choice packet × (has_line options.lines packet.verdict ≡ false)
@@ -23,7 +24,7 @@ pub record HasOutcome (options : Parts) (IsPacket : Packet → Type 0) (outcome 
   pub is_outcome : IsOutcomeOf options packet given
   pub has : outcome ≡ Some given
 
--- the counts after a packet with this outcome: each packet was read, and a written packet is also a chosen packet
+-- the counts after a packet with this outcome: each packet counts as read, and a written packet also counts as chosen
 abbrev pub counted : Counts → Outcome → Counts
 counted counts Excluded = record counts { read = one_more counts.read }
 counted counts Unlisted = record counts { read = one_more counts.read; chosen = one_more counts.chosen }

@@ -1,4 +1,4 @@
--- What is read and written by a selection, part by part. A part is a record of a classic capture or a block of a pcapng file.
+-- What a selection reads and writes, part by part. A part is a record of a classic capture or a block of a pcapng file.
 use Rattle.std.specs.Prelude.{◌≡◌, ◌++◌, ◌⊎◌, ℕ, List, [], length, ⊤, Option, Some, None, Result, Ok, Err}
 use Rattle.std.specs.Io.KnownBytes.{Appends, Consumes, IsAtEnd}
 use Rattle.capture_copy.specs.Copies.{Copies}
@@ -23,7 +23,7 @@ use Rattle.capture_selection.specs.declared.selection_error.SelectionError.TheVa
 abbrev pub Part : Type 0
 Part = copier.Part Outcome
 
--- what is written for these bytes: the same bytes, or nothing if they contain a packet that is left out
+-- what is written for a part with these bytes and this outcome: the bytes, or nothing if the packet in the part is left out
 abbrev pub written_by : List ℕ → Option Outcome → List ℕ
 written_by bytes None = bytes
 written_by bytes (Some Written) = bytes
@@ -33,24 +33,25 @@ written_by bytes (Some Excluded) = []
 -- A format of captures from which packets are selected. Each part changes the state. For example, a block of a pcapng file can begin a
 -- section or describe an interface.
 pub record Selection : Type 1 where
-  -- what the parts so far state about the next part
+  -- what the previous parts determine about the next part
   pub State : Type 0
   -- the place of the next part: the number of the next packet, and the number of bytes before the part
   pub place_of : State → Place
-  -- the bytes are one record or block with this outcome, which leads from the first state to the second
+  -- the bytes are one record or block with this outcome; it changes the first state to the second state
   pub IsPart : State → List ℕ → Option Outcome → State → Type 0
   -- these bytes begin a part that does not fit in the buffer, and that may be written
   pub IsLong : State → List ℕ → Type 0
-  -- the capture ends with these bytes, within a part; the numbers are the least length of the part, and the number of bytes
+  -- the capture ends within a part that begins with these bytes; the numbers are the required length of the part and the number of bytes
+  -- present
   pub IsCut : State → List ℕ → ℕ → ℕ → Type 0
   -- the part that begins with these bytes is refused
   pub IsRefused : State → List ℕ → PlacedPacketError → Type 0
-  -- what is written for a part with these bytes, unless its packet is left out
+  -- what is written for a part with these bytes if its packet is not left out
   pub copy_of : List ℕ → List ℕ
 
 -- ---- errors
 
--- this number and this offset are those of the place
+-- the place has this number and this offset
 abbrev pub IsAt : Place → ℕ → ℕ → Type 0
 IsAt place number offset = (number ≡ place.number) × (offset ≡ place.offset)
 
@@ -69,7 +70,7 @@ abbrev pub IsWriteError : SelectionError → Type 0
 IsWriteError (Write error) = ⊤
 IsWriteError (Capture error) = ⊥
 
--- This error occurred in a part after its first bytes. If the error contains a place, it is the place of the part.
+-- This error occurred after the first bytes of a part. If the error contains a place, it is the place of the part.
 abbrev pub IsEndBy : (selection : Selection) → selection.State → List ℕ → SelectionError → Type 0
 IsEndBy selection state bytes (Capture (RecordCutOff number offset required len)) =
     IsAt (selection.place_of state) number offset × selection.IsCut state bytes required len
@@ -84,22 +85,21 @@ IsEndBy selection state bytes (Write error) = ⊥
 abbrev pub IsFront : List ℕ → List ℕ → Type 0
 IsFront front bytes = (more : List ℕ) × (bytes ≡ front ++ more)
 
--- An error occurred in a part after its first bytes, and no packet was counted. Nothing was written for this part, unless the buffer has no room
--- for it. Then some of its first bytes may have been written.
+-- An error occurred after the first bytes of a part, and no packet was counted. If the part fits in the buffer, nothing was written for it.
+-- Otherwise some of its first bytes may have been written.
 abbrev pub IsEnd : (selection : Selection) → selection.State → Part → SelectionError → Type 0
 IsEnd selection state part error =
     (part.outcome ≡ None) × ((part.written ≡ []) ⊎ (selection.IsLong state part.read × IsFront part.written part.read))
     × IsEndBy selection state part.read error
 
--- `then_left` is what the input had left after the bytes of the part, and `still_left` is what it has left after this error. They are
--- equal, unless reading failed. A part is cut off only at the end of the input.
+-- `then_left` is what the input had left after the bytes of the part, and `still_left` is what it has left after this error. They are equal
+-- if a part is refused or cut off. A part is cut off only at the end of the input. Nothing is stated for other errors.
 abbrev pub LeavesAt : SelectionError → Option (List ℕ) → Option (List ℕ) → Type 0
 LeavesAt (Capture (RecordCutOff number offset required len)) then_left still_left = IsAtEnd still_left × (then_left ≡ still_left)
 LeavesAt (Capture (Refused error)) then_left still_left = then_left ≡ still_left
 LeavesAt error then_left still_left = ⊤
 
--- the format of a capture that consists of these parts and ends like this; what is written for a part is its copy, unless its packet is
--- left out
+-- The format of the captures from which packets are selected. What is written for a part is its copy, or nothing if its packet is left out.
 abbrev pub format_of : Selection → Format
 format_of selection = record {
   State = selection.State;
@@ -115,8 +115,8 @@ format_of selection = record {
   max_parts = max_packets;
 }
 
--- A selection reached its limit exactly if as many packets were chosen as are requested. Nothing is stated of a capture whose beginning is
--- refused, of a write that failed, or of too many packets.
+-- If the result states that the limit was reached, the requested number of packets was chosen. Otherwise fewer packets were chosen. Nothing
+-- is stated about errors of the header, about failed writes, or about too many packets.
 abbrev pub EndsAtLimit : Option ℕ → ℕ → Result Reached SelectionError → Type 0
 EndsAtLimit limit chosen (Ok reached) = EndsByLimit limit chosen (Ok reached)
 EndsAtLimit limit chosen (Err (Capture error)) = EndsByLimit limit chosen (Err error)
@@ -124,22 +124,23 @@ EndsAtLimit limit chosen (Err (Write error)) = ⊤
 
 -- ---- bytes that are copied by pieces
 
--- This number of bytes was copied. After an error in the part at this place, an unknown number of bytes was copied before.
+-- The result is the number of bytes that were copied. If reading failed in the part at this place, an unknown number of bytes was copied
+-- before. If writing failed, nothing is stated.
 abbrev pub CopiesUpTo : Place → Result ℕ SelectionError → Option (List ℕ) → Option (List ℕ) → Option (List ℕ) → Option (List ℕ) → Type 0
 CopiesUpTo place (Ok len) left still_left held now_held = Copies left still_left held now_held len
 CopiesUpTo place (Err error) left still_left held now_held =
     IsWriteError error ⊎ (IsReadError place error × (len : ℕ) × (then_left : Option (List ℕ)) × Copies left then_left held now_held len)
 
--- The first bytes of a part were already read, and then `len` more bytes were read. All these bytes were written, unless the packet with
--- this outcome is left out.
+-- The first bytes of a part were already read, and then `len` more bytes were read. All these bytes were written, unless the packet is left
+-- out because of its outcome.
 pub record PassesRest (outcome : Option Outcome) (first : List ℕ) (left still_left held now_held : Option (List ℕ)) (len : ℕ) : Type 0 where
   pub bytes : List ℕ
   pub has_len : length bytes ≡ len
   pub consumed : Consumes left still_left bytes
   pub appended : Appends held now_held (written_by (first ++ bytes) outcome)
 
--- This number of bytes was read after the first bytes of the part at this place. After an error, an unknown number of bytes was read and
--- written before.
+-- The result is the number of bytes that were read after the first bytes of a part. If reading failed in the part at this place, an unknown
+-- number of bytes was read and written before. If writing failed, nothing is stated.
 abbrev pub PassesLong : Place → Option Outcome → Result ℕ SelectionError → List ℕ → Option (List ℕ) → Option (List ℕ) → Option (List ℕ) → Option (List ℕ) → Type 0
 PassesLong place outcome (Ok len) first left still_left held now_held = PassesRest outcome first left still_left held now_held len
 PassesLong place outcome (Err error) first left still_left held now_held =

@@ -31,7 +31,7 @@ place_after place len = record { number = one_more place.number; offset = min (p
 abbrev pub records_after : Records → ℕ → Records
 records_after records len = record { header = records.header; place = place_after records.place len }
 
--- the capture after its header: its first record begins after the header
+-- the state before the first record of a capture; the record begins after the header of the capture
 abbrev pub first_records : CaptureHeader → Records
 first_records header = record { header = header; place = record { number = 1; offset = capture_header_len } }
 
@@ -47,5 +47,6 @@ record_selection options = record {
   copy_of = λ bytes. bytes;
 }
 
+-- the format of classic captures from which packets are selected with these options
 abbrev pub records_of : Parts → Format
 records_of options = format_of (record_selection options)

@@ -30,9 +30,10 @@ use std::io::{Read, Write};
 /// The length of the field at the end of a block that repeats its total length, in bytes (section 3.1).
 const LAST_LEN: usize = 4;
 
-/// The place of the section length in a section header block, and of the options after it (section 4.1).
+/// The offset of the section length in a section header block (section 4.1).
 const SECTION_LEN_AT: usize = 16;
 
+/// The offset of the options in a section header block (section 4.1).
 const SECTION_OPTIONS_AT: usize = 24;
 
 /// The section length -1, which means that a section header block does not state the length of its section (section 4.1).
@@ -41,17 +42,19 @@ const NOT_SPECIFIED: [u8; 8] = [0xFF; 8];
 /// The type of an interface description block (section 4.2).
 const INTERFACE_DESCRIPTION: u32 = 1;
 
-/// The types of packet blocks: obsolete (appendix A), simple (section 4.4) and enhanced (section 4.3).
+/// The type of an obsolete packet block (appendix A).
 const OBSOLETE_PACKET: u32 = 2;
 
+/// The type of a simple packet block (section 4.4).
 const SIMPLE_PACKET: u32 = 3;
 
+/// The type of an enhanced packet block (section 4.3).
 const ENHANCED_PACKET: u32 = 6;
 
 /// The state of reading after some blocks of a pcapng file.
 #[derive(Drop)]
 pub(crate) struct Blocks {
-    /// The reader of the report. It contains the section, and the place of the next block.
+    /// The reader of the report. It contains the section and the offset of the next block.
     pub reader: PcapngReader,
     /// The number of the next packet. The first packet of a file is number 1.
     pub number: u64,
@@ -93,8 +96,8 @@ fn number_after(number: u64, outcome: Option<Outcome>) -> u64
     }
 }
 
-/// Writes the blocks of a pcapng file that begins with these bytes, without the blocks of packets that have no line. Returns
-/// how far the file was read.
+/// Reads a pcapng file that begins with these bytes, and writes it without the blocks whose packets have no line. Returns how far the file
+/// was read.
 pub(crate) fn select_blocks<R: Read, W: Write>(
     copier: &mut Copier<'_, R, W>,
     begin: &[u8],
@@ -120,7 +123,8 @@ pub(crate) fn select_blocks<R: Read, W: Write>(
     select_others(copier, file, parts, counts)
 }
 
-/// Writes the blocks of a pcapng file after its first block, without the blocks of packets that have no line.
+/// Reads the blocks of a pcapng file after its first block, and writes each block unless its packet has no line. Returns how far the file
+/// was read.
 fn select_others<R: Read, W: Write>(
     copier: &mut Copier<'_, R, W>,
     file: &mut Blocks,
@@ -168,7 +172,8 @@ fn select_next<R: Read, W: Write>(
     Ok(true)
 }
 
-/// Reads a block after its first bytes, and writes it unless its packet has no line. Returns the outcome of the packet, if there is one.
+/// Reads a block whose first bytes were already read, and writes it unless its packet has no line. Returns the outcome of the packet, if
+/// there is one.
 fn select_block<R: Read, W: Write>(
     copier: &mut Copier<'_, R, W>,
     first: &[u8],
@@ -193,8 +198,8 @@ fn select_block<R: Read, W: Write>(
     }
 }
 
-/// Reads the bytes of a block after its first bytes into the buffer, and writes the block unless its packet has no line.
-/// Returns the outcome of the packet, if there is one.
+/// Reads the rest of a block into the buffer after its first bytes, and writes the block unless its packet has no line. Returns the outcome
+/// of the packet, if there is one.
 fn select_kept_block<R: Read, W: Write>(
     copier: &mut Copier<'_, R, W>,
     first: &[u8],
@@ -237,8 +242,7 @@ fn forget_section_len(block: &mut [u8])
     }
 }
 
-/// The outcome of the block with this header at the front of the buffer, or the error that refuses the block. The state moves past the
-/// block.
+/// The outcome of the block at the front of the buffer, or the error that refuses the block. The reader moves past the block.
 fn taken_outcome(
     buffer: &[u8],
     header: &BlockHeader,
@@ -265,7 +269,7 @@ fn taken_outcome(
     }
 }
 
-/// The outcome of a block that does not fit in the buffer, or the error that refuses the block. The state moves past the block.
+/// The outcome of a block that does not fit in the buffer, or the error that refuses the block. The reader moves past the block.
 fn long_outcome(
     header: &BlockHeader,
     file: &mut PcapngReader,
@@ -291,7 +295,7 @@ fn long_outcome(
     }
 }
 
-/// The outcome that decides whether a block is written. A refused block is not written.
+/// The outcome that decides whether a long block is written. A refused block is not written.
 fn kept_outcome(stepped: &Result<Option<Outcome>, PlacedPacketError>) -> Option<Outcome>
     ensures kept { (outcome : Option Outcome) → stepped.now ≡ Ok outcome → result ≡ outcome }
     ensures refused { OnErr stepped.now (result ≡ Some Excluded) }
@@ -302,8 +306,8 @@ fn kept_outcome(stepped: &Result<Option<Outcome>, PlacedPacketError>) -> Option<
     }
 }
 
-/// Reads the bytes of a block after its first bytes, for which the buffer has no room, and writes the block unless its packet has no line.
-/// If the block is refused, its first bytes may have been written. Returns the outcome of the packet, if there is one.
+/// Reads the rest of a block that does not fit in the buffer, and writes the block unless its packet has no line. If the block is malformed
+/// or cut off, its first bytes may have been written. Returns the outcome of the packet, if there is one.
 fn select_long_block<R: Read, W: Write>(
     copier: &mut Copier<'_, R, W>,
     first: &[u8],

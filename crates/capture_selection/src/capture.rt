@@ -19,13 +19,14 @@ use capture_request::{CaptureError, Parts, Reached};
 use std::io::{Read, Write};
 use streams::fill;
 
-/// Reads a capture, and writes it without the packets that have no line in the report with these options. All packets of the capture are
+/// Reads a capture, and writes it without the packets that have no line in the report with these options. Each packet that is read is
 /// counted in `counts`.
 ///
 /// The header of a classic capture and each written record are written as they were read. So is each block of a pcapng file, unless its
-/// packet has no line, but each section has the length -1, which is not specified (draft-ietf-opsawg-pcapng, section 4.1).
+/// packet has no line. Only the length of a section becomes -1, which means that it is not specified (draft-ietf-opsawg-pcapng, section
+/// 4.1).
 ///
-/// If a number of packets is requested, the capture is read up to the last of them. The result states how far it was read.
+/// If a number of packets is requested, the capture is read up to the last requested packet. The result states how far it was read.
 ///
 /// # Errors
 ///
@@ -62,7 +63,7 @@ pub fn write_selected<R: Read, W: Write>(
     select_blocks(copier, begin, &mut file, parts, counts)
 }
 
-/// Selects the records of a classic capture that begins with these bytes.
+/// Writes a classic capture that begins with these bytes, without the packets that have no line.
 fn select_capture<R: Read, W: Write>(
     copier: &mut Copier<'_, R, W>,
     begin: &[u8],

@@ -46,7 +46,7 @@ impl Counts {
             self.add(outcome);
         }
     }
-    /// Whether the number of chosen packets has reached this limit. `false` without a limit.
+    /// Whether the number of chosen packets has reached this limit. If there is no limit, the result is `false`.
     pub fn is_full(&self, limit: Option<u64>) -> bool
         ensures { result ≡ is_full limit self.now.chosen }
     {

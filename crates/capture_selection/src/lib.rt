@@ -1,8 +1,8 @@
-//! The packets of a capture that a report lists, as a capture.
+//! Copies a capture with only those packets that a report lists.
 //!
 //! `write_selected` reads a capture, and writes the packets that have a line in the report with the same options. The record or block of
-//! each such packet is written as it was read, and so is the rest of the capture: the header of a classic capture, and the other blocks of
-//! a pcapng file. Only the length of a section becomes -1, which is not specified.
+//! each of these packets is written as it was read. So is the rest of the capture: the header of a classic capture, and the other blocks of
+//! a pcapng file. Only the length of a section becomes -1, which means that the length is not specified.
 //!
 //! ```
 //! let parts = Parts { lines: Lines::Wrong, ..Parts::from_flags(false, true, true, false) };

@@ -32,7 +32,7 @@ pub fn outcome_of(parts: &Parts, packet: &Packet<'_>) -> Outcome
     }
 }
 
-/// What is done with the packet in this frame, according to the options of a report.
+/// The outcome of the packet in this frame, according to the options of a report.
 pub(crate) fn outcome_in_frame(parts: &Parts, captured: &CapturedPacket, frame: &[u8]) -> Outcome
     ensures { HasOutcome parts.now (IsPacketOf (kept captured.now frame.now)) (Some result) }
 {

@@ -44,7 +44,7 @@ impl Place {
         })
     }
 
-    /// The error if the bytes at this place are no block.
+    /// The error if the block at this place is malformed or cut off.
     pub fn refused(self, error: BlockError) -> SelectionError
         ensures { result ≡ refused_by self error }
     {

@@ -54,7 +54,7 @@ impl Records {
     }
 }
 
-/// Writes the records of a classic capture whose packets have a line. Returns how far the capture was read.
+/// Reads the records of a classic capture, and writes each record whose packet has a line. Returns how far the capture was read.
 pub(crate) fn select_records<R: Read, W: Write>(
     copier: &mut Copier<'_, R, W>,
     records: &mut Records,
@@ -107,8 +107,8 @@ fn select_record<R: Read, W: Write>(
     Ok(true)
 }
 
-/// Reads the captured bytes of a record after its header, and writes the record if its packet has a line.
-/// Returns what is done with the packet.
+/// Reads the captured bytes of a record whose header was already read, and writes the record if its packet has a line. Returns the outcome
+/// of the packet.
 fn select_headed<R: Read, W: Write>(
     copier: &mut Copier<'_, R, W>,
     records: &mut Records,
@@ -127,8 +127,7 @@ fn select_headed<R: Read, W: Write>(
     }
 }
 
-/// Reads the captured bytes of a record into the buffer, and writes the record if its packet has a line. Returns what is done
-/// with the packet.
+/// Reads the captured bytes of a record into the buffer, and writes the record if its packet has a line. Returns the outcome of the packet.
 fn select_kept<R: Read, W: Write>(
     copier: &mut Copier<'_, R, W>,
     records: &mut Records,
@@ -155,8 +154,8 @@ fn select_kept<R: Read, W: Write>(
     Ok(outcome)
 }
 
-/// Reads the captured bytes of a record, for which the buffer has no room, and writes the record if its packet has a line. If the capture
-/// ends within the record, the bytes before the end may have been written. Returns what is done with the packet.
+/// Reads the captured bytes of a record that does not fit in the buffer, and writes the record if its packet has a line. If the capture
+/// ends within the record, the bytes before the end may have been written. Returns the outcome of the packet.
 fn select_long<R: Read, W: Write>(
     copier: &mut Copier<'_, R, W>,
     records: &mut Records,

@@ -22,7 +22,8 @@ pub enum SelectionError {
 }
 
 impl SelectionError {
-    /// Turns the error of a refused first block of a pcapng file into an error of the capture's header. Other errors stay as they are.
+    /// Turns the error of a refused or incomplete first block of a pcapng file into an error of the capture's header. Other errors are
+    /// unchanged.
     pub(crate) fn at_beginning(self) -> SelectionError
         ensures { result ≡ at_beginning self }
     {
@@ -40,7 +41,7 @@ impl SelectionError {
     }
 }
 
-/// The error of a pcapng file whose first block is refused.
+/// The error of a pcapng file whose first block is refused or cut off.
 fn rejected(error: PacketError) -> SelectionError
     ensures { result ≡ Capture (Header (Pcapng error)) }
 {

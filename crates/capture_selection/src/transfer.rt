@@ -87,7 +87,7 @@ fn copy<R: Read, W: Write>(
     }
 }
 
-/// Writes a part unless its packet is left out. The part consists of these pieces, one after the other.
+/// Writes a part unless its packet is left out. The part consists of the bytes `first` followed by `rest`.
 pub(crate) fn write_part<W: Write>(
     output: &mut W,
     first: &[u8],
@@ -114,8 +114,8 @@ fn is_written(outcome: Option<Outcome>) -> bool
     }
 }
 
-/// Reads the rest of a part, at most `count` bytes, and writes the part unless its packet is left out. Its first bytes were already read.
-/// Returns the number of bytes read.
+/// Reads the rest of a part, and writes the part unless its packet is left out. `first` contains the bytes that were already read. The rest
+/// has `count` bytes, or fewer if the input ends before. Returns the number of bytes read.
 pub(crate) fn pass_long<R: Read, W: Write>(
     copier: &mut Copier<'_, R, W>,
     first: &[u8],

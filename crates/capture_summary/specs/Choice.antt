@@ -36,7 +36,7 @@ abbrev pub HasAny : {X : Type 0} → (X → Type 0) → List (Option X) → Type
 HasAny Statement [] = ⊥
 HasAny Statement (place ∷ places) = IsSomeAnd place Statement ⊎ HasAny Statement places
 
--- the statement holds for none of these values
+-- `Statement` holds for none of these values
 abbrev pub HasNone : {X : Type 0} → (X → Type 0) → List (Option X) → Type 0
 HasNone Statement places = HasAny Statement places → ⊥
 
@@ -45,7 +45,7 @@ abbrev pub IsSource : Addresses → Network → Type 0
 IsSource (Ipv4 source destination) host = IsIpv4In source host
 IsSource (Ipv6 source destination) host = IsIpv6In source host
 
--- the final destination is in the network; an unknown destination is in none
+-- the final destination is known, and is in the network
 abbrev pub IsDestination : Addresses → Network → Type 0
 IsDestination (Ipv4 source destination) host = IsIpv4In destination host
 IsDestination (Ipv6 source (Some destination)) host = IsIpv6In destination host
@@ -59,7 +59,7 @@ IsSourceOrDestination addresses host = IsSource addresses host ⊎ IsDestination
 abbrev pub IsInRange : ℕ → PortRange → Type 0
 IsInRange port range = (range.first ≤ port) × (port ≤ range.last)
 
--- the packet has ports, and one of the two is in the range
+-- the packet has ports, and its source port or its destination port is in the range
 abbrev pub IsPortOf : Option (FlowProtocol × ℕ × ℕ) → PortRange → Type 0
 IsPortOf None range = ⊥
 IsPortOf (Some ports) range = IsInRange ports.1 range ⊎ IsInRange ports.2 range
@@ -105,13 +105,13 @@ IsTo (contents.IpHeader addresses) host = IsDestination (by_value addresses) hos
 IsTo (contents.NotIp protocol) host = ⊥
 IsTo (contents.Ip addresses protocol proto transport payload_len) host = IsDestination (by_value addresses) host
 
--- the packet matches this host on this side
+-- the packet matches this host; `Side` states which addresses are compared
 abbrev pub MatchesOn : Side → Packet → Network → Type 0
 MatchesOn Either packet host = MatchesHost packet host
 MatchesOn Source packet host = IsFrom packet.content host
 MatchesOn Destination packet host = IsTo packet.content host
 
--- the packet is from or to a port in this range, or it is an ICMP error that quotes such a packet
+-- the packet is from or to a port in this range, or it is an ICMP error that quotes a packet from or to a port in this range
 abbrev pub HasPort : Content → PortRange → Type 0
 HasPort contents.Unread range = ⊥
 HasPort (contents.IpHeader addresses) range = ⊥
@@ -119,27 +119,29 @@ HasPort (contents.NotIp protocol) range = ⊥
 HasPort (contents.Ip addresses protocol proto transport payload_len) range =
     IsPortOf (ports_of proto transport) range ⊎ QuotesPort (quoted_in transport) range
 
--- the packet is of the chosen protocol: it has the same row, or it is ICMP of either version of IP
+-- The packet is of the chosen protocol. A chosen row of the table of protocols is the row of the packet. If ICMP is chosen, the packet is
+-- ICMPv4 or ICMPv6.
 abbrev pub IsOfProtocol : Content → ChosenProtocol → Type 0
 IsOfProtocol content (chosen.One one) = protocol_place (content_protocol content) ≡ protocol_place one
 IsOfProtocol content chosen.Icmp = (content_protocol content ≡ Icmpv4) ⊎ (content_protocol content ≡ Icmpv6)
 
--- The packet matches the fields about addresses. If the choice has hosts, the packet matches one of them. If it has sources, the packet is
--- from one of them, and if it has destinations, the packet is to one of them. If it has other hosts, the packet matches none of these.
+-- The packet matches the fields about addresses. If `hosts` is set, the packet matches one of these hosts. If `sources` is set, the packet
+-- is from one of the sources. If `destinations` is set, the packet is to one of the destinations. If `other_hosts` is set, the packet
+-- matches none of these hosts.
 pub record HasChosenAddresses (choice : Choice) (packet : Packet) : Type 0 where
   pub hosts : IfSome choice.hosts (HasAny (MatchesHost packet))
   pub sources : IfSome choice.sources (HasAny (IsFrom packet.content))
   pub destinations : IfSome choice.destinations (HasAny (IsTo packet.content))
   pub other_hosts : IfSome choice.other_hosts (HasNone (MatchesHost packet))
 
--- The packet matches the fields about ports and protocols. If the choice has ports, the packet matches one of them. If it has other ports,
--- the packet matches none of these. If it has protocols, the packet is of one of them.
+-- The packet matches the fields about ports and protocols. If `ports` is set, the packet matches one of these ranges. If `other_ports` is
+-- set, the packet matches none of these ranges. If `protocols` is set, the packet is of one of the protocols.
 pub record HasChosenContent (choice : Choice) (content : Content) : Type 0 where
   pub ports : IfSome choice.ports (HasAny (HasPort content))
   pub other_ports : IfSome choice.other_ports (HasNone (HasPort content))
   pub protocols : IfSome choice.protocols (HasAny (IsOfProtocol content))
 
--- a packet is chosen: it matches each field that the choice has
+-- a packet is chosen: it matches each field of the choice that is set
 pub record IsChosen (choice : Choice) (packet : Packet) : Type 0 where
   pub addresses : HasChosenAddresses choice packet
   pub content : HasChosenContent choice packet.content

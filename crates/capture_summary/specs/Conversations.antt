@@ -31,12 +31,11 @@ is_one_conversation flow other = is_same_flow flow other || is_same_flow (revers
 abbrev pub canonical : Flow → Flow
 canonical flow = if is_gt ((address_ord.ghosts).cmp flow.source flow.destination) then reversed flow else flow
 
--- the row of a conversation before its first packet, which has this flow
+-- the row of a conversation whose first packet has this flow, before the packet is counted
 abbrev pub new_row : Flow → ConversationCount
 new_row flow = record { flow = flow; forward = no_packets; reverse = no_packets }
 
--- A row after a packet of this flow is counted. If the flow is the flow of the row, `forward` counts the packet. Otherwise `reverse` counts
--- it.
+-- A row after a packet of this flow is counted. If the packet has the flow of the row, `forward` counts it. Otherwise `reverse` counts it.
 abbrev pub row_counted : Flow → ℕ → ConversationCount → ConversationCount
 row_counted flow len row =
     if is_same_flow flow row.flow

@@ -12,16 +12,17 @@ use Rattle.capture_summary.specs.declared.flow.Flow.{Flow}
 abbrev pub empty_table : FlowTable
 empty_table = record { rows = []; without_ports = no_packets; without_room = no_packets }
 
--- The table after these packets, in their order. A packet is a pair of a flow and a length in bytes. A packet without ports has no flow.
+-- The table after these packets, in their order. A packet is a pair of a flow and a length in bytes. A packet has no flow if it has no
+-- ports, or if its final destination is unknown.
 abbrev pub table_of : List (Option Flow × ℕ) → FlowTable
 table_of packets = fold (λ table packet. table_counted packet.0 packet.1 table) empty_table packets
 
--- a packet has a flow that passes a test
+-- the packet has a flow, and the flow passes the test
 abbrev pub has_flow : (Flow → Bool) → Option Flow → Bool
 has_flow test None = false
 has_flow test (Some flow) = test flow
 
--- the count of the packets with a flow that passes a test
+-- the count of the packets whose flow passes the test
 abbrev pub count_of : (Flow → Bool) → List (Option Flow × ℕ) → Count
 count_of test packets = fold (λ count packet. if has_flow test packet.0 then counted packet.1 count else count) no_packets packets
 

@@ -41,7 +41,7 @@ HasPorts None flow = ⊥
 HasPorts (Some ports) flow =
     (flow.protocol ≡ ports.0) × (IsPlainSocket flow.source ports.1 × IsPlainSocket flow.destination ports.2)
 
--- the flow of a packet; `None` if the packet has no ports, or if its final destination is unknown
+-- The flow of a packet. It is `None` if the packet has no ports, if its headers are refused, or if its final destination is unknown.
 abbrev pub IsFlowOf : Content → Option Flow → Type 0
 IsFlowOf contents.Unread flow = flow ≡ None
 IsFlowOf (contents.IpHeader addresses) flow = flow ≡ None

@@ -6,7 +6,7 @@ use Rattle.capture_summary.specs.FlowTable.{FlowTable, packets_counted, place_of
 use Rattle.capture_summary.specs.declared.conversation_count.ConversationCount.{ConversationCount}
 use Rattle.capture_summary.specs.declared.flow.Flow.{Flow}
 
--- The map contains exactly this: for the canonical direction of each conversation, the place of its row.
+-- The map contains the place of each row, by the canonical direction of the row's conversation. It contains no other conversation.
 abbrev pub ArePlaces : {S : Type 0} → HashMap Flow ℕ S → List ConversationCount → Type 0
 ArePlaces places rows = (flow : Flow) → get is_same_flow places (canonical flow) ≡ place_of flow rows
 

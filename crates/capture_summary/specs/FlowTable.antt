@@ -1,4 +1,4 @@
--- The table of flows: a row for each conversation, in the order in which they are first seen, and two more counts.
+-- The table of flows: a row for each conversation, in the order in which the conversations are first seen, and two more counts.
 use Rattle.std.specs.Prelude.{ℕ, ◌+◌, if◌then◌else◌, List, [], ◌∷◌, ◌++◌, length, nat_lt, position, slice_index_or, slice_set, sum_by, Option, Some, None}
 use Rattle.capture_summary.specs.Conversations.{is_one_conversation, new_row, row_counted, row_packets}
 use Rattle.capture_summary.specs.Tables.{counted}
@@ -6,8 +6,8 @@ use Rattle.capture_summary.specs.declared.count.Count.{Count}
 use Rattle.capture_summary.specs.declared.conversation_count.ConversationCount.{ConversationCount}
 use Rattle.capture_summary.specs.declared.flow.Flow.{Flow}
 
--- The rows, and two more counts. `without_ports` counts the packets without ports. `without_room` counts the packets of conversations for
--- which the table had no room.
+-- The rows, and two more counts. `without_ports` counts the packets without a flow: they have no ports, or an unknown final destination.
+-- `without_room` counts the packets of conversations for which the table had no room.
 pub record FlowTable : Type 0 where
   pub rows : List ConversationCount
   pub without_ports : Count
@@ -21,8 +21,8 @@ max_conversations = 65536
 abbrev pub place_of : Flow → List ConversationCount → Option ℕ
 place_of flow rows = position (λ row. is_one_conversation flow row.flow) rows
 
--- The table after a packet of a flow. If its conversation has a row, the row counts the packet. Otherwise a new row at the end counts it.
--- If there is no room for a new row, `without_room` counts it.
+-- The table after a packet of this flow. If the conversation has a row, the row counts the packet. Otherwise a new row at the end counts
+-- the packet. If there is no room for a new row, `without_room` counts the packet.
 abbrev pub flow_counted : Flow → ℕ → FlowTable → Option ℕ → FlowTable
 flow_counted flow len table (Some place) =
     record table { rows = slice_set table.rows place (row_counted flow len (slice_index_or table.rows place (new_row flow))) }
@@ -31,7 +31,7 @@ flow_counted flow len table None =
     then record table { rows = table.rows ++ row_counted flow len (new_row flow) ∷ [] }
     else record table { without_room = counted len table.without_room }
 
--- the table after a packet, which has a flow or has no ports
+-- the table after a packet; `without_ports` counts it if it has no flow
 abbrev pub table_counted : Option Flow → ℕ → FlowTable → FlowTable
 table_counted (Some flow) len table = flow_counted flow len table (place_of flow table.rows)
 table_counted None len table = record table { without_ports = counted len table.without_ports }

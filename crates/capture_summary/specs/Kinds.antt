@@ -45,7 +45,7 @@ untested_kind reasons.OtherProtocol = OtherProtocol
 untested_kind reasons.ZeroLength = Refused
 untested_kind reasons.TooLong = TooLong
 
--- the row of a verdict
+-- the row of this verdict in the table of checksums
 abbrev pub verdict_kind : Verdict → VerdictKind
 verdict_kind (verdicts.Checksum checksums.Right) = Right
 verdict_kind (verdicts.Checksum (checksums.Wrong expected)) = Wrong
@@ -95,14 +95,14 @@ verdict_rows counts = map (λ kind. (verdict_word kind, slice_index counts (verd
 
 -- ---- the table of refusals
 
--- the kind of a refusal for a transport of this protocol with a wrong length
+-- the kind of a refusal if the transport is of this protocol and its length is wrong
 abbrev pub length_kind : Proto → RefusalKind
 length_kind protos.Udp = UdpLength
 length_kind protos.Tcp = TcpLength
 length_kind protos.Icmpv4 = Icmpv4Length
 length_kind protos.Icmpv6 = Icmpv6Length
 
--- the row of a refusal
+-- the row of this refusal in the table of refusals
 abbrev pub refusal_kind : Refusal → RefusalKind
 refusal_kind (refusals.Link error) = LinkHeader
 refusal_kind (refusals.Ip (ip_errors.HeaderCutOff required_len len)) = IpHeaderCutOff
@@ -118,7 +118,7 @@ refusal_kind (refusals.Ip (ip_errors.JumboPayloadFragment offset)) = IpExtension
 refusal_kind (refusals.Transport proto (tcp_errors.Len error)) = length_kind proto
 refusal_kind (refusals.Transport proto (tcp_errors.Content error)) = TcpDataOffset
 
--- the row of the refusal, if the packet is refused
+-- the row in the table of refusals, or `None` if the verdict does not refuse the packet
 abbrev pub verdict_refusal_kind : Verdict → Option RefusalKind
 verdict_refusal_kind verdict = option_map refusal_kind (refusal_of verdict)
 

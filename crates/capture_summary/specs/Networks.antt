@@ -67,18 +67,18 @@ network_error_text errors.HostBits = codes "the address has bits other than 0 af
 abbrev pub IsNumberText : List ℕ → Type 0
 IsNumberText text = IsNumeral 10 (without_leading_plus text) × (digits_value 10 (without_leading_plus text) < 2 ^ 32)
 
--- the network of an address and a prefix length that is given as text
+-- the network of an address and of the text of a prefix length, or the error
 pub record ReadsLength (address : IpAddr) (text : List ℕ) (result : Result Network NetworkError) : Type 0 where
   pub number : IsNumberText text → result ≡ network_of address (digits_value 10 (without_leading_plus text))
   pub other : ¬ (IsNumberText text) → result ≡ Err errors.PrefixLength
 
--- the network with this text before its slash, and this text after it
+-- the network that is read from the texts before and after its slash, or the error
 abbrev pub ReadsPrefixed : List ℕ → List ℕ → Result Network NetworkError → Type 0
 ReadsPrefixed text prefix_len result =
     (IsNoAddress text × (result ≡ Err errors.Address))
     ⊎ ((address : IpAddr) × IsIpText text address × ReadsLength address prefix_len result)
 
--- the network of a text without a slash
+-- the network of one address that is read from a text without a slash, or the error
 abbrev pub ReadsSingle : List ℕ → Result Network NetworkError → Type 0
 ReadsSingle text result =
     (IsNoAddress text × (result ≡ Err errors.Address))
@@ -88,7 +88,8 @@ ReadsSingle text result =
 abbrev pub is_slash : ℕ → Bool
 is_slash byte = byte == 47
 
--- The network in a text. The text is an address, or an address, a slash and the length of the prefix. The first slash counts.
+-- The network that is read from a text, or the error. The text is an address, or an address, a slash and the length of the prefix. The
+-- first slash ends the address.
 pub record ReadsNetwork (text : List ℕ) (result : Result Network NetworkError) : Type 0 where
   pub single : position_or_len is_slash text ≡ length text → ReadsSingle text result
   pub prefixed : position_or_len is_slash text < length text → ReadsPrefixed (before_first is_slash text) (after_first is_slash text) result

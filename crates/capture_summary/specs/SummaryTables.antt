@@ -47,7 +47,7 @@ pub record IsBalanced (tables : SummaryTables) : Type 0 where
   pub refusals : sum tables.refusals ≡ slice_index tables.verdicts (verdict_place Refused)
   pub flows : packets_counted tables.flows ≡ tables.packets
 
--- the table of refusals after a packet, with the reason of its refusal if the packet was refused
+-- the table of refusals after a packet; only a refused packet has a kind of refusal, and is counted in this table
 abbrev pub refusal_counted : Option RefusalKind → List ℕ → List ℕ
 refusal_counted (Some refusal) table = counted_at (refusal_place refusal) table
 refusal_counted None table = table
@@ -57,7 +57,8 @@ abbrev pub counted_len : Option FrameLen → ℕ
 counted_len None = 0
 counted_len (Some len) = len.original
 
--- One packet was counted in the rows of these kinds and this flow. `info` is what the capture states about it. No other row changed.
+-- One packet was counted in the rows of these kinds and of this flow. `info` is what the capture states about the packet. No other row
+-- changed.
 pub record CountsOne (before : SummaryTables) (protocol : Protocol) (verdict : VerdictKind) (refusal : Option RefusalKind) (flow : Option Flow) (info : CaptureInfo) (after : SummaryTables) : Type 0 where
   pub packets : after.packets ≡ before.packets + 1
   pub bytes : after.bytes ≡ min (before.bytes + counted_len info.len) (2 ^ 64 - 1)

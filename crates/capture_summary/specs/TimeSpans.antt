@@ -12,8 +12,8 @@ earlier first second = if nat_lt (nanoseconds_of second) (nanoseconds_of first) 
 abbrev pub later : PacketTime → PacketTime → PacketTime
 later first second = if nat_lt (nanoseconds_of first) (nanoseconds_of second) then second else first
 
--- The earliest and the latest time, after a packet with this time is added to those of the first argument. The first argument is `None` if
--- no packet before it has a time.
+-- The earliest and the latest time after another packet. `span` contains the times before this packet, or is `None` if no earlier packet
+-- has a time. `time` is the time of the packet, or `None` if it is unknown.
 abbrev pub with_time : Option TimeSpan → Option PacketTime → Option TimeSpan
 with_time span None = span
 with_time None (Some time) = Some (record { earliest = time; latest = time })

@@ -13,30 +13,31 @@ use ip_part::IpAddresses;
 /// The greatest number of values in a field of a choice.
 pub const MAX_CHOSEN: usize = 16;
 
-/// Hosts in places. A place without a value does not count.
+/// At most `MAX_CHOSEN` hosts. Empty places are ignored.
 pub type Hosts = [Option<Network>; MAX_CHOSEN];
 
-/// Ranges of ports in places. A place without a value does not count.
+/// At most `MAX_CHOSEN` ranges of ports. Empty places are ignored.
 pub type Ports = [Option<PortRange>; MAX_CHOSEN];
 
-/// Protocols in places. A place without a value does not count.
+/// At most `MAX_CHOSEN` protocols. Empty places are ignored.
 pub type Protocols = [Option<ChosenProtocol>; MAX_CHOSEN];
 
 /// The packets that are chosen. A packet is chosen if it matches every field that is set.
 #[derive(Clone, Copy, Debug, PartialEq, Eq)]
 pub struct Choice {
-    /// If set, only packets from or to one of these networks are chosen. An ICMP error that quotes such a packet is chosen too. So is a
-    /// packet in tunnels, if the outer packet of one tunnel is from or to one of the networks.
+    /// If set, only packets from or to one of these networks are chosen. An ICMP error is also chosen if it quotes a packet from or to one
+    /// of the networks. A packet in tunnels is also chosen if the outer packet of one of the tunnels is from or to one of the networks.
     pub hosts: Option<Hosts>,
     /// If set, only packets from one of these networks are chosen. Quoted packets and tunnels are not compared.
     pub sources: Option<Hosts>,
     /// If set, only packets to one of these networks are chosen. Quoted packets and tunnels are not compared.
     pub destinations: Option<Hosts>,
-    /// If set, no packet is chosen that `hosts` with these networks would choose.
+    /// If set, the packets that `hosts` with these networks would choose are left out.
     pub other_hosts: Option<Hosts>,
-    /// If set, only packets from or to one of these ports are chosen. An ICMP error that quotes such a packet is chosen too.
+    /// If set, only packets from or to one of these ports are chosen. An ICMP error is also chosen if it quotes a packet from or to one of
+    /// the ports.
     pub ports: Option<Ports>,
-    /// If set, no packet from or to one of these ports is chosen, and no ICMP error that quotes such a packet.
+    /// If set, packets from or to one of these ports are left out, and so is each ICMP error that quotes such a packet.
     pub other_ports: Option<Ports>,
     /// If set, only packets of these protocols are chosen.
     pub protocols: Option<Protocols>,
@@ -55,8 +56,8 @@ impl Choice {
     };
 
     /// Whether this packet is chosen. A packet without addresses matches no host, and a packet without ports matches no port. If the final
-    /// destination is not known, only the source is compared with the hosts. An ICMP error also matches a host or a port of the packet that
-    /// it quotes. It does not match the protocol of the quoted packet. A packet in tunnels also matches the addresses of the outer packets.
+    /// destination is not known, only the source is compared with the hosts. The description of each field states whether quoted packets
+    /// and tunnels are also compared. An ICMP error does not match the protocol of the packet that it quotes.
     pub fn includes(&self, packet: &Packet<'_>) -> bool
         ensures { IsTrue result ↔ IsChosen self.now packet.now }
     {
@@ -86,7 +87,7 @@ impl Choice {
 /// Which addresses of a packet are compared with a host.
 #[derive(Clone, Copy, Debug, PartialEq, Eq)]
 pub(crate) enum Side {
-    /// Source and destination, those of a quoted packet, and the ends of tunnels.
+    /// The source and the final destination of the packet and of a quoted packet, and the ends of tunnels.
     Either,
     /// The source.
     Source,
@@ -94,7 +95,7 @@ pub(crate) enum Side {
     Destination,
 }
 
-/// The ports from `first` to `last`. If `first` is above `last`, there are none.
+/// The ports from `first` to `last`. The range is empty if `first` is above `last`.
 #[derive(Clone, Copy, Debug, PartialEq, Eq)]
 pub struct PortRange {
     /// The least port.
@@ -115,7 +116,7 @@ impl PortRange {
 /// A protocol by which packets are chosen.
 #[derive(Clone, Copy, Debug, PartialEq, Eq)]
 pub enum ChosenProtocol {
-    /// The protocol of a row of the table of protocols.
+    /// A row of the table of protocols.
     One(Protocol),
     /// ICMPv4 and ICMPv6.
     Icmp,
@@ -134,7 +135,7 @@ impl ChosenProtocol {
     }
 }
 
-/// Whether a packet matches one of these hosts on this side. If no hosts are given, every packet does.
+/// Whether a packet matches one of these hosts on this side. If no hosts are given, this is true.
 fn includes_hosts(hosts: &Option<Hosts>, side: Side, packet: &Packet<'_>) -> bool
     ensures { IsTrue result ↔ IfSome hosts.now (HasAny (MatchesOn side packet.now)) }
 {
@@ -144,7 +145,7 @@ fn includes_hosts(hosts: &Option<Hosts>, side: Side, packet: &Packet<'_>) -> boo
     }
 }
 
-/// Whether a packet matches none of these hosts. If no hosts are given, every packet does.
+/// Whether a packet matches none of these hosts. If no hosts are given, this is true.
 fn lacks_hosts(hosts: &Option<Hosts>, packet: &Packet<'_>) -> bool
     ensures { IsTrue result ↔ IfSome hosts.now (HasNone (MatchesOn Side.Either packet.now)) }
 {
@@ -230,7 +231,8 @@ fn is_destination(addresses: IpAddresses<'_>, host: &Network) -> bool
     }
 }
 
-/// Whether a packet, or the packet that it quotes, is from or to this host, or the host is an end of one of its tunnels.
+/// Whether a packet, or the packet that it quotes, is from or to this host. This is also true if the host is an end of one of the packet's
+/// tunnels.
 fn matches_host(packet: &Packet<'_>, host: &Network) -> bool
     ensures { IsTrue result ↔ MatchesHost packet.now host.now }
 {
@@ -356,7 +358,7 @@ fn quotes_port(transport: &Transport<'_>, range: &PortRange) -> bool
     }
 }
 
-/// Whether a packet is of one of these protocols. If no protocols are given, every packet is.
+/// Whether a packet is of one of these protocols. If no protocols are given, this is true.
 fn includes_protocols(protocols: &Option<Protocols>, content: &Content<'_>) -> bool
     ensures { IsTrue result ↔ IfSome protocols.now (HasAny (IsOfProtocol content.now)) }
 {

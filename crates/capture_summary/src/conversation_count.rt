@@ -50,7 +50,7 @@ impl ConversationCount {
         }
     }
 
-    /// Counts a packet of this length in bytes, in one of the two directions.
+    /// Counts a packet of this flow and of this length in bytes. The flow is one of the two directions of the conversation.
     pub(crate) fn add(&mut self, flow: &Flow, len: u64)
         requires { row_packets self.old < 2 ^ 64 - 1 }
         ensures counted { self.new ≡ row_counted flow.now len self.old }

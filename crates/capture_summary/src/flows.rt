@@ -12,13 +12,13 @@ pub const MAX_CONVERSATIONS: usize = 65_536;
 
 /// The counts of the packets by flow, in a row for each conversation.
 ///
-/// Each packet is in exactly one count. A packet with ports is counted in its direction, in the row of its conversation. If
-/// `MAX_CONVERSATIONS` other conversations have rows already, the packet is in the count of packets without room. Packets without ports are
-/// counted apart.
+/// Each packet is in exactly one count. A packet with a flow is counted in its direction, in the row of its conversation. If
+/// `MAX_CONVERSATIONS` other conversations already have rows, the packet is in the count of packets without room. Packets without a flow
+/// are counted apart: they have no ports, or an unknown final destination.
 #[derive(Drop)]
 pub struct Flows {
-    /// The place of the row of a conversation, by its canonical direction. The hashes have random keys, because the author of a capture
-    /// chooses its flows.
+    /// The place of the row of a conversation, by its canonical direction. The hashes have random keys, since the author of a capture could
+    /// choose flows with equal hashes.
     places: HashMap<Flow, usize, RandomState>,
     counts: Vec<ConversationCount>,
     without_ports: Count,
@@ -46,7 +46,7 @@ impl Flows {
     ghost use Rattle.capture_summary.specs.Ranking.{AreBusiest, busiest_of};
     ghost use Rattle.capture_summary.specs.Tables.{no_packets};
 
-    /// Counts without a flow. `state` provides the keys of the hashes.
+    /// A table without packets. `state` provides the keys of the hashes.
     pub fn new(alloc: Global, state: RandomState) -> Flows
         ensures { result ≡ record { rows = []; without_ports = no_packets; without_room = no_packets } }
     {
@@ -59,8 +59,8 @@ impl Flows {
         }
     }
 
-    /// Counts a packet of this length in bytes. `flow` is its flow, or `None` if it has no ports. The number that `packets` returns must be
-    /// below `u64::MAX`.
+    /// Counts a packet of this length in bytes. `flow` is its flow, or `None` if it has no ports or an unknown final destination. The
+    /// number that `packets` returns must be below `u64::MAX`.
     ///
     /// # Errors
     ///
@@ -96,14 +96,14 @@ impl Flows {
         self.packets
     }
 
-    /// The counts of the conversations with separate counts, in the order in which they were first seen.
+    /// The counts of the conversations that have a row, in the order in which the conversations were first seen.
     pub fn counts(&self) -> &[ConversationCount]
         ensures rows { result.now ≡ self.now.rows }
     {
         &self.counts
     }
 
-    /// The count of the packets without ports.
+    /// The count of the packets without a flow. They have no ports, or an unknown final destination.
     pub fn without_ports(&self) -> Count
         ensures { result ≡ self.now.without_ports }
     {

@@ -31,15 +31,16 @@ pub fn conversations_of()
     ensures { (packets : List (Option Flow × ℕ)) → AreConversationsOf packets (table_of packets).rows }
 {}
 
-/// If source and destination of a packet are exchanged, the same row counts it in the other direction. If source and destination are equal,
-/// the exchange changes nothing.
+/// If source and destination of a packet are exchanged, the same row counts the packet in the other direction. If source and destination
+/// are equal, the exchange changes nothing.
 pub fn exchanged()
     ensures row { (packet flow : Flow) → is_one_conversation (reversed packet) flow ≡ is_one_conversation packet flow }
     ensures direction { (packet flow : Flow) → is_same_flow flow (reversed flow) ≡ false
         → goes_back flow (reversed packet) ≡ goes_forward flow packet }
 {}
 
-/// The greatest number of conversations with separate counts, and the number of busiest conversations that are listed by default.
+/// The limits in the code are the limits in the definitions: the greatest number of conversations with separate counts, and the number of
+/// busiest conversations that are listed by default.
 pub fn limits()
     ensures counted { MAX_CONVERSATIONS ≡ max_conversations }
     ensures listed { BUSIEST ≡ default_top }

@@ -77,7 +77,7 @@ impl LinkKind {
         }
     }
 
-    /// The rows of the table with their names, in their order. The counts are in the order of the places.
+    /// The rows of the table in their order, each with its name and count. `counts` contains the count of a row at its place.
     pub(crate) fn rows(counts: &[u64; LinkKind::COUNT]) -> [(&'static str, u64); LinkKind::COUNT]
         ensures { map (λ row. (row.0.now, row.1)) result ≡ link_rows counts.now }
     {

@@ -155,7 +155,7 @@ impl FromStr for Network {
     }
 }
 
-/// The network with this text before its slash, and this text after it.
+/// Reads a network from the texts before and after its slash.
 fn prefixed(address: &str, prefix_len: &str) -> Result<Network, NetworkError>
     ensures { ReadsPrefixed address.now prefix_len.now result }
 {

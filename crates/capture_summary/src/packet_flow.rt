@@ -8,7 +8,7 @@ use ip_part::Proto;
 use std::net::SocketAddr;
 use transport_part::TransportSlice;
 
-/// The flow of a packet, if its ports and addresses are known.
+/// The flow of a packet. `None` if the packet has no ports, if its headers are refused, or if its final destination is unknown.
 pub fn flow_of(packet: &Packet<'_>) -> Option<Flow>
     ensures { IsFlowOf packet.now.content result }
 {
@@ -31,7 +31,8 @@ pub fn flow_of(packet: &Packet<'_>) -> Option<Flow>
     })
 }
 
-/// The protocol of a flow, its source port and its destination port. `proto` is the protocol if the transport header is not read.
+/// The protocol of a flow, its source port and its destination port. `None` if the transport has no ports. `proto` is the protocol that the
+/// IP header states.
 pub(crate) fn ports(
     proto: Option<Proto>,
     transport: &Transport<'_>,

@@ -6,7 +6,7 @@ use capture_file::PacketTime;
 pub struct PacketInfo {
     /// The number of the packet. The first packet of a capture is number 1.
     pub number: u64,
-    /// The first capture time in the packets before this packet, if there is one.
+    /// The first known capture time of the packets before this packet, if there is one.
     pub first: Option<PacketTime>,
     /// What the capture states about the packet.
     pub capture: CaptureInfo,

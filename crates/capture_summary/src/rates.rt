@@ -4,7 +4,7 @@ ghost use Rattle.capture_summary.specs.Rates as specs;
 use crate::TimeSpan;
 use capture_file::{NANOSECONDS_PER_SECOND, nanoseconds_of};
 
-/// The average rates per second from the earliest packet to the latest, in whole numbers.
+/// The average rates per second from the earliest packet to the latest, rounded down.
 #[derive(Clone, Copy, Debug, PartialEq, Eq)]
 pub struct Rates {
     /// The number of packets per second.

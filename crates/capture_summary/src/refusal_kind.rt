@@ -129,7 +129,7 @@ fn kind_of_refusal(refusal: &Refusal) -> RefusalKind
     }
 }
 
-/// The kind of a refusal for a transport of this protocol with a wrong length.
+/// The kind of a refusal if the transport is of this protocol and its length is wrong.
 fn kind_of_length(proto: Proto) -> RefusalKind
     ensures { result ≡ length_kind proto }
 {

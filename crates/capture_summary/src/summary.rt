@@ -77,8 +77,8 @@ impl Summary {
         }
     }
 
-    /// Counts a packet of these kinds. `flow` is its flow, or `None` if it has no ports. `info` is what the capture states about the
-    /// packet. The number that `packets` returns must be below `u64::MAX`.
+    /// Counts a packet of these kinds. `flow` is its flow, or `None` if it has no ports or an unknown final destination. `info` is what the
+    /// capture states about the packet. The number that `packets` returns must be below `u64::MAX`.
     ///
     /// # Errors
     ///
@@ -140,7 +140,7 @@ impl Summary {
         self.span
     }
 
-    /// The rows of the table of protocols: the name and the count of each.
+    /// The rows of the table of protocols: the name and the count of each row.
     pub fn protocols(&self) -> [(&'static str, Count); Protocol::COUNT]
         ensures { map (λ row. (row.0.now, row.1)) result ≡ protocol_rows self.now.protocols }
     {
@@ -156,21 +156,21 @@ impl Summary {
         protocol_rows::by_packets(&self.protocols())
     }
 
-    /// The rows of the table of checksums: the name and the number of packets of each.
+    /// The rows of the table of checksums: the name and the number of packets of each row.
     pub fn verdicts(&self) -> [(&'static str, u64); VerdictKind::COUNT]
         ensures { map (λ row. (row.0.now, row.1)) result ≡ verdict_rows self.now.verdicts }
     {
         VerdictKind::rows(&self.verdicts)
     }
 
-    /// The rows of the table of link types: the name and the number of packets of each.
+    /// The rows of the table of link types: the name and the number of packets of each row.
     pub fn links(&self) -> [(&'static str, u64); LinkKind::COUNT]
         ensures { map (λ row. (row.0.now, row.1)) result ≡ link_rows self.now.links }
     {
         LinkKind::rows(&self.links)
     }
 
-    /// The rows of the table of refusals: the name and the number of packets of each.
+    /// The rows of the table of refusals: the name and the number of packets of each row.
     pub fn refusals(&self) -> [(&'static str, u64); RefusalKind::COUNT]
         ensures { map (λ row. (row.0.now, row.1)) result ≡ refusal_rows self.now.refusals }
     {

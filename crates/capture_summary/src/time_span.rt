@@ -13,8 +13,8 @@ pub struct TimeSpan {
 }
 
 impl TimeSpan {
-    /// The earliest and the latest time, after a packet with this time is added to those of `span`. `span` is `None` if no packet before it
-    /// has a time.
+    /// The earliest and the latest time after another packet. `span` contains the times before this packet, or is `None` if no earlier
+    /// packet has a time. `time` is the time of the packet, or `None` if it is unknown.
     pub fn with_time(span: Option<TimeSpan>, time: Option<PacketTime>) -> Option<TimeSpan>
         ensures { result ≡ with_time span time }
     {

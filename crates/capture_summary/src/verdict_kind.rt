@@ -28,7 +28,7 @@ pub enum VerdictKind {
     UnknownDestination,
     /// The packet is of another protocol.
     OtherProtocol,
-    /// The packet has more bytes than the buffer can contain.
+    /// The packet has more bytes than the buffer can contain, or more bytes than a pseudo header can count.
     TooLong,
     /// The packet is refused.
     Refused,
@@ -76,7 +76,8 @@ impl VerdictKind {
         }
     }
 
-    /// Returns the kind of a verdict on a checksum that is not tested. A UDP packet without a length is refused.
+    /// Returns the kind of a verdict on a checksum that is not tested. A UDP packet whose length field is 0 is refused, unless it is a
+    /// jumbogram.
     pub fn of_untested(reason: Untested) -> VerdictKind
         ensures { result ≡ specs.untested_kind reason }
     {
@@ -100,7 +101,7 @@ impl VerdictKind {
         self as usize
     }
 
-    /// The rows of the table with their names, in their order. The counts are in the order of the places.
+    /// The rows of the table in their order, each with its name and count. `counts` contains the count of a row at its place.
     pub(crate) fn rows(
         counts: &[u64; VerdictKind::COUNT],
     ) -> [(&'static str, u64); VerdictKind::COUNT]

@@ -32,16 +32,17 @@ use Rattle.capture_words.specs.TimeText.{time_text}
 use Rattle.capture_text.specs.VerdictText.{is_other_protocol, verdict_text}
 use Rattle.capture_words.specs.declared.times.Times.{Times}
 
--- the number of captured bytes; the text is empty if all `len` bytes were captured
+-- the number of captured bytes; the text is empty if this number is `len`
 abbrev pub captured_text : ℕ → ℕ → List ℕ
 captured_text len captured_len = if captured_len == len then [] else codes ", " ++ (decimal captured_len ++ codes " captured")
 
--- the length of a frame in bytes, and the number of captured bytes if not all were captured; if the length is unknown, the text states this
+-- The length of a frame in bytes, and the number of captured bytes if this number differs. If the length is unknown, the text states that
+-- it is unknown.
 abbrev pub frame_text : Option FrameLen → List ℕ
 frame_text None = codes " length unknown: "
 frame_text (Some len) = codes " length " ++ (decimal len.original ++ (captured_text len.original len.captured ++ codes ": "))
 
--- the length of a payload in bytes, and the number of captured bytes if not all were captured
+-- the length of a payload in bytes, and the number of captured bytes if this number differs
 abbrev pub payload_text : ℕ → List ℕ → List ℕ
 payload_text payload_len payload = codes ", payload " ++ (decimal payload_len ++ captured_text payload_len (length payload))
 
@@ -55,7 +56,7 @@ ports_text addresses header = endpoints_text addresses (be_number header 0 2) (b
 abbrev pub udp_text : Addresses → List ℕ → List ℕ
 udp_text addresses datagram = ports_text addresses datagram ++ (codes " UDP length " ++ decimal (be_number datagram 4 2))
 
--- this is the text of a TCP segment
+-- this is the text of a TCP segment: its addresses, its ports, and the other fields of its header
 abbrev pub IsTcpText : Addresses → List ℕ → List ℕ → Type 0
 IsTcpText addresses segment text =
     (header : List ℕ) × IsHeaderText segment header
@@ -75,23 +76,23 @@ abbrev pub known_endpoints : Addresses → Option (ℕ × ℕ) → List ℕ
 known_endpoints addresses None = addresses_text addresses
 known_endpoints addresses (Some ports) = endpoints_text addresses ports.0 ports.1
 
--- the packet that an ICMP error quotes, if the IP headers of that packet can be read
+-- the packet that an ICMP error quotes; the text is empty if no packet is quoted, or if the IP headers of the quoted packet can't be read
 abbrev pub quoted_text : Option Quoted → List ℕ
 quoted_text None = []
 quoted_text (Some quoted) =
     codes " for " ++ (known_endpoints quoted.addresses quoted.ports ++ (codes " " ++ name_or_number quoted.protocol quoted.proto))
 
--- an ICMPv4 message with the addresses of its packet, and the packet that it quotes
+-- the addresses of a packet, its ICMPv4 message, and the packet that the message quotes, if there is one
 abbrev pub icmpv4_line : Addresses → List ℕ → Option Quoted → List ℕ
 icmpv4_line addresses message quoted =
     addresses_text addresses ++ (codes " ICMPv4 " ++ (icmpv4_text.message_text (icmpv4.icmp_type_of message) ++ quoted_text quoted))
 
--- an ICMPv6 message with the addresses of its packet, and the packet that it quotes
+-- the addresses of a packet, its ICMPv6 message, and the packet that the message quotes, if there is one
 abbrev pub icmpv6_line : Addresses → List ℕ → Option Quoted → List ℕ
 icmpv6_line addresses message quoted =
     addresses_text addresses ++ (codes " ICMPv6 " ++ (icmpv6_text.message_text (icmpv6.icmp_type_of message) ++ quoted_text quoted))
 
--- an IP packet with a transport that is not read, and its ports if they are known
+-- an IP packet whose transport is not read: its addresses, its ports if they are known, and its protocol
 abbrev pub unread_text : Addresses → ℕ → Option Proto → Option (ℕ × ℕ) → List ℕ
 unread_text addresses number proto ports = known_endpoints addresses ports ++ (codes " " ++ name_or_number number proto)
 
@@ -126,8 +127,8 @@ network_number (Nlpid number) = codes "NLPID " ++ hex_padded 2 number
 abbrev pub network_text : NetworkProtocol → List ℕ
 network_text protocol = name_or (network_protocol_name protocol) (network_number protocol)
 
--- The text of the content of a packet, with the length of its payload. If the packet is not read, the text is empty. If its IP headers are
--- refused, the text contains only the addresses.
+-- This is the text of the content of a packet, with the length of its payload. If the packet is not read, the text is empty. If its IP
+-- headers are refused or cut off, the text contains only the addresses.
 abbrev pub IsContentText : Content → List ℕ → Type 0
 IsContentText contents.Unread text = text ≡ []
 IsContentText (contents.IpHeader addresses) text = text ≡ addresses_text (by_value addresses)
@@ -150,7 +151,8 @@ details_text verbose packet = if verbose then hop_limit_text packet.hop_limit el
 abbrev pub verdict_part : Verdict → List ℕ
 verdict_part verdict = if is_other_protocol verdict then [] else codes "; " ++ verdict_text verdict
 
--- the end of a line: the verdict, with a semicolon before it unless the packet is not read
+-- The verdict at the end of a line. If the content is `Unread`, the text is only the verdict. Otherwise the text is a semicolon and the
+-- verdict, or empty if the protocol is not read.
 abbrev pub end_text : Content → Verdict → List ℕ
 end_text contents.Unread verdict = verdict_text verdict
 end_text (contents.IpHeader addresses) verdict = verdict_part verdict
@@ -170,7 +172,8 @@ IsLine times verbose number first time len packet line =
     ++ (flat_map tunnel_text packet.tunnels.items
     ++ (what ++ (details_text verbose packet ++ (end_text packet.content packet.verdict ++ codes "\n"))))))))
 
--- if two packets are equal, and their numbers, times and lengths too, their lines are equal
+-- The line of a packet depends only on the packet, its number, its time, the time of the first packet, its frame length, `times` and
+-- `verbose`.
 abbrev pub HasOneLine : Times → Bool → ℕ → Option PacketTime → Option PacketTime → Option FrameLen → Packet → Type 0
 HasOneLine times verbose number first time len packet = (line other : List ℕ)
     → IsLine times verbose number first time len packet line → IsLine times verbose number first time len packet other → line ≡ other

@@ -15,7 +15,7 @@ use Rattle.capture_summary.specs.declared.conversation_count.ConversationCount.{
 
 -- ---- cells and rows: names are aligned to the left, numbers and their titles are aligned to the right
 
--- the width of the names of rows
+-- the width of the column of names
 abbrev pub name_width : ℕ
 name_width = 25
 
@@ -35,7 +35,7 @@ number_cell width number = padded_integral (format_spec 32 3 0 width (2 ^ 64 - 1
 abbrev pub packets_head : List ℕ → List ℕ
 packets_head title = name_cell name_width title ++ (codes " " ++ (title_cell 11 (codes "packets") ++ codes "\n"))
 
--- a row of a table that counts packets; it is left out if it counts no packet
+-- a row of a table that counts packets; a row that counts no packet is left out
 abbrev pub packets_row : List ℕ × ℕ → List ℕ
 packets_row row = if row.1 == 0 then [] else name_cell name_width row.0 ++ (codes " " ++ (number_cell 11 row.1 ++ codes "\n"))
 
@@ -45,14 +45,14 @@ counts_head title =
     name_cell name_width title
     ++ (codes " " ++ (title_cell 11 (codes "packets") ++ (codes " " ++ (title_cell 17 (codes "bytes") ++ codes "\n"))))
 
--- a row of a table that counts packets and bytes; it is left out if it counts no packet
+-- a row of a table that counts packets and bytes; a row that counts no packet is left out
 abbrev pub counts_row : List ℕ × Count → List ℕ
 counts_row row =
     if row.1.packets == 0 then []
     else name_cell name_width row.0 ++ (codes " " ++ (number_cell 11 row.1.packets ++ (codes " "
     ++ (number_cell 17 row.1.bytes ++ codes "\n"))))
 
--- ---- tables: a table after an empty line; `packets` is the number of packets that it counts, and without packets it is left out
+-- ---- tables: an empty line precedes each table; `packets` is the number of packets that a table counts; if it is 0, the table is left out
 
 -- a table that counts packets
 abbrev pub packets_table : ℕ → List ℕ → List (List ℕ × ℕ) → List ℕ
@@ -86,20 +86,21 @@ conversation_row width row =
     ++ (number_cell 13 row.forward.bytes ++ (codes " " ++ (number_cell 11 row.reverse.packets ++ (codes " "
     ++ (number_cell 13 row.reverse.bytes ++ codes "\n"))))))))))))
 
--- a row for packets that no conversation counts; it is left out if it counts no packet
+-- A row for packets that are counted in no conversation: packets without ports, or packets of flows for which the summary had no room. If
+-- their number is 0, the row is left out.
 abbrev pub counted_row : ℕ → List ℕ → Count → List ℕ
 counted_row width name count =
     if count.packets == 0 then []
     else name_cell width name ++ (codes " " ++ (number_cell 9 count.packets ++ (codes " " ++ (number_cell 13 count.bytes ++ codes "\n"))))
 
--- the head and the rows of the table: the busiest conversations, and the packets that no conversation counts
+-- the head and the rows of the table: the busiest conversations, the packets without ports, and the packets of other flows
 abbrev pub conversation_rows : List ConversationCount → Count → Count → ℕ → List ℕ
 conversation_rows busiest without_ports without_room width =
     codes "\n" ++ (conversations_head width (codes "busiest conversations") ++ (flat_map (conversation_row width) busiest
     ++ (counted_row width (codes "packets without ports") without_ports
     ++ counted_row width (codes "packets of other flows") without_room)))
 
--- the table of conversations has no rows: there are no conversations, and no packets that no conversation counts
+-- the table of conversations has no rows: there are no conversations, no packets without ports, and no packets of other flows
 abbrev pub is_without_rows : List ConversationCount → Count → Count → Bool
 is_without_rows busiest without_ports without_room =
     length busiest == 0 && (without_ports.packets == 0 && without_room.packets == 0)
@@ -112,7 +113,7 @@ conversations_table busiest without_ports without_room =
 
 -- ---- the summary
 
--- the totals and the tables, with these conversations; the rows of protocols are ordered by their packets
+-- the totals and the tables, with these conversations; the rows of protocols are in the order of their numbers of packets
 abbrev pub tables_text : List ConversationCount → SummaryTables → List ℕ
 tables_text busiest tables =
     totals_text tables ++ (packets_table tables.packets (codes "link type") (link_rows tables.links)
@@ -121,6 +122,6 @@ tables_text busiest tables =
     ++ (packets_table (slice_index tables.verdicts (verdict_place Refused)) (codes "refused") (refusal_rows tables.refusals)
     ++ conversations_table busiest tables.flows.without_ports tables.flows.without_room))))
 
--- the totals and the tables, with at most `top` of the busiest conversations
+-- the totals and the tables, with the `top` busiest conversations, or all conversations if there are fewer
 abbrev pub summary_text : ℕ → SummaryTables → List ℕ
 summary_text top tables = tables_text (busiest_of top tables.flows.rows) tables

@@ -13,7 +13,7 @@ abbrev pub average_text : Option ℕ → List ℕ
 average_text None = []
 average_text (Some bytes) = codes ", bytes a packet " ++ decimal bytes
 
--- the numbers of packets and bytes, the average number of bytes of a packet, and the number of conversations that have a row
+-- the numbers of packets and bytes, the average number of bytes of a packet, and the number of conversations in the summary
 abbrev pub counts_text : SummaryTables → List ℕ
 counts_text tables =
     codes "packets " ++ (decimal tables.packets ++ (codes ", bytes " ++ (decimal tables.bytes
@@ -25,17 +25,17 @@ abbrev pub rates_text : Option Rates → List ℕ
 rates_text None = []
 rates_text (Some rates) = codes ", packets a second " ++ (decimal rates.packets ++ (codes ", bits a second " ++ decimal rates.bits))
 
--- the line of the first or last packet: the word `first` or `last`, and the date and time of the packet
+-- the line of the earliest or latest packet: the word `first` or `last`, and the date and time of the packet
 abbrev pub named_time_text : List ℕ → PacketTime → List ℕ
 named_time_text name time = name ++ (codes " packet " ++ (absolute_text time ++ codes "\n"))
 
--- the time between the earliest packet and the latest, and the rates in this time
+-- the time between the earliest and the latest packet, and the rates in this time
 abbrev pub duration_line : SummaryTables → TimeSpan → List ℕ
 duration_line tables span =
     codes "duration " ++ (elapsed_text span.earliest span.latest
     ++ (rates_text (rates_of tables.packets tables.bytes span) ++ codes "\n"))
 
--- the times of the first and the last packet, and the duration; the text is empty if no time is known
+-- the times of the earliest and the latest packet, and the duration; the text is empty if no time is known
 abbrev pub times_text : SummaryTables → Option TimeSpan → List ℕ
 times_text tables None = []
 times_text tables (Some span) =

@@ -14,7 +14,7 @@ use Rattle.capture_summary.specs.declared.verdict_kind.VerdictKind.TheVariants a
 use Rattle.capture_words.specs.Numbers.{hex_padded}
 use Rattle.capture_words.specs.Refusals.{refusal_text}
 
--- the reason why a checksum is not tested; a UDP packet with a length field of 0 is refused
+-- the reason why a checksum is not tested; for a UDP packet with a length field of 0, the text states that the packet is refused
 abbrev pub untested_text : Untested → List ℕ
 untested_text reasons.Fragment = codes "checksum not looked at: a fragment"
 untested_text reasons.CutOff = codes "checksum not looked at: cut off"
@@ -35,7 +35,7 @@ checksum_text (checksums.Partial expected) = word_text kinds.Partial
 checksum_text checksums.Absent = word_text kinds.Absent
 checksum_text (checksums.Untested reason) = untested_text reason
 
--- the protocol of the packet is not read
+-- this is the verdict on a packet whose protocol is not read
 abbrev pub is_other_protocol : Verdict → Bool
 is_other_protocol (verdicts.Checksum (checksums.Untested reasons.OtherProtocol)) = true
 is_other_protocol _ = false

@@ -11,7 +11,7 @@ use std::io;
 use std::io::Write;
 use std::net::SocketAddr;
 
-/// Writes the addresses of a packet, for example `192.0.2.1 > 192.0.2.2`.
+/// Writes the addresses of a packet, for example `192.0.2.1 > 192.0.2.2`. An unknown final destination is the word `unknown`.
 pub fn write_addresses<W: Write>(output: &mut W, addresses: IpAddresses<'_>) -> io::Result<()>
     ensures { OnOk result (Appends (W.contents output.old) (W.contents output.new) (addresses_text (by_value addresses.entry))) }
 {
@@ -22,7 +22,8 @@ pub fn write_addresses<W: Write>(output: &mut W, addresses: IpAddresses<'_>) -> 
     }
 }
 
-/// Writes the addresses of a packet with its ports, for example `192.0.2.1:49152 > 192.0.2.2:53`. An IPv6 address is in brackets.
+/// Writes the addresses of a packet with its ports, for example `192.0.2.1:49152 > 192.0.2.2:53`. An IPv6 address is in brackets. An
+/// unknown final destination is the word `unknown`.
 pub fn write_endpoints<W: Write>(
     output: &mut W,
     addresses: IpAddresses<'_>,

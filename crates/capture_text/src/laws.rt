@@ -7,7 +7,8 @@ ghost use Rattle.capture_summary.specs.declared.capture_info.FrameLen.{FrameLen}
 ghost use Rattle.capture_text.specs.PacketLine.{HasOneLine};
 ghost use Rattle.capture_words.specs.declared.times.Times.{Times};
 
-/// If two packets are equal, and their numbers, times and lengths too, their lines are equal.
+/// The line of a packet depends only on the packet, its number, its time, the time of the first packet, its frame length, `times` and
+/// `verbose`.
 pub fn one_line()
     ensures { (times : Times) (verbose : Bool) (number : ℕ) (first time : Option PacketTime) (len : Option FrameLen) (packet : Packet)
         → HasOneLine times verbose number first time len packet }

@@ -55,7 +55,8 @@ pub fn write_packet_line<W: Write>(
     writeln!(output)
 }
 
-/// Writes the length of a frame in bytes. If fewer bytes were captured, it also writes their number.
+/// Writes the length of a frame in bytes. If the number of captured bytes differs, it also writes this number. If the length is unknown, it
+/// writes that it is unknown.
 fn write_frame_len<W: Write>(output: &mut W, len: Option<FrameLen>) -> io::Result<()>
     ensures { OnOk result (Appends (W.contents output.old) (W.contents output.new) (frame_text len)) }
 {
@@ -67,7 +68,7 @@ fn write_frame_len<W: Write>(output: &mut W, len: Option<FrameLen>) -> io::Resul
     write!(output, ": ")
 }
 
-/// Writes the outer packet of each tunnel: its addresses and its protocol.
+/// Writes the outer packet of each tunnel: its addresses, its protocol, and a bar.
 fn write_tunnels<W: Write>(output: &mut W, tunnels: &[Tunnel<'_>]) -> io::Result<()>
     ensures { OnOk result (Appends (W.contents output.old) (W.contents output.new) (flat_map tunnel_text tunnels.now)) }
 {
@@ -78,7 +79,7 @@ fn write_tunnels<W: Write>(output: &mut W, tunnels: &[Tunnel<'_>]) -> io::Result
     Ok(())
 }
 
-/// Writes the content of a packet. Nothing is written for a packet that is not read.
+/// Writes the content of a packet. For a packet that is not read, it writes nothing. For refused IP headers, it writes only the addresses.
 fn write_content<W: Write>(output: &mut W, content: &Content) -> io::Result<()>
     ensures { OnOk result (AppendsOne (W.contents output.old) (W.contents output.new) (IsContentText content.now)) }
 {
@@ -110,7 +111,8 @@ fn write_details<W: Write>(output: &mut W, verbose: bool, packet: &Packet) -> io
     }
 }
 
-/// Writes the end of a line: the verdict on a packet. A semicolon precedes it, unless the packet is not read.
+/// Writes the verdict at the end of a line. If the content is `Unread`, it writes only the verdict. Otherwise it writes a semicolon and the
+/// verdict, or nothing if the protocol is not read.
 fn write_end<W: Write>(output: &mut W, content: &Content, verdict: &Verdict) -> io::Result<()>
     ensures { OnOk result (Appends (W.contents output.old) (W.contents output.new) (end_text content.now verdict.now)) }
 {
@@ -122,7 +124,7 @@ fn write_end<W: Write>(output: &mut W, content: &Content, verdict: &Verdict) -> 
     }
 }
 
-/// Writes the verdict after the content of a packet. It writes nothing if the protocol is not read.
+/// Writes a semicolon and the verdict after the content of a packet. It writes nothing if the protocol is not read.
 fn write_verdict_part<W: Write>(output: &mut W, verdict: &Verdict) -> io::Result<()>
     ensures { OnOk result (Appends (W.contents output.old) (W.contents output.new) (verdict_part verdict.now)) }
 {
@@ -133,7 +135,7 @@ fn write_verdict_part<W: Write>(output: &mut W, verdict: &Verdict) -> io::Result
     write_verdict(output, verdict)
 }
 
-/// Writes the protocol of a frame without an IP packet.
+/// Writes the protocol of a frame without an IP packet: its name, or its numbers if it has no name.
 fn write_network_protocol<W: Write>(output: &mut W, protocol: NetworkProtocol) -> io::Result<()>
     ensures { OnOk result (Appends (W.contents output.old) (W.contents output.new) (network_text protocol)) }
 {
@@ -203,7 +205,7 @@ fn write_transport<W: Write>(
     }
 }
 
-/// Writes a UDP datagram.
+/// Writes the addresses of a packet, and the ports and the length field of its UDP datagram.
 fn write_udp<W: Write>(
     output: &mut W,
     addresses: IpAddresses<'_>,
@@ -216,7 +218,7 @@ fn write_udp<W: Write>(
     write!(output, " UDP length {}", datagram.length())
 }
 
-/// Writes a TCP segment.
+/// Writes the addresses of a packet, and the ports and other fields of its TCP header.
 fn write_tcp<W: Write>(
     output: &mut W,
     addresses: IpAddresses<'_>,
@@ -230,7 +232,7 @@ fn write_tcp<W: Write>(
     tcp::write_header(output, segment)
 }
 
-/// Writes an ICMPv4 message, and the packet that it quotes.
+/// Writes the addresses of a packet, its ICMPv4 message, and the packet that the message quotes, if there is one.
 fn write_icmpv4<W: Write>(
     output: &mut W,
     addresses: IpAddresses<'_>,
@@ -246,7 +248,7 @@ fn write_icmpv4<W: Write>(
     write_quoted(output, quoted)
 }
 
-/// Writes an ICMPv6 message, and the packet that it quotes.
+/// Writes the addresses of a packet, its ICMPv6 message, and the packet that the message quotes, if there is one.
 fn write_icmpv6<W: Write>(
     output: &mut W,
     addresses: IpAddresses<'_>,
@@ -288,7 +290,7 @@ fn write_known_endpoints<W: Write>(
     }
 }
 
-/// Writes an IP packet with a transport that is not read, and its ports if they are known.
+/// Writes an IP packet whose transport is not read: its addresses, its ports if they are known, and its protocol.
 fn write_unread<W: Write>(
     output: &mut W,
     addresses: IpAddresses<'_>,
@@ -318,7 +320,7 @@ fn write_protocol<W: Write>(
     }
 }
 
-/// Writes the length of a payload in bytes. If fewer bytes were captured, it also writes their number.
+/// Writes the length of a payload in bytes. If the number of captured bytes differs, it also writes this number.
 fn write_payload_len<W: Write>(output: &mut W, payload_len: usize, payload: &[u8]) -> io::Result<()>
     ensures { OnOk result (Appends (W.contents output.old) (W.contents output.new) (payload_text payload_len payload.now)) }
 {
@@ -326,7 +328,7 @@ fn write_payload_len<W: Write>(output: &mut W, payload_len: usize, payload: &[u8
     write_captured(output, payload_len as u64, payload.len() as u64)
 }
 
-/// Writes the number of captured bytes, unless all `len` bytes were captured.
+/// Writes the number of captured bytes, unless this number is `len`.
 fn write_captured<W: Write>(output: &mut W, len: u64, captured_len: u64) -> io::Result<()>
     ensures { OnOk result (Appends (W.contents output.old) (W.contents output.new) (captured_text len captured_len)) }
 {

@@ -16,7 +16,8 @@ use std::io::{ErrorKind, Write};
 /// The width of the column of names. Every name fits into it, except names of conversations.
 const NAME_WIDTH: usize = 25;
 
-/// The room for the name of a conversation, in bytes. An IPv6 address with its port has at most 58 bytes, and a name contains two of them.
+/// The room for the name of a conversation, in bytes. A name contains a protocol and two addresses with ports. An IPv6 address with its
+/// port has at most 58 bytes.
 const MOST_CONVERSATION_NAME_LEN: usize = 128;
 
 /// Writes the numbers of packets, bytes and conversations, and the times of the packets. Then it writes the tables of link types,
@@ -66,7 +67,7 @@ fn write_table<W: Write>(
     Ok(())
 }
 
-/// Writes a row of a table, unless it counts no packet.
+/// Writes a row of a table. If `packets` is 0, nothing is written.
 fn write_row<W: Write>(output: &mut W, name: &str, packets: u64) -> io::Result<()>
     ensures { OnOk result (Appends (W.contents output.old) (W.contents output.new) (specs.packets_row (name.now, packets))) }
 {
@@ -76,7 +77,7 @@ fn write_row<W: Write>(output: &mut W, name: &str, packets: u64) -> io::Result<(
     writeln!(output, "{name:<NAME_WIDTH$} {packets:>11}")
 }
 
-/// Writes an empty line and the table of protocols, with the packets and bytes of each. If `packets` is 0, nothing is written.
+/// Writes an empty line and the table of protocols, with the packets and bytes of each protocol. If `packets` is 0, nothing is written.
 fn write_protocols<W: Write>(output: &mut W, rows: &[(&str, Count)], packets: u64) -> io::Result<()>
     ensures { OnOk result (Appends (W.contents output.old) (W.contents output.new)
         (counts_table packets (codes "protocol") (map (λ row. (row.0.now, row.1)) rows.now))) }
@@ -96,7 +97,7 @@ fn write_protocols<W: Write>(output: &mut W, rows: &[(&str, Count)], packets: u6
     Ok(())
 }
 
-/// Writes a row of the table of protocols, unless it counts no packet.
+/// Writes a row of the table of protocols. If the row counts no packets, nothing is written.
 fn write_count<W: Write>(output: &mut W, name: &str, count: Count) -> io::Result<()>
     ensures { OnOk result (Appends (W.contents output.old) (W.contents output.new) (specs.counts_row (name.now, count))) }
 {
@@ -134,7 +135,7 @@ pub fn write_conversations<W: Write>(
     write_counted(output, "packets of other flows", width, without_room)
 }
 
-/// Whether the table of conversations has no rows: there are no conversations, and no packets that no conversation counts.
+/// Whether the table of conversations has no rows: there are no conversations, no packets without ports, and no packets of other flows.
 fn is_without_rows(busiest: &[ConversationCount], without_ports: Count, without_room: Count) -> bool
     ensures { result ≡ specs.is_without_rows busiest.now without_ports without_room }
 {
@@ -201,7 +202,8 @@ fn write_conversation<W: Write>(
     )
 }
 
-/// Writes a row for packets that no conversation counts. If it counts no packet, nothing is written.
+/// Writes a row for packets that are counted in no conversation: packets without ports, or packets of flows for which the summary had no
+/// room. If their number is 0, nothing is written.
 fn write_counted<W: Write>(output: &mut W, name: &str, width: usize, count: Count) -> io::Result<()>
     ensures { OnOk result (Appends (W.contents output.old) (W.contents output.new) (specs.counted_row width name.now count)) }
 {

@@ -11,7 +11,7 @@ use std::io;
 use std::io::Write;
 
 /// Writes the numbers of packets, bytes and conversations, and the average number of bytes of a packet. If a time is known, it also writes
-/// the times of the first and the last packet, the duration, and the rates per second. If the duration is 0, it writes no rates.
+/// the times of the earliest and the latest packet, the duration, and the rates per second. If the duration is 0, it writes no rates.
 pub(crate) fn write_totals<W: Write>(output: &mut W, summary: &Summary) -> io::Result<()>
     ensures { OnOk result (Appends (W.contents output.old) (W.contents output.new) (specs.totals_text summary.now)) }
 {
@@ -33,7 +33,7 @@ fn write_average<W: Write>(output: &mut W, average: Option<u64>) -> io::Result<(
     }
 }
 
-/// Writes the times of the first and the last packet, and the duration, if a time is known.
+/// Writes the times of the earliest and the latest packet, and the duration. If no time is known, it writes nothing.
 fn write_times<W: Write>(
     output: &mut W,
     summary: &Summary,
@@ -49,7 +49,7 @@ fn write_times<W: Write>(
     write_duration_line(output, summary, span)
 }
 
-/// Writes the line of the first or last packet: this name, and the date and time of the packet.
+/// Writes the line of the earliest or latest packet. `name` is the word `first` or `last`. The date and time of the packet follow it.
 fn write_named_time<W: Write>(output: &mut W, name: &str, time: PacketTime) -> io::Result<()>
     ensures { OnOk result (Appends (W.contents output.old) (W.contents output.new) (specs.named_time_text name.now time)) }
 {
@@ -58,7 +58,7 @@ fn write_named_time<W: Write>(output: &mut W, name: &str, time: PacketTime) -> i
     writeln!(output)
 }
 
-/// Writes the time between the earliest packet and the latest, and the rates in this time.
+/// Writes the time between the earliest and the latest packet, and the rates in this time.
 fn write_duration_line<W: Write>(
     output: &mut W,
     summary: &Summary,

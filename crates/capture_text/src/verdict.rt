@@ -30,7 +30,7 @@ pub fn write_verdict<W: Write>(output: &mut W, verdict: &Verdict) -> io::Result<
     }
 }
 
-/// Whether the protocol of a packet is not read.
+/// Whether this is the verdict on a packet whose protocol is not read.
 pub fn is_other_protocol(verdict: &Verdict) -> bool
     ensures { result ≡ specs.is_other_protocol verdict.now }
 {
@@ -56,14 +56,14 @@ fn write_checksum<W: Write>(output: &mut W, verdict: ChecksumVerdict) -> io::Res
     }
 }
 
-/// Writes the word for the verdict on a checksum.
+/// Writes the word `checksum`, and then the word for the verdict.
 fn write_word<W: Write>(output: &mut W, kind: VerdictKind) -> io::Result<()>
     ensures { OnOk result (Appends (W.contents output.old) (W.contents output.new) (word_text kind)) }
 {
     write!(output, "checksum {}", kind.name())
 }
 
-/// Writes the reason why a checksum is not tested. A UDP packet with a length field of 0 is refused.
+/// Writes the reason why a checksum is not tested. For a UDP packet with a length field of 0, it writes that the packet is refused.
 fn write_untested<W: Write>(output: &mut W, reason: Untested) -> io::Result<()>
     ensures { OnOk result (Appends (W.contents output.old) (W.contents output.new) (untested_text reason)) }
 {

@@ -21,11 +21,11 @@ simple_packet_type = 3
 abbrev pub enhanced_packet_type : ℕ
 enhanced_packet_type = 6
 
--- the place of the body in a block, which follows the type and the first total length (section 3.1)
+-- the place of the body in a block: after the type and the first total length (section 3.1)
 abbrev pub body_at : ℕ
 body_at = 8
 
--- the length of the last total length, which ends a block (section 3.1)
+-- the length of the last field of a block: the total length again (section 3.1)
 abbrev pub trailer_len : ℕ
 trailer_len = 4
 
@@ -49,6 +49,6 @@ simple_captured_at = 4
 abbrev pub timed_captured_at : ℕ
 timed_captured_at = 20
 
--- the place of the number of captured bytes in the body of an enhanced or obsolete packet block
+-- the place of the captured length in the body of an enhanced or obsolete packet block
 abbrev pub timed_captured_len_at : ℕ
 timed_captured_len_at = 12

@@ -6,12 +6,12 @@ use Rattle.ip_part.specs.Options.{options_of}
 use Rattle.capture_texts.specs.Numbers.{short_at}
 use Rattle.capture_texts.specs.declared.byte_order.ByteOrder.{ByteOrder}
 
--- the length of an option with a value of this length: its code, the length of the value, and the value padded to four bytes
+-- the length of an option with a value of this length: four bytes before the value, and the value padded to a multiple of four bytes
 abbrev pub option_len : ℕ → ℕ
 option_len value_len = 4 + (value_len + 3) / 4 * 4
 
--- The option at the front of the options of a block, if there is one. Code 0 ends the options. The option must end within the body of the
--- block.
+-- The option at the front of these bytes, which are the rest of a block's options. `None` if the options end here with code 0, or if the
+-- bytes are too short for an option.
 abbrev pub pcapng_option : ByteOrder → List ℕ → Option (List ℕ)
 pcapng_option order bytes =
     if nat_lt (length bytes) 4 || short_at order bytes 0 == 0 then None

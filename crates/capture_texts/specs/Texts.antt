@@ -33,7 +33,7 @@ kept_text text = record { bytes = record { items = take (kept_len text) text }; 
 
 -- ---- the texts of blocks
 
--- the text in the first option with this code; it is empty if there is no such option
+-- the text in the first option with this code; the text is empty if no option has this code
 abbrev pub text_in : ByteOrder → ℕ → List ℕ → List ℕ
 text_in order code options = unwrap_or (option_value order code None options) []
 
@@ -69,7 +69,7 @@ interface_texts order options = record {
   comment = kept_text (text_in order opt_comment options);
 }
 
--- the state before the first block
+-- the texts before the first block of a file: all of them are empty, and no packet is counted
 abbrev pub no_texts : FileTexts
 no_texts = record {
   comment = kept_text [];
@@ -80,7 +80,7 @@ no_texts = record {
   commented_packets = 0;
 }
 
--- the state after a section header block with these options
+-- the texts after a section header block with these options; the number of packets with a comment does not change
 abbrev pub section_begun : ByteOrder → List ℕ → FileTexts → FileTexts
 section_begun order options before = record {
   comment = kept_text (text_in order opt_comment options);
@@ -91,33 +91,34 @@ section_begun order options before = record {
   commented_packets = before.commented_packets;
 }
 
--- the maximum number of interfaces of a section whose texts are kept
+-- the maximum number of interfaces whose texts are kept, in each section
 abbrev pub max_interfaces_with_texts : ℕ
 max_interfaces_with_texts = 32
 
--- the state after an interface description block with these options; its texts are left out if there is no room for them
+-- The texts after an interface description block with these options. If the section already has the maximum number of interfaces with
+-- texts, the texts of the block are left out.
 abbrev pub interface_added : ByteOrder → List ℕ → FileTexts → FileTexts
 interface_added order options before =
     if nat_lt (length before.interfaces.items) max_interfaces_with_texts
     then record before { interfaces = record { items = before.interfaces.items ++ interface_texts order options ∷ [] } }
     else before
 
--- an enhanced packet block with this body has a comment; its options follow the captured bytes, which are padded to four bytes (section
--- 4.3)
+-- An enhanced packet block with this body has a comment that is not empty. The options of the block follow the captured bytes, which are
+-- padded to a multiple of four bytes (section 4.3).
 abbrev pub has_comment : ByteOrder → List ℕ → Bool
 has_comment order body =
     let options_at = timed_captured_at + (number_at order body timed_captured_len_at + 3) / 4 * 4 in
     if nat_le (length body) timed_captured_at then false
     else not (length (text_in order opt_comment (drop options_at body)) == 0)
 
--- the state after an enhanced packet block with this body; its packet is counted if it has a comment
+-- the texts after an enhanced packet block with this body; its packet is counted if the block has a comment
 abbrev pub packet_added : ByteOrder → List ℕ → FileTexts → FileTexts
 packet_added order body before =
     if has_comment order body
     then record before { commented_packets = min (before.commented_packets + 1) (2 ^ 64 - 1) }
     else before
 
--- the state after a block with this type and body; `order` is the byte order of its section
+-- the texts after a block with this type and body; `order` is the byte order of the block's section
 abbrev pub texts_after : ByteOrder → ℕ → List ℕ → FileTexts → FileTexts
 texts_after order type body before =
     if type == section_header_type then section_begun order (drop section_header_len body) before

@@ -15,10 +15,10 @@ pub const SIMPLE_PACKET: u32 = 3;
 /// The type of an enhanced packet block (section 4.3).
 pub const ENHANCED_PACKET: u32 = 6;
 
-/// The place of the body in a block, which follows the type and the first total length (section 3.1).
+/// The place of the body in a block: after the type and the first total length (section 3.1).
 pub const BODY_AT: usize = 8;
 
-/// The length of the last total length, which ends a block (section 3.1).
+/// The length of the last field of a block: the total length again (section 3.1).
 pub const LAST_LEN: usize = 4;
 
 /// The length of the body of a section header block without options: magic, versions, and the length of the section (section 4.1).
@@ -33,5 +33,5 @@ pub const SIMPLE_CAPTURED_AT: usize = 4;
 /// The place of the captured bytes in the body of an enhanced or obsolete packet block (section 4.3 and appendix A).
 pub const TIMED_CAPTURED_AT: usize = 20;
 
-/// The place of the number of captured bytes in the body of an enhanced or obsolete packet block.
+/// The place of the captured length in the body of an enhanced or obsolete packet block.
 pub const TIMED_CAPTURED_LEN_AT: usize = 12;

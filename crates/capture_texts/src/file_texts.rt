@@ -9,7 +9,7 @@ use crate::options::option_value;
 use crate::{ByteOrder, KeptText};
 use arrayvec::ArrayVec;
 
-/// The maximum number of interfaces of a section whose texts are kept.
+/// The maximum number of interfaces whose texts are kept, in each section.
 pub const MAX_INTERFACES_WITH_TEXTS: usize = 32;
 
 /// The code of a comment in any block (draft-ietf-opsawg-pcapng, section 3.5).
@@ -73,14 +73,14 @@ pub struct FileTexts {
 }
 
 impl FileTexts {
-    /// The state before the first block: no texts, and no packets counted.
+    /// The texts before the first block of a file: all of them are empty, and no packet is counted.
     pub fn new() -> FileTexts
         ensures { result ≡ specs.no_texts }
     {
         FileTexts::default()
     }
 
-    /// Takes in the texts of the next block, which has this type and body. `order` is the byte order of its section.
+    /// Updates the texts with the next block, which has this type and body. `order` is the byte order of the block's section.
     pub fn note(&mut self, order: ByteOrder, block_type: u32, body: &[u8])
         ensures { self.new ≡ specs.texts_after order block_type body.now self.old }
     {
@@ -117,7 +117,7 @@ impl FileTexts {
         }
     }
 
-    /// Counts the packet of an enhanced packet block with this body, if it has a comment.
+    /// Counts the packet of an enhanced packet block with this body, if the block has a comment.
     fn add_packet(&mut self, order: ByteOrder, body: &[u8])
         ensures { self.new ≡ specs.packet_added order body.now self.old }
     {
@@ -127,7 +127,8 @@ impl FileTexts {
     }
 }
 
-/// Whether an enhanced packet block with this body has a comment. The options follow the captured bytes, which are padded to four bytes.
+/// Whether an enhanced packet block with this body has a comment that is not empty. The options follow the captured bytes, which are padded
+/// to a multiple of four bytes.
 fn has_comment(order: ByteOrder, body: &[u8]) -> bool
     ensures { result ≡ specs.has_comment order body.now }
 {
@@ -139,7 +140,7 @@ fn has_comment(order: ByteOrder, body: &[u8]) -> bool
     !text_in(order, options, COMMENT).is_empty()
 }
 
-/// The text in the first option with this code. It is empty if there is no such option.
+/// The text in the first option with this code. The text is empty if no option has this code.
 fn text_in(order: ByteOrder, options: &[u8], code: u16) -> &[u8]
     ensures { result.now ≡ specs.text_in order code options.now }
 {
@@ -149,7 +150,7 @@ fn text_in(order: ByteOrder, options: &[u8], code: u16) -> &[u8]
     }
 }
 
-/// The bytes after the first `len` bytes. There are none if `bytes` is shorter.
+/// The bytes after the first `len` bytes. The result is empty if `bytes` has at most `len` bytes.
 fn after(bytes: &[u8], len: usize) -> &[u8]
     ensures { result.now ≡ drop len bytes.now }
 {

@@ -9,10 +9,10 @@ pub const MAX_TEXT_LEN: usize = 128;
 /// A text of a block, cut to at most `MAX_TEXT_LEN` bytes. It should be UTF-8, but it may consist of any bytes.
 #[derive(Clone, Debug, Default, Drop)]
 pub struct KeptText {
-    /// The kept bytes, with which the text begins. They are empty if the block does not have this text.
+    /// The first bytes of the text. They are empty if the block does not contain the text.
     pub bytes: ArrayVec<u8, MAX_TEXT_LEN>,
-    /// Whether the text has more bytes than are kept. Then the kept bytes end before the first character that goes beyond `MAX_TEXT_LEN`
-    /// bytes.
+    /// Whether the text has more bytes than are kept. If it has, the kept bytes end before the first character that does not fit in
+    /// `MAX_TEXT_LEN` bytes.
     pub is_cut: bool,
 }
 

@@ -1,7 +1,7 @@
-//! The texts of a pcapng file that describe it: names, descriptions and comments (draft-ietf-opsawg-pcapng, sections 3.5, 4.1 and 4.2).
+//! The texts that describe a pcapng file: names, descriptions and comments (draft-ietf-opsawg-pcapng, sections 3.5, 4.1 and 4.2).
 //!
-//! `ByteOrder` reads the numbers of a capture, `LinkType` is the kind of its frames, and `option_value` reads an option of a block.
-//! `FileTexts` keeps the texts of the section that is read, up to `MAX_TEXT_LEN` bytes of each. Nothing is allocated.
+//! `ByteOrder` reads the numbers of a capture, `LinkType` is the kind of the frames in a capture, and `option_value` reads an option of a
+//! block. `FileTexts` keeps the texts of the section that is read, up to `MAX_TEXT_LEN` bytes of each text. Nothing is allocated.
 //!
 //! ```
 //! let mut texts = FileTexts::new();

@@ -36,7 +36,7 @@ pub enum LinkType {
     Radiotap,
     /// An AVS header, and an IEEE 802.11 frame (LINKTYPE_IEEE802_11_AVS, 163).
     Avs,
-    /// A header of Per-Packet Information, and a frame of the link type that it states (LINKTYPE_PPI, 192).
+    /// A header of Per-Packet Information, and a frame of the link type that this header states (LINKTYPE_PPI, 192).
     Ppi,
     /// A header of 24 bytes of Solaris, and the packet (LINKTYPE_IPNET, 226).
     Ipnet,
@@ -44,7 +44,7 @@ pub enum LinkType {
     Nflog,
     /// IP over InfiniBand: a global routing header of 40 bytes, an ether type, and two reserved bytes (LINKTYPE_IPOIB, 242).
     InfiniBand,
-    /// A header of Apple's packet tap, and a frame of the link type that it states (LINKTYPE_PKTAP, 258).
+    /// A header of Apple's packet tap, and a frame of the link type that this header states (LINKTYPE_PKTAP, 258).
     Pktap,
     /// A header of 20 bytes instead of the link header (LINKTYPE_LINUX_SLL2, 276).
     LinuxCooked2,

@@ -27,7 +27,8 @@ pub fn option_value(order: ByteOrder, options: &[u8], code: u16, len: Option<u16
     None
 }
 
-/// The option at the front of the options of a block, or `None` if there is no whole option.
+/// The option at the front of these bytes, which are the rest of a block's options. `None` if the options end here with code 0, or if the
+/// bytes are too short for an option.
 fn first_option(order: ByteOrder, bytes: &[u8]) -> Option<&[u8]>
     ensures front { MatchOption result (specs.pcapng_option order bytes.now ≡ None)
         (λ option. specs.pcapng_option order bytes.now ≡ Some option.now) }
@@ -40,7 +41,7 @@ fn first_option(order: ByteOrder, bytes: &[u8]) -> Option<&[u8]>
     bytes.get(..option_len(order.short_in(bytes, 2)))
 }
 
-/// The length in bytes of an option with a value of this length. The value is padded to four bytes.
+/// The length in bytes of an option with a value of this length. The value is padded to a multiple of four bytes.
 fn option_len(value_len: u16) -> usize
     ensures { result ≡ specs.option_len value_len }
 {

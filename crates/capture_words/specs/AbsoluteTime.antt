@@ -15,30 +15,31 @@ use Rattle.capture_words.specs.Numbers.{zero_padded}
 abbrev pub nanoseconds_since_1970 : PacketTime → ℤ
 nanoseconds_since_1970 time = pos (nanoseconds_of time) -ℤ pos (2 ^ 63 * nanoseconds_per_second)
 
--- the nanoseconds in a day, which has no leap second here (RFC 3339, appendix D)
+-- the nanoseconds in a day; leap seconds are not counted (RFC 3339, appendix D)
 abbrev pub nanoseconds_per_day : ℕ
 nanoseconds_per_day = 86400 * nanoseconds_per_second
 
--- the number of the day: 0 is 1 January 1970, and earlier days have negative numbers
+-- the number of the day at this many nanoseconds since 1970: 1 January 1970 is day 0, and earlier days have negative numbers
 abbrev pub day_of : ℤ → ℤ
 day_of nanoseconds = int_div_euclid nanoseconds (pos nanoseconds_per_day)
 
--- the nanoseconds since midnight of the day
+-- the nanoseconds since the beginning of the day, at this many nanoseconds since 1970
 abbrev pub nanoseconds_of_day : ℤ → ℕ
 nanoseconds_of_day nanoseconds = unsigned_abs (int_rem_euclid nanoseconds (pos nanoseconds_per_day))
 
--- ---- the date of a day: `days_from_civil` is the number of the day with a date in the calendar
+-- ---- the date of a day: `days_from_civil` maps a year, a month and a day of the month to the number of the day
 
--- the number of years or months from 1 to this number that begin on or before this day; `start` maps each to the day on which it begins
+-- How many of the years (or months) 1, 2, .. up to this number begin on or before this day. `start` maps a year (or month) to its first
+-- day.
 unfoldable pub begun : (ℕ → ℤ) → ℕ → ℤ → ℕ
 begun start zero day = 0
 begun start (suc n) day = begun start n day + from_bool (int_le (start (suc n)) day)
 
--- the year of this day: the number of years from year 1 on that begin on or before it
+-- the year of this day: how many of the years 1 to 9999 begin on or before this day
 abbrev pub year_of : ℤ → ℕ
 year_of day = begun (λ year. days_from_civil (pos year) 1 1) 9999 day
 
--- the month of a day in this year: the number of months of the year that begin on or before it
+-- the month of a day in this year: how many months of the year begin on or before the day
 abbrev pub month_of : ℕ → ℤ → ℕ
 month_of year day = begun (λ month. days_from_civil (pos year) month 1) 12 day
 
@@ -57,7 +58,7 @@ abbrev pub date_text : ℕ → ℕ → ℕ → List ℕ
 date_text year month day =
     zero_padded 4 (decimal year) ++ (codes "-" ++ (zero_padded 2 (decimal month) ++ (codes "-" ++ zero_padded 2 (decimal day))))
 
--- the date of a day
+-- the date of the day with this number
 abbrev pub day_text : ℤ → List ℕ
 day_text day =
     let year = year_of day in
@@ -70,7 +71,7 @@ utc_text resolution nanoseconds =
     day_text (day_of nanoseconds)
     ++ (codes "T" ++ (duration_text resolution (elapsed_of (nanoseconds_of_day nanoseconds)) ++ codes "Z"))
 
--- seconds and the fraction, for example `1700000000.000200`, with a minus sign before 1970
+-- seconds since 1970 and the fraction, for example `1700000000.000200`; a minus sign marks a time before 1970
 abbrev pub seconds_text : TimeResolution → ℤ → List ℕ
 seconds_text resolution nanoseconds =
     sign_text (int_lt nanoseconds (pos 0)) ++ (decimal (unsigned_abs nanoseconds / nanoseconds_per_second)

@@ -41,14 +41,15 @@ duration_text resolution elapsed =
     zero_padded 2 (decimal elapsed.hours) ++ (codes ":" ++ (zero_padded 2 (decimal elapsed.minutes) ++ (codes ":"
     ++ (zero_padded 2 (decimal elapsed.seconds) ++ (codes "." ++ fraction_text resolution elapsed.nanoseconds)))))
 
--- the time from the first packet to a packet, with a minus sign if the packet is older; the number of digits depends on the resolution of
--- the packet
+-- The time from the first packet to a packet. A minus sign marks a packet that is older than the first packet. The number of digits depends
+-- on the resolution of the packet.
 abbrev pub elapsed_text : PacketTime → PacketTime → List ℕ
 elapsed_text first time =
     sign_text (nat_lt (nanoseconds_of time) (nanoseconds_of first))
     ++ duration_text time.resolution (elapsed_of (nanoseconds_between first time))
 
--- the time since the first packet with a known time, which may be this packet; a hyphen for a packet without a known time
+-- The time from `first` to a packet. If `first` is `None`, no earlier packet has a known time, and the time is 0. If the time of the packet
+-- is unknown, the text is a hyphen.
 abbrev pub since_text : Option PacketTime → Option PacketTime → List ℕ
 since_text first None = codes "-"
 since_text first (Some time) = elapsed_text (unwrap_or first time) time

@@ -10,7 +10,8 @@ NamedFlag = Bool × List ℕ
 abbrev pub flag_text : NamedFlag → List ℕ
 flag_text flag = if flag.0 then codes " " ++ flag.1 else []
 
--- the names of the set flags, in their order, or `none`; `named` maps each thing to its flag
+-- The word `flags` and the names of the set flags, in their order. If no flag is set, `none` replaces the names. `named` maps an item of
+-- the list to its flag.
 abbrev pub flags_text : {X : Type 0} → (X → NamedFlag) → List X → List ℕ
 flags_text named flags =
     codes "flags" ++ (flat_map (λ flag. flag_text (named flag)) flags

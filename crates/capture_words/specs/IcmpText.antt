@@ -7,7 +7,7 @@ use Rattle.capture_words.specs.Numbers.{hex_bytes}
 abbrev pub named_message : List ℕ → ℕ → List ℕ → List ℕ
 named_message name code meaning = name ++ (codes ", code " ++ (decimal code ++ (codes " (" ++ (meaning ++ codes ")"))))
 
--- a field of a message
+-- a field of a message: a comma, the name of the field, and its value
 abbrev pub field_text : List ℕ → ℕ → List ℕ
 field_text name value = codes ", " ++ (name ++ (codes " " ++ decimal value))
 

@@ -15,7 +15,7 @@ use Rattle.icmp_part.specs.declared.icmpv4_type.Icmpv4Type.{Icmpv4Type}
 use Rattle.icmp_part.specs.declared.icmpv4_type.Icmpv4Type.TheVariants.{Unknown, EchoReply, DestinationUnreachable, Redirect, EchoRequest, TimeExceeded, ParameterProblem, TimestampRequest, TimestampReply}
 use Rattle.capture_words.specs.IcmpText.{echo_text, named_message, optional_field, unknown_text}
 
--- what is unreachable, or why
+-- what is unreachable, or why a datagram could not be delivered
 abbrev pub unreachable_reason : DestUnreachableHeader → List ℕ
 unreachable_reason Network = codes "network"
 unreachable_reason Host = codes "host"
@@ -39,7 +39,7 @@ abbrev pub mtu_of : DestUnreachableHeader → Option ℕ
 mtu_of (FragmentationNeeded next_hop_mtu) = Some next_hop_mtu
 mtu_of other = None
 
--- what the redirected datagrams are for: a network or a host, with or without a type of service
+-- which datagrams are redirected: the datagrams for a network or a host, for every type of service or for one type
 abbrev pub redirected_datagrams : RedirectCode → List ℕ
 redirected_datagrams RedirectForNetwork = codes "network"
 redirected_datagrams RedirectForHost = codes "host"

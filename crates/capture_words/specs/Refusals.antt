@@ -1,5 +1,6 @@
 -- Why a packet is refused, in the terms of the RFCs. A text states the number of bytes needed and the number of bytes present, or a field
--- with its value and the bound that it violates. Each text begins with the protocol and contains every field of the error.
+-- with its value and the bound that it violates. Each text begins with the protocol or layer, and contains the fields of the error. An
+-- offset of 0 is left out.
 use Rattle.std.specs.Prelude.{ℕ, ◌==◌, if◌then◌else◌, List, [], ◌++◌, codes, decimal}
 use Rattle.ip_part.specs.declared.ip_error.IpError.{IpError}
 use Rattle.ip_part.specs.declared.ip_error.IpError.TheVariants as ip_errors
@@ -13,16 +14,16 @@ use Rattle.net_base.specs.declared.err.tcp.header_slice_error.HeaderSliceError.T
 use Rattle.capture_packet.specs.declared.refusal.Refusal.{Refusal}
 use Rattle.capture_packet.specs.declared.refusal.Refusal.TheVariants as refusals
 
--- the unit of a number of bytes
+-- the word after a number of bytes: `byte` if the number is 1, otherwise `bytes`
 abbrev pub unit_word : ℕ → List ℕ
 unit_word bytes = if bytes == 1 then codes "byte" else codes "bytes"
 
--- the number of bytes needed, and the number of bytes present
+-- the number of bytes that `what` needs, and the number of bytes that are present
 abbrev pub needs_text : List ℕ → ℕ → ℕ → List ℕ
 needs_text what required_len len =
     what ++ (codes " needs " ++ (decimal required_len ++ (codes " " ++ (unit_word required_len ++ (codes ", has " ++ decimal len)))))
 
--- the name of a layer in RFC 768, RFC 9293, RFC 792 and RFC 4443; a UDP datagram consists of the bytes that its length field counts
+-- the name of a layer, as in RFC 768, RFC 9293, RFC 792 and RFC 4443; a UDP datagram consists of the bytes that its length field counts
 abbrev pub layer_word : Layer → List ℕ
 layer_word UdpHeader = codes "UDP header"
 layer_word UdpPayload = codes "UDP datagram"
@@ -32,12 +33,12 @@ layer_word Icmpv4Timestamp = codes "ICMPv4 timestamp message"
 layer_word Icmpv4TimestampReply = codes "ICMPv4 timestamp reply message"
 layer_word Icmpv6 = codes "ICMPv6 message"
 
--- the source of a length: the bytes present, or the length field of UDP
+-- the words before a length; they state whether it is the number of bytes present, or the length field of UDP
 abbrev pub len_source_word : LenSource → List ℕ
 len_source_word Slice = codes "has"
 len_source_word UdpHeaderLen = codes "the UDP length is"
 
--- the place where a layer starts, unless it starts at the first byte
+-- the number of the first byte of a layer; the text is empty if this is byte 0
 abbrev pub place_text : ℕ → List ℕ
 place_text offset = if offset == 0 then [] else codes " at byte " ++ decimal offset
 

@@ -14,7 +14,7 @@ use Rattle.capture_words.specs.Numbers.{hex_bytes}
 
 -- ---- flags and numbers
 
--- the flags in the order in which tcpdump and Wireshark show them, which begins with the lowest bit of the header
+-- the flags in the order in which tcpdump and Wireshark show them; the order begins with FIN, which is the lowest bit
 abbrev pub tcp_flags : List ℕ → List NamedFlag
 tcp_flags header =
     (flag_of header fin_flag, codes "FIN") ∷ (flag_of header syn_flag, codes "SYN") ∷ (flag_of header rst_flag, codes "RST")
@@ -42,7 +42,7 @@ abbrev pub other_block_text : Option (ℕ × ℕ) → List ℕ
 other_block_text None = []
 other_block_text (Some block) = block_text block
 
--- an option of a known kind with a valid length, by its fields
+-- an option of a known kind with a valid length: its name and its fields
 abbrev pub element_text : TcpOptionElement → List ℕ
 element_text Noop = codes "no operation"
 element_text (MaximumSegmentSize size) = codes "maximum segment size " ++ decimal size
@@ -52,7 +52,7 @@ element_text (SelectiveAcknowledgement first more) =
     codes "selective acknowledgment" ++ (block_text first ++ flat_map other_block_text more)
 element_text (Timestamp value echo) = codes "timestamp " ++ (decimal value ++ (codes " " ++ decimal echo))
 
--- a value: its length in bytes, and its bytes
+-- a value: its length in bytes, and its bytes if there are any
 abbrev pub value_text : ℕ → List ℕ → List ℕ
 value_text len bytes =
     if len == 0 then codes "0 bytes"
@@ -73,14 +73,16 @@ fault_text (LengthBeyondEnd kind len available) =
     codes "option " ++ (decimal kind ++ (codes " with length " ++ (decimal len
     ++ (codes " above the " ++ (decimal available ++ codes " bytes left")))))
 
--- this is the text of an option: the text of its element, or the text of its kind and bytes if the option is refused as an element
+-- This is the text of an option. If its kind is known and its length is valid, the text contains its name and fields. Otherwise the text
+-- contains its kind and the bytes of its value.
 abbrev pub IsOptionText : RawOption → List ℕ → Type 0
 IsOptionText option text = MatchOption (element_refusal option)
     ((element : TcpOptionElement) × BeginsWith (raw_spelling option) element [] × (text ≡ element_text element))
     (λ error. text ≡ raw_text option)
 
--- These are the texts of some bytes, read as options: none if no byte is left; the end of the options if kind 0 is next; the text of a
--- fault, which is the last text; or the text of the first option, and then the texts of the rest.
+-- These are the texts of the options in some bytes. If there are no bytes, there is no text. If kind 0 comes first, the only text is
+-- `end of options`. If the first option can't be read, the only text is the reason. Otherwise the text of the first option precedes the
+-- texts of the remaining bytes.
 abbrev pub AreOptionTexts : List ℕ → List (List ℕ) → Type 0
 AreOptionTexts bytes [] = bytes ≡ []
 AreOptionTexts bytes (text ∷ texts) =
@@ -92,11 +94,11 @@ AreOptionTexts bytes (text ∷ texts) =
 abbrev pub listed : List (List ℕ) → List ℕ
 listed texts = join_by (λ text. text) (codes ", ") texts
 
--- this is the joined text of the options in some bytes
+-- this is the text of the options in some bytes, with commas between the options
 abbrev pub IsListText : List ℕ → List ℕ → Type 0
 IsListText bytes text = (texts : List (List ℕ)) × AreOptionTexts bytes texts × (text ≡ listed texts)
 
--- this is the text of the options in brackets, or nothing if there is no option
+-- this is the text of the options in brackets; it is empty if there are no bytes of options
 abbrev pub IsOptionsText : List ℕ → List ℕ → Type 0
 IsOptionsText [] text = text ≡ []
 IsOptionsText (byte ∷ bytes) text =
@@ -104,7 +106,7 @@ IsOptionsText (byte ∷ bytes) text =
 
 -- ---- the header
 
--- this is the text of a header after its ports, except the checksum
+-- this is the text of a header: its flags, its numbers, its urgent pointer if URG is set, and its options
 abbrev pub IsHeaderText : List ℕ → List ℕ → Type 0
 IsHeaderText header text =
     (options : List ℕ) × IsOptionsText (options_of header) options

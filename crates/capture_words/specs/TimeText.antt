@@ -6,7 +6,7 @@ use Rattle.capture_words.specs.Elapsed.{since_text}
 use Rattle.capture_words.specs.declared.times.Times.{Times}
 use Rattle.capture_words.specs.declared.times.Times.TheVariants as times
 
--- the time since the first packet, or the date and time; a hyphen for a packet without a known time
+-- the time since the first packet, or the date and time; if the time of the packet is unknown, the text is a hyphen
 abbrev pub time_text : Times → Option PacketTime → Option PacketTime → List ℕ
 time_text times.SinceFirst first time = since_text first time
 time_text times.Absolute first None = codes "-"

@@ -17,14 +17,14 @@ use std::io::Write;
 /// The number of nanoseconds in a day.
 const NANOSECONDS_PER_DAY: u128 = 86_400_000_000_000;
 
-/// The nanoseconds that `nanoseconds_of` counts up to the beginning of 1970.
+/// The value of `nanoseconds_of` for the beginning of 1970 in UTC.
 const BEGINNING_OF_1970: i128 = 9_223_372_036_854_775_808_000_000_000;
 
 /// Writes the date and time of a packet in UTC, in the format of RFC 3339: `2023-11-14T22:13:20.000200Z`. The fraction has six digits, or
 /// nine if the resolution of the packet is finer than microseconds.
 ///
-/// RFC 3339 has no years before 0 and after 9999. A time in another year is written as seconds since 1970, for example `1700000000.000200`,
-/// with a minus sign before 1970.
+/// RFC 3339 has only the years 0 to 9999. A time in another year is written as seconds since 1970, in the format `1700000000.000200`. A
+/// minus sign marks a time before 1970.
 ///
 /// # Errors
 ///
@@ -48,7 +48,7 @@ pub fn nanoseconds_since_1970(time: PacketTime) -> i128
     nanoseconds_of(time) as i128 - BEGINNING_OF_1970
 }
 
-/// The number of the day of a time, and the nanoseconds since the midnight before it. 1 January 1970 is day 0.
+/// The day of a time, and the nanoseconds since that day began. `nanoseconds` is the time since 1970, and 1 January 1970 is day 0.
 fn day_and_time(nanoseconds: i128) -> (i64, u128)
     requires { IsBetween (neg_ℤ (pos (2 ^ 96))) (pos (2 ^ 96)) nanoseconds }
     ensures day { result.0 ≡ day_of nanoseconds }
@@ -73,7 +73,7 @@ fn date_of(day: i64) -> Option<Date>
     Some(date)
 }
 
-/// Writes a date, and then the time of day.
+/// Writes a date and a time of day in UTC. `nanoseconds` is the time since midnight.
 fn write_utc<W: Write>(
     output: &mut W,
     resolution: TimeResolution,
@@ -90,7 +90,7 @@ fn write_utc<W: Write>(
     write!(output, "Z")
 }
 
-/// Writes seconds and the fraction of a second, with a minus sign before 1970.
+/// Writes a time as seconds since 1970 and the fraction of a second. A minus sign marks a time before 1970.
 fn write_seconds<W: Write>(
     output: &mut W,
     resolution: TimeResolution,

@@ -8,7 +8,7 @@ ghost use Rattle.capture_words.specs.Flags.{flag_text, flags_text};
 use std::io;
 use std::io::Write;
 
-/// Writes the names of the flags that are set, in their order, or `none`.
+/// Writes the word `flags` and the names of the flags that are set, in their order. If no flag is set, it writes `none` instead of names.
 pub fn write_flags<W: Write>(output: &mut W, flags: &[(bool, &str)]) -> io::Result<()>
     ensures { OnOk result (Appends (W.contents output.old) (W.contents output.new)
         (flags_text (λ flag. (flag.0, flag.1.now)) flags.now)) }
@@ -18,7 +18,7 @@ pub fn write_flags<W: Write>(output: &mut W, flags: &[(bool, &str)]) -> io::Resu
     write_flag(output, !is_any_set(flags), "none")
 }
 
-/// Writes the names of the flags that are set.
+/// Writes the name of each flag that is set, after a space.
 fn write_each<W: Write>(output: &mut W, flags: &[(bool, &str)]) -> io::Result<()>
     ensures { OnOk result (Appends (W.contents output.old) (W.contents output.new)
         (flat_map (λ flag. flag_text (flag.0, flag.1.now)) flags.now)) }
@@ -40,7 +40,7 @@ fn write_flag<W: Write>(output: &mut W, is_set: bool, name: &str) -> io::Result<
     }
 }
 
-/// Whether a flag is set.
+/// Whether at least one flag is set.
 fn is_any_set(flags: &[(bool, &str)]) -> bool
     ensures { result ≡ list_any (λ flag. flag.0) flags.now }
 {

@@ -21,7 +21,7 @@ pub fn write_named_message<W: Write>(
     write!(output, "{name}, code {code} ({meaning})")
 }
 
-/// Writes a field of a message.
+/// Writes a field of a message: a comma, the name of the field, and its value.
 pub fn write_field<W: Write>(output: &mut W, name: &str, value: u32) -> io::Result<()>
     ensures { OnOk result (Appends (W.contents output.old) (W.contents output.new) (specs.field_text name.now value)) }
 {
@@ -42,7 +42,7 @@ pub fn write_optional_field<W: Write>(
     }
 }
 
-/// Writes an echo request or an echo reply.
+/// Writes an echo request or an echo reply. `name` is `echo request` or `echo reply`.
 pub fn write_echo<W: Write>(output: &mut W, name: &str, echo: &IcmpEchoHeader) -> io::Result<()>
     ensures { OnOk result (Appends (W.contents output.old) (W.contents output.new) (specs.echo_text name.now echo.now)) }
 {

@@ -41,7 +41,7 @@ pub fn write_message<W: Write>(output: &mut W, message: &Icmpv4Type) -> io::Resu
     }
 }
 
-/// Writes a message about an undeliverable datagram.
+/// Writes a message about an undeliverable datagram, the reason, and the MTU of the next hop if the message contains it.
 fn write_unreachable<W: Write>(output: &mut W, header: &DestUnreachableHeader) -> io::Result<()>
     ensures { OnOk result (Appends (W.contents output.old) (W.contents output.new)
         (message_text (types.DestinationUnreachable header.now))) }
@@ -67,7 +67,7 @@ fn mtu_of(header: &DestUnreachableHeader) -> Option<u32>
     }
 }
 
-/// What is unreachable, or why.
+/// What is unreachable, or why a datagram could not be delivered.
 fn unreachable_reason(header: &DestUnreachableHeader) -> &'static str
     ensures { result.now ≡ specs.unreachable_reason header.now }
 {
@@ -91,7 +91,7 @@ fn unreachable_reason(header: &DestUnreachableHeader) -> &'static str
     }
 }
 
-/// Writes the gateway to which datagrams should be sent.
+/// Writes a redirect: which datagrams are redirected, and to which gateway.
 fn write_redirect<W: Write>(output: &mut W, header: &RedirectHeader) -> io::Result<()>
     ensures { OnOk result (Appends (W.contents output.old) (W.contents output.new) (message_text (types.Redirect header.now))) }
 {
@@ -105,7 +105,7 @@ fn write_redirect<W: Write>(output: &mut W, header: &RedirectHeader) -> io::Resu
     write!(output, ", gateway {gateway}")
 }
 
-/// What the redirected datagrams are for: a network or a host, with or without a type of service.
+/// Which datagrams are redirected: the datagrams for a network or a host, for every type of service or for one type.
 fn redirected_datagrams(code: RedirectCode) -> &'static str
     ensures { result.now ≡ specs.redirected_datagrams code }
 {
@@ -117,7 +117,7 @@ fn redirected_datagrams(code: RedirectCode) -> &'static str
     }
 }
 
-/// Writes which time was exceeded.
+/// Writes a message about an exceeded time, and which time was exceeded.
 fn write_time_exceeded<W: Write>(output: &mut W, code: TimeExceededCode) -> io::Result<()>
     ensures { OnOk result (Appends (W.contents output.old) (W.contents output.new) (message_text (types.TimeExceeded code))) }
 {
@@ -134,7 +134,7 @@ fn exceeded_time(code: TimeExceededCode) -> &'static str
     }
 }
 
-/// Writes what is wrong with the parameters of a datagram.
+/// Writes a message about a parameter problem: what is wrong, and the pointer to the error if the message contains it.
 fn write_problem<W: Write>(output: &mut W, header: &ParameterProblemHeader) -> io::Result<()>
     ensures { OnOk result (Appends (W.contents output.old) (W.contents output.new)
         (message_text (types.ParameterProblem header.now))) }

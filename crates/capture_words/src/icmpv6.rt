@@ -72,7 +72,7 @@ fn unreachable_reason(code: DestUnreachableCode) -> &'static str
     }
 }
 
-/// Writes which time was exceeded.
+/// Writes a message about an exceeded time, and which time was exceeded.
 fn write_time_exceeded<W: Write>(output: &mut W, code: TimeExceededCode) -> io::Result<()>
     ensures { OnOk result (Appends (W.contents output.old) (W.contents output.new) (message_text (types.TimeExceeded code))) }
 {
@@ -89,7 +89,7 @@ fn exceeded_time(code: TimeExceededCode) -> &'static str
     }
 }
 
-/// Writes what is wrong with a packet, and where.
+/// Writes a message about a parameter problem: what is wrong with a packet, and the pointer to the error.
 fn write_problem<W: Write>(output: &mut W, header: &ParameterProblemHeader) -> io::Result<()>
     ensures { OnOk result (Appends (W.contents output.old) (W.contents output.new)
         (message_text (types.ParameterProblem header.now))) }

@@ -1,7 +1,7 @@
-//! The words and numbers of a packet that a report contains both as text and as JSON. Nothing is allocated.
+//! The words and numbers that describe a packet in a report, as text or as JSON. Nothing is allocated.
 //!
-//! `write_time` and the functions next to it write times. `icmpv4` and `icmpv6` write what a message means. `tcp` writes the fields of a
-//! TCP header, `write_option` writes an option, and `write_refusal` writes the reason why a packet is refused.
+//! `write_time`, `write_since`, `write_elapsed` and `write_absolute` write times. `icmpv4` and `icmpv6` write what a message means. `tcp`
+//! writes the fields of a TCP header, `write_option` writes a TCP option, and `write_refusal` writes the reason why a packet is refused.
 #![tactic(auto)]
 
 mod absolute_time;

@@ -31,7 +31,7 @@ pub fn write_zero_length<W: Write>(output: &mut W) -> io::Result<()>
     write_len_error(output, &error)
 }
 
-/// Writes the reason why a packet is refused, with all fields of the error.
+/// Writes the reason why a packet is refused, with the fields of the error. An offset of 0 is left out.
 ///
 /// # Errors
 ///
@@ -52,7 +52,7 @@ pub fn write_refusal<W: Write>(output: &mut W, refusal: &Refusal) -> io::Result<
     }
 }
 
-/// Writes the number of bytes needed, and the number of bytes present.
+/// Writes the number of bytes that `what` needs, and the number of bytes that are present.
 fn write_needs<W: Write>(
     output: &mut W,
     what: &str,
@@ -65,7 +65,7 @@ fn write_needs<W: Write>(
     write!(output, "{what} needs {required_len} {unit}, has {len}")
 }
 
-/// The unit of a number of bytes.
+/// The word after a number of bytes: `byte` if the number is 1, otherwise `bytes`.
 fn unit_word(bytes: usize) -> &'static str
     ensures { result.now ≡ unit_word bytes }
 {
@@ -130,7 +130,7 @@ fn write_ip_error<W: Write>(output: &mut W, error: &IpError) -> io::Result<()>
     }
 }
 
-/// Writes the reason why a length is refused. The place of the layer is included, unless it starts at the first byte.
+/// Writes the reason why a length is refused. If the layer does not start at byte 0, the text contains the number of its first byte.
 fn write_len_error<W: Write>(output: &mut W, error: &LenError) -> io::Result<()>
     ensures { OnOk result (Appends (W.contents output.old) (W.contents output.new) (len_error_text error.now)) }
 {
@@ -150,7 +150,7 @@ fn write_len_error<W: Write>(output: &mut W, error: &LenError) -> io::Result<()>
     }
 }
 
-/// The name of a layer in its RFC.
+/// The name of a layer, as in its RFC.
 fn layer_word(layer: Layer) -> &'static str
     ensures { result.now ≡ layer_word layer }
 {
@@ -165,7 +165,7 @@ fn layer_word(layer: Layer) -> &'static str
     }
 }
 
-/// The source of a length: the bytes present, or the length field of UDP.
+/// The words before a length. They state whether it is the number of bytes present, or the length field of UDP.
 fn len_source_word(source: LenSource) -> &'static str
     ensures { result.now ≡ len_source_word source }
 {

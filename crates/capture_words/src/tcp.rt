@@ -11,8 +11,8 @@ use std::io;
 use std::io::Write;
 use tcp_part::TcpSlice;
 
-/// Writes the fields of a header after its ports, except the checksum: flags, numbers and window. The urgent pointer is written if the flag
-/// URG is set, and the options if there are any.
+/// Writes the flags, the sequence number, the acknowledgment number and the window of a header. If the flag URG is set, it also writes the
+/// urgent pointer. Then it writes the options, if the header contains options.
 ///
 /// # Errors
 ///
@@ -26,7 +26,7 @@ pub fn write_header<W: Write>(output: &mut W, segment: &TcpSlice) -> io::Result<
     write_options(output, segment)
 }
 
-/// The flags and their names, in the order in which tcpdump and Wireshark show them. It begins with the lowest bit of the header.
+/// The flags and their names, in the order in which tcpdump and Wireshark show them. The order begins with FIN, which is the lowest bit.
 pub fn named_flags(segment: &TcpSlice) -> [(bool, &'static str); 9]
     ensures { map (λ flag. (flag.0, flag.1.now)) result ≡ tcp_flags segment.now }
 {

@@ -12,7 +12,7 @@ use std::io;
 use std::io::Write;
 use tcp_part::{TcpOptionElement, TcpRawOption, TcpRawOptionError, TcpSlice};
 
-/// Writes the options of a header in brackets, if there are any.
+/// Writes the options of a header in brackets. If the header contains no bytes of options, it writes nothing.
 pub fn write_options<W: Write>(output: &mut W, segment: &TcpSlice) -> io::Result<()>
     ensures { OnOk result (AppendsOne (W.contents output.old) (W.contents output.new) (IsOptionsText (options_of segment.now))) }
 {
@@ -24,7 +24,8 @@ pub fn write_options<W: Write>(output: &mut W, segment: &TcpSlice) -> io::Result
     write!(output, "]")
 }
 
-/// Writes the options of a header, one after the other, up to the end of the list or the first fault.
+/// Writes the options of a header, with commas between them. If kind 0 ends the list, the last text is `end of options`. If an option can't
+/// be read, the last text is the reason.
 fn write_each<W: Write>(output: &mut W, segment: &TcpSlice) -> io::Result<()>
     ensures { OnOk result (AppendsOne (W.contents output.old) (W.contents output.new) (IsListText (options_of segment.now))) }
 {
@@ -43,12 +44,12 @@ fn write_each<W: Write>(output: &mut W, segment: &TcpSlice) -> io::Result<()>
     if rest.is_empty() {
         return Ok(());
     }
-    // Bytes follow the end of the list, so it ends with kind 0.
+    // Bytes are left after the last option, so kind 0 ends the list.
     write_separator(output, is_first)?;
     write!(output, "end of options")
 }
 
-/// Writes the separator of two options.
+/// Writes a comma and a space before an option, unless it is the first option.
 fn write_separator<W: Write>(output: &mut W, is_first: bool) -> io::Result<()>
     ensures { OnOk result (Appends (W.contents output.old) (W.contents output.new) (if is_first then [] else codes ", ")) }
 {
@@ -59,7 +60,8 @@ fn write_separator<W: Write>(output: &mut W, is_first: bool) -> io::Result<()>
     }
 }
 
-/// Writes an option. An option of a known kind with a valid length is written as its fields, any other option as its kind and bytes.
+/// Writes an option. An option of a known kind with a valid length is written as its name and its fields. Any other option is written as
+/// its kind and the bytes of its value.
 ///
 /// # Errors
 ///

@@ -35,11 +35,11 @@ pub fn write_time<W: Write>(
 }
 
 /// Writes the time from the first packet to a packet as hours, minutes, seconds and the fraction of a second: `00:00:01.000200`. If the
-/// time of the packet is unknown, it writes a hyphen.
+/// time of the packet is unknown, it writes a hyphen. If `first` is `None`, no earlier packet has a known time, and the time is 0.
 ///
 /// The fraction has six digits of microseconds, or nine digits of nanoseconds if the resolution of the packet is finer. Hours have at least
-/// two digits. A minus sign marks a packet that is older than the first packet. The fraction of a malformed record can be a second or more.
-/// Its whole seconds are then added to the seconds.
+/// two digits. A minus sign marks a packet that is older than the first packet. In a malformed record the fraction can be a second or more.
+/// Whole seconds of the fraction are then added to the seconds.
 ///
 /// # Errors
 ///
@@ -57,7 +57,7 @@ pub fn write_since<W: Write>(
     }
 }
 
-/// Writes the time from the first packet to a packet.
+/// Writes the time from the first packet to a packet, in the format of `write_since`.
 ///
 /// # Errors
 ///
@@ -139,7 +139,7 @@ fn time_between(first: PacketTime, time: PacketTime) -> (bool, Elapsed)
     }
 }
 
-/// A duration in parts.
+/// A duration as hours, minutes, seconds and nanoseconds.
 #[derive(Clone, Copy)]
 pub(crate) struct Elapsed {
     /// Whole hours.
@@ -153,7 +153,7 @@ pub(crate) struct Elapsed {
 }
 
 impl Elapsed {
-    /// The parts of this number of nanoseconds.
+    /// Returns this number of nanoseconds as hours, minutes, seconds and nanoseconds.
     pub fn from_nanoseconds(nanoseconds: u128) -> Elapsed
         requires { nanoseconds < 2 ^ 96 }
         ensures parts { result ≡ elapsed_of nanoseconds }

@@ -37,11 +37,11 @@ is_group_ipv4 address = from_be_bytes w32 address == 0xFFFFFFFF || slice_index a
 abbrev pub is_group_ipv6 : List ℕ → Bool
 is_group_ipv6 address = slice_index address 0 == 0xFF
 
--- an address of the host itself, which no other host sends or receives: its first byte is 127 (RFC 1122, section 3.2.1.3)
+-- a loopback address, by which a host reaches only itself: its first byte is 127 (RFC 1122, section 3.2.1.3)
 abbrev pub is_loopback_ipv4 : List ℕ → Bool
 is_loopback_ipv4 address = slice_index address 0 == 127
 
--- the IPv6 address of the host itself: ::1 (RFC 4291, section 2.5.3)
+-- the loopback address of IPv6, by which a host reaches only itself: ::1 (RFC 4291, section 2.5.3)
 abbrev pub is_loopback_ipv6 : List ℕ → Bool
 is_loopback_ipv6 address = from_be_bytes w128 address == 1
 
@@ -69,9 +69,9 @@ echo_header_len = 8
 
 -- ---- the request
 
--- The error for the transport of a packet: it is a fragment, it has another protocol, or it does not begin directly after an IP header of
--- this length. In the last case the packet has options or extension headers, and a reply would need options too (RFC 1122, section
--- 3.2.2.6).
+-- The error for the transport of a packet: the packet is a fragment, it has another protocol, or its transport does not begin directly
+-- after an IP header of this length. In the last case the packet has options or extension headers, and a reply would need options too (RFC
+-- 1122, section 3.2.2.6).
 abbrev pub transport_refusal : ℕ → ℕ → Bool → ℕ → ℕ → Option AnswerEchoError
 transport_refusal number header_len is_fragment protocol offset = first_of (
     refused_if is_fragment Fragment
@@ -83,7 +83,7 @@ transport_refusal number header_len is_fragment protocol offset = first_of (
 abbrev pub is_all_ones : ℕ → Bool
 is_all_ones n = folded n == all_ones
 
--- The error for an ICMPv4 message: it is too short, is no echo request (type 8, code 0; RFC 792), or has a wrong checksum.
+-- The error for an ICMPv4 message: `Icmpv4Slice` refuses it, it is no echo request (type 8, code 0; RFC 792), or it has a wrong checksum.
 abbrev pub icmpv4_refusal : List ℕ → Option AnswerEchoError
 icmpv4_refusal message = first_of (
     option_map Len (icmpv4.refusal message)
@@ -91,7 +91,8 @@ icmpv4_refusal message = first_of (
     ∷ refused_if (not (is_all_ones (total message))) Checksum
     ∷ [])
 
--- The error for an ICMPv6 message: it is too short, is no echo request (type 128, code 0; RFC 4443, section 4.1), or has a wrong checksum.
+-- The error for an ICMPv6 message: `Icmpv6Slice` refuses it, it is no echo request (type 128, code 0; RFC 4443, section 4.1), or it has a
+-- wrong checksum.
 abbrev pub icmpv6_refusal : List ℕ → List ℕ → List ℕ → Option AnswerEchoError
 icmpv6_refusal source destination message = first_of (
     option_map Len (icmpv6.refusal message)
@@ -112,8 +113,8 @@ abbrev pub ipv6_message : List ℕ → List ℕ
 ipv6_message packet = message_after ipv6_header_len packet
 
 -- The error for an IPv4 packet with these headers. The rules concern, in this order, the version, the transport, the message, the checksum
--- of the header, and the source. A host discards a packet with a wrong header checksum (RFC 1122, section 3.2.1.2). The reply goes to the
--- source.
+-- of the header, and the source. A host discards a packet with a wrong header checksum (RFC 1122, section 3.2.1.2). The source must be the
+-- address of one host, since the reply goes to it.
 abbrev pub ipv4_rules : List ℕ → Headers → Option AnswerEchoError
 ipv4_rules packet headers = first_of (
     refused_if (not (version packet == 4)) NoEchoRequest
@@ -137,22 +138,22 @@ abbrev pub refusal_by_headers : (Headers → Option AnswerEchoError) → Result 
 refusal_by_headers rules (Ok headers) = rules headers
 refusal_by_headers rules (Err error) = Some (Ip error)
 
--- The error for an IPv4 packet that is no echo request: the error of `transport_in_ip`, or else the error by the rules above.
+-- the error for a packet that is not a valid echo request over IPv4: the error of `transport_in_ip`, or else the error by `ipv4_rules`
 abbrev pub ipv4_request_refusal : List ℕ → Option AnswerEchoError
 ipv4_request_refusal packet = first_of (
     option_map Ip (ip.refusal packet)
     ∷ refusal_by_headers (ipv4_rules packet) (ip.headers_of false packet)
     ∷ [])
 
--- the error for an IPv6 packet that is no echo request, in the order of `ipv4_request_refusal`
+-- the error for a packet that is not a valid echo request over IPv6: the error of `transport_in_ip`, or else the error by `ipv6_rules`
 abbrev pub ipv6_request_refusal : List ℕ → Option AnswerEchoError
 ipv6_request_refusal packet = first_of (
     option_map Ip (ip.refusal packet)
     ∷ refusal_by_headers (ipv6_rules packet) (ip.headers_of false packet)
     ∷ [])
 
--- The error if an IPv4 packet is not answered: the error of the request, or else a source of the reply that is not the address of one host.
--- This source is the passed source, or the destination of the request if no source is passed.
+-- The error if an IPv4 packet is not answered: the error of the request, or else `ReplySource` if the source of the reply is not the
+-- address of one host. This source is the passed source, or the destination of the request if no source is passed.
 abbrev pub ipv4_answer_refusal : Option (List ℕ) → List ℕ → Option AnswerEchoError
 ipv4_answer_refusal source packet = first_of (
     ipv4_request_refusal packet

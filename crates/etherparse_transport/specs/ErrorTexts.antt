@@ -43,7 +43,7 @@ build_text (build.TimestampLen error) = len_text error
 build_text build.Icmpv6InIpv4 = codes "ICMPv6 Error: there is no packet over IPv4."
 build_text build.Icmpv4InIpv6 = codes "ICMPv4 Error: there is no packet over IPv6."
 
--- a packet about which no ICMP error is written
+-- the text for a packet about which no ICMP error is written
 abbrev pub error_about_text : ErrorAboutError → List ℕ
 error_about_text about.NoErrorType = codes "ICMP Error: the message is no error."
 error_about_text (about.Ip error) = ip_text error
@@ -56,12 +56,12 @@ error_about_text about.ErrorSource = codes "ICMP Error: the source of the error 
 error_about_text (about.Space required_len len) = concat (
     codes "Space Error: " ∷ decimal required_len ∷ codes " bytes are needed, and there is room for " ∷ decimal len ∷ codes "." ∷ [])
 
--- a packet whose hop limit is not lowered
+-- the text for a packet whose hop limit is not lowered
 abbrev pub lower_hop_limit_text : LowerHopLimitError → List ℕ
 lower_hop_limit_text (lower.Ip error) = ip_text error
 lower_hop_limit_text (lower.Expired hop_limit) = concat (codes "Hop Limit Error: the hop limit is " ∷ decimal hop_limit ∷ codes "." ∷ [])
 
--- a packet that is not translated
+-- the text for a packet that is not translated
 abbrev pub translate_text : TranslateError → List ℕ
 translate_text (translate.Ip error) = ip_text error
 translate_text translate.OtherVersion = codes "Translation Error: the packet has the other IP version."

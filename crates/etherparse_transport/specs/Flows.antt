@@ -1,5 +1,5 @@
--- The ends of a flow, as an IP packet names them: its addresses, its protocol, and its ports or the identifier of a query; and the same of
--- the packet that an ICMP error quotes.
+-- The ends of a flow, as an IP packet names them: its addresses, its protocol, and its ports or the identifier of a query. If the packet is
+-- an ICMP error, the packet that it quotes names the ends of a flow too.
 use Rattle.std.specs.Prelude.{ℕ, ◌&&◌, Bool, not, nat_le, if◌then◌else◌, List, drop, length, slice_index, Option, Some, None, option_and_then, Result, Ok, Err}
 use Rattle.std.specs.Option.{option_map}
 use Rattle.ip_part.specs.Addresses as addresses
@@ -22,7 +22,7 @@ use Rattle.etherparse_transport.specs.declared.ip.flow_ends.FlowEnds.{FlowEnds}
 
 -- ---- the ends
 
--- The ends of a flow, wherever the addresses are stored. A port is `None` if the packet does not contain it.
+-- The ends of a flow as plain values, without references to the packet. A port is `None` if the packet does not contain it.
 pub record Ends : Type 0 where
   pub addresses : Addresses
   pub protocol : ℕ
@@ -31,6 +31,7 @@ pub record Ends : Type 0 where
   pub source_port : Option ℕ
   pub destination_port : Option ℕ
 
+-- the plain values of these ends
 abbrev pub ends_by_value : FlowEnds → Ends
 ends_by_value ends = record {
   addresses = addresses.by_value ends.addresses;
@@ -45,15 +46,17 @@ ends_by_value ends = record {
 abbrev pub number_if : Bool → ℕ → List ℕ → Option ℕ
 number_if is_there place message = if is_there then Some (be_number message place 2) else None
 
--- both ports: the first four bytes of UDP and TCP (RFC 768; RFC 9293, section 3.1)
+-- the message contains both ports, which are the first four bytes of UDP and TCP (RFC 768; RFC 9293, section 3.1)
 abbrev pub has_ports : List ℕ → Bool
 has_ports message = nat_le 4 (length message)
 
--- A query up to its identifier, with any code, which is a request or otherwise a reply. The identifier of a request belongs to the source,
--- and the identifier of a reply to the destination (RFC 5508, section 3.1).
+-- The message is a request with any code, and contains its whole identifier. The identifier of a request belongs to the source (RFC 5508,
+-- section 3.1).
 abbrev pub is_request_with_identifier : Proto → List ℕ → Bool
 is_request_with_identifier proto message = is_query proto message && is_request proto (slice_index message 0)
 
+-- The message is a reply with any code, and contains its whole identifier. The identifier of a reply belongs to the destination (RFC 5508,
+-- section 3.1).
 abbrev pub is_reply_with_identifier : Proto → List ℕ → Bool
 is_reply_with_identifier proto message = is_query proto message && not (is_request proto (slice_index message 0))
 
@@ -71,7 +74,8 @@ destination_port_of protos.Tcp message = number_if (has_ports message) destinati
 destination_port_of protos.Icmpv4 message = number_if (is_reply_with_identifier protos.Icmpv4 message) identifier_place message
 destination_port_of protos.Icmpv6 message = number_if (is_reply_with_identifier protos.Icmpv6 message) identifier_place message
 
--- a port by its definition above, if the protocol is known; a later fragment begins in the middle of a message
+-- the port that `port_of` finds in a message; `None` if the protocol is unknown, or in a later fragment, which begins in the middle of a
+-- message
 abbrev pub port_in : (Proto → List ℕ → Option ℕ) → Bool → Option Proto → List ℕ → Option ℕ
 port_in port_of is_later_fragment None message = None
 port_in port_of is_later_fragment (Some proto) message = if is_later_fragment then None else port_of proto message
@@ -115,12 +119,12 @@ ends_unless (Some error) headers bytes = None
 ends_unless None (Err error) bytes = None
 ends_unless None (Ok headers) bytes = Some (ends_after headers bytes)
 
--- The ends of the packet at the front of these bytes, which may be cut off or state no length, as `transport_in_ip_lax` reads it. `None` if
--- the call refuses it.
+-- The ends of the packet at the front of these bytes, as `transport_in_ip_lax` reads it. The packet may be cut off or state no length.
+-- `None` if the call refuses the packet.
 abbrev pub ends_at : List ℕ → Option Ends
 ends_at packet = ends_unless (lax_refusal packet) (headers_of (lacks_len packet) packet) (counted (lacks_len packet) packet)
 
--- the ends of the packet that the transport of a packet quotes; a fragment does not contain a whole message
+-- the ends of the packet that the transport of a packet quotes; a fragment quotes none, since it does not contain a whole message
 abbrev pub quoted_ends_by : TransportInIp → Option Ends
 quoted_ends_by found = option_and_then ends_at (quoted_bytes (transports.proto_in found) found.is_cut_off found.payload.now)
 
@@ -131,10 +135,11 @@ pub record FlowValue : Type 0 where
   pub ends : Ends
   pub quoted : Option Ends
 
+-- the plain values of a flow
 abbrev pub by_value : PacketFlow → FlowValue
 by_value flow = record { ends = ends_by_value flow.ends; quoted = option_map ends_by_value flow.quoted }
 
--- the protocol of the message after these headers; a fragment does not contain a whole message
+-- the protocol of the message after these headers; `None` for a fragment, which does not contain a whole message
 abbrev pub message_proto : Headers → Option Proto
 message_proto headers = if headers.is_fragment then None else proto_over headers.addresses headers.protocol.0
 
@@ -145,12 +150,13 @@ flow_after headers is_cut_off bytes = record {
   quoted = option_and_then ends_at (quoted_bytes (message_proto headers) is_cut_off (drop headers.len bytes));
 }
 
+-- the flow of a packet with these headers; `None` if an error refuses the headers
 abbrev pub flow_unless : Option IpError → Result Headers IpError → Bool → List ℕ → Option FlowValue
 flow_unless (Some error) headers is_cut_off bytes = None
 flow_unless None (Err error) is_cut_off bytes = None
 flow_unless None (Ok headers) is_cut_off bytes = Some (flow_after headers is_cut_off bytes)
 
--- the flow of the packet at the front of these bytes, which may be cut off or state no length; `None` if its headers are refused
+-- The flow of the packet at the front of these bytes. The packet may be cut off or state no length. `None` if its headers are refused.
 abbrev pub flow_of : List ℕ → Option FlowValue
 flow_of packet = flow_unless (lax_refusal packet) (headers_of (lacks_len packet) packet) (is_cut_off (lacks_len packet) packet)
     (counted (lacks_len packet) packet)

@@ -36,7 +36,7 @@ refusal Tcp bytes = tcp.refusal bytes
 refusal Icmpv4 bytes = option_map Len (icmpv4.refusal bytes)
 refusal Icmpv6 bytes = option_map Len (icmpv6.refusal bytes)
 
--- the bytes are accepted, and read as this header and the bytes after it
+-- the bytes are accepted, and read as this header and the rest of the bytes
 abbrev pub DecodesAs : List ℕ → TransportHeader → List ℕ → Type 0
 DecodesAs bytes (headers.Udp header) rest = udp.DecodesAs bytes header rest
 DecodesAs bytes (headers.Tcp header) rest = tcp.DecodesAs bytes header rest
@@ -57,8 +57,8 @@ wire (headers.Tcp header) = tcp.wire header
 wire (headers.Icmpv4 header) = icmpv4.wire header
 wire (headers.Icmpv6 header) = icmpv6.wire header
 
--- a written header with this payload after it is read as this header and this payload, except for unknown ICMP messages and timestamp
--- messages, as stated in `Icmpv4ReadsBack` and `Icmpv6ReadsBack`
+-- The bytes of a header, with a payload after them, are read as this header and this payload. `Icmpv4ReadsBack` and `Icmpv6ReadsBack` state
+-- how unknown ICMP messages and timestamp messages are read.
 abbrev pub IsReadBack : TransportHeader → List ℕ → Type 0
 IsReadBack (headers.Udp header) payload = udp.DecodesAs (udp.wire header ++ payload) header payload
 IsReadBack (headers.Tcp header) payload = tcp.DecodesAs (tcp.wire header ++ payload) header payload

@@ -1,4 +1,4 @@
--- The checksum of a header of any of the four protocols: its errors, its value, and that it is right.
+-- The checksum of a header of any of the four protocols: the errors if it can't be computed, its value, and what makes it right.
 use Rattle.std.specs.Prelude.{⊤, ◌≡◌, ℕ, ◌+◌, List, ◌++◌, Option, Some, None}
 use Rattle.std.specs.Option.{option_map}
 use Rattle.icmp_part.specs.Icmpv4Format as icmpv4
@@ -27,13 +27,14 @@ with_checksum_field (Icmpv6 header) checksum = Icmpv6 (record header { checksum 
 
 -- ---- errors
 
--- the error if the payload is longer than the packet's length can count; over IPv4 also for an ICMPv6 header
+-- the error over IPv4: header and payload of UDP or TCP are longer than 65,535 bytes, or the header is an ICMPv6 header
 abbrev pub ipv4_refusal : TransportHeader → ℕ → Option TransportChecksumError
 ipv4_refusal (Udp header) payload_len = option_map PayloadLen (too_big UdpPayloadLengthIpv4 udp.max_payload_len payload_len)
 ipv4_refusal (Tcp header) payload_len = option_map PayloadLen (too_big TcpPayloadLengthIpv4 (tcp.max_payload_len_ipv4 (tcp.wire header)) payload_len)
 ipv4_refusal (Icmpv4 header) payload_len = None
 ipv4_refusal (Icmpv6 header) payload_len = Some Icmpv6InIpv4
 
+-- the error over IPv6: header and payload of UDP, TCP or ICMPv6 are longer than 4,294,967,295 bytes
 abbrev pub ipv6_refusal : TransportHeader → ℕ → Option (ValueTooBigError ℕ)
 ipv6_refusal (Udp header) payload_len = too_big UdpPayloadLengthIpv6 udp.max_payload_len_of_32_bits payload_len
 ipv6_refusal (Tcp header) payload_len = too_big TcpPayloadLengthIpv6 (tcp.max_payload_len_ipv6 (tcp.wire header)) payload_len
@@ -42,7 +43,7 @@ ipv6_refusal (Icmpv6 header) payload_len = too_big Icmpv6PayloadLength icmpv6.ma
 
 -- ---- the value of the checksum
 
--- the checksum over IPv4; an ICMPv6 header has none, since its checksum covers IPv6 addresses, and the value is 0
+-- the checksum over IPv4; 0 for an ICMPv6 header, whose checksum covers IPv6 addresses
 abbrev pub checksum_over_ipv4 : List ℕ → List ℕ → TransportHeader → List ℕ → ℕ
 checksum_over_ipv4 source destination (Udp header) payload = udp_checksum_of (udp.checksummed_ipv4 source destination header payload)
 checksum_over_ipv4 source destination (Tcp header) payload = checksum_of (tcp.checksummed_ipv4 source destination (tcp.wire header) payload)
@@ -72,7 +73,7 @@ IsValidOverIpv4 source destination (Tcp header) payload = IsValidTcpIpv4 source 
 IsValidOverIpv4 source destination (Icmpv4 header) payload = IsValidIcmpv4 (icmpv4.wire header ++ payload)
 IsValidOverIpv4 source destination (Icmpv6 header) payload = ⊥
 
--- a receiver over IPv6 accepts header and payload; it checks an ICMPv4 message without addresses
+-- a receiver over IPv6 accepts header and payload; the checksum of an ICMPv4 message covers no addresses
 abbrev pub IsValidOverIpv6 : List ℕ → List ℕ → TransportHeader → List ℕ → Type 0
 IsValidOverIpv6 source destination (Udp header) payload = IsValidUdpIpv6 source destination (udp.wire header ++ payload)
 IsValidOverIpv6 source destination (Tcp header) payload = IsValidTcpIpv6 source destination (tcp.wire header ++ payload)

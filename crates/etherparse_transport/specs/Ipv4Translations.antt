@@ -1,5 +1,5 @@
--- The translation of an IPv4 packet, as an address translator makes it (RFC 3022; RFC 5508 for ICMP): new addresses, the checksum of the
--- header updated by them (RFC 1624), and the translated message.
+-- How an address translator translates an IPv4 packet (RFC 3022; RFC 5508 for ICMP): new addresses, a checksum of the header that is
+-- updated from the addresses (RFC 1624), and the translated message.
 use Rattle.std.specs.Prelude.{◌≡◌, ◌≤◌, ◌↔◌, ℕ, ◌+◌, ◌==◌, ◌&&◌, ◌||◌, Bool, false, true, is_none, not, List, [], ◌∷◌, drop, length, slice_index, slice_range, take, Option, Some, None, unwrap_or}
 use Rattle.std.specs.Int.{to_be_bytes, w16}
 use Rattle.std.specs.Borrow.{Bor}
@@ -52,7 +52,7 @@ abbrev pub updated_header_checksum : Ipv4Header → List ℕ → ℕ
 updated_header_checksum new packet =
     updated_checksum_of (number header_checksum_place packet) (sum_of_ipv4 (ipv4_header_of packet)) (sum_of_ipv4 new)
 
--- an IPv4 packet with these addresses and this checksum of the header
+-- an IPv4 packet with these addresses, and with the checksum of its header updated
 abbrev pub with_ipv4_addresses : Ipv4Header → List ℕ → List ℕ
 with_ipv4_addresses new packet =
     with_bytes ipv4_destination_place new.destination (with_bytes ipv4_source_place new.source
@@ -66,7 +66,7 @@ ipv4_proto packet = proto_over (Ipv4 (ipv4_header_of packet).source (ipv4_header
 
 -- ---- a packet of a flow
 
--- the new addresses of an IPv4 packet
+-- the addresses of an IPv4 packet after the translation
 abbrev pub ipv4_addresses : Ipv4Translation → List ℕ → Ipv4Header
 ipv4_addresses new packet = record {
   source = unwrap_or new.source (ipv4_header_of packet).source;
@@ -77,12 +77,12 @@ ipv4_addresses new packet = record {
 abbrev pub ipv4_is_later_fragment : List ℕ → Bool
 ipv4_is_later_fragment packet = not (ipv4_fragment_offset packet == 0)
 
--- The message of an IPv4 packet, which begins after its header, options included. A packet that an ICMP error quotes extends to the end of
--- the quote, whatever its total length is: some hosts quote it without the length of the header.
+-- The message of an IPv4 packet, which begins after the header and its options. If an ICMP error quotes the packet, the message extends to
+-- the end of the quote. The total length is then ignored, since some hosts quote a packet with a total length that leaves out the header.
 abbrev pub message_in_ipv4 : Bool → List ℕ → List ℕ
 message_in_ipv4 is_quoted packet = counted_after is_quoted (ipv4_header_len packet) packet
 
--- this message of an IPv4 packet with new ports
+-- this message of an IPv4 packet, with new ports
 abbrev pub ipv4_flow_message : Ipv4Translation → List ℕ → List ℕ → List ℕ
 ipv4_flow_message new message packet =
     translated_in (ipv4_is_later_fragment packet) (ipv4_proto packet) (sum_of_ipv4 (ipv4_header_of packet)) (sum_of_ipv4 (ipv4_addresses new packet))
@@ -98,7 +98,8 @@ ipv4_translated_flow new message packet = ipv4_with_message new (ipv4_flow_messa
 
 -- ---- an ICMP error
 
--- The translation of the packet that an ICMP error quotes, which went in the other direction (RFC 5508, section 4).
+-- The translation of the packet that an ICMP error quotes. Source and destination are exchanged, since the quoted packet went in the other
+-- direction (RFC 5508, section 4).
 abbrev pub ipv4_opposite : Ipv4Translation → Ipv4Translation
 ipv4_opposite new = record {
   source = new.destination;
@@ -120,19 +121,21 @@ has_source_route packet = contain_source_route (drop 20 (ip.ipv4_header packet))
 
 -- This protocol, other than UDP and TCP, has a checksum or an authentication that covers IPv4 addresses: DCCP (33; RFC 4340, section 9.1),
 -- AH (51; RFC 4302, section 3.3.3), VRRP (112; RFC 5798, section 5.2.8), UDP-Lite (136; RFC 3828, section 3.1) and HIP (139; RFC 7401,
--- section 5.1.1). ICMPv6 (58) has a pseudo header of IPv6 (RFC 4443, section 2.3), so it has no meaning over IPv4.
+-- section 5.1.1). ICMPv6 (58) is included too. It has a pseudo header of IPv6 (RFC 4443, section 2.3), so it has no meaning over IPv4.
 abbrev pub covers_ipv4_addresses : ℕ → Bool
 covers_ipv4_addresses number =
     number == authentication
     || (number == icmpv6_number || (number == 33 || (number == 112 || (number == 136 || number == host_identity))))
 
--- the errors of the headers: those of `transport_in_ip_lax`, and for a quoted packet only those of an IPv4 header without its total length
+-- The error of the headers: the error of `transport_in_ip_lax`. For a quoted packet it is only the error of the IPv4 header, whose total
+-- length is ignored.
 abbrev pub ipv4_headers_refusal : Bool → List ℕ → Option IpError
 ipv4_headers_refusal false packet = ip.lax_refusal packet
 ipv4_headers_refusal true packet = ip.ipv4_header_refusal packet
 
--- An IPv4 packet whose message is not found directly after its header, or whose addresses are not all in the header: the errors of the
--- headers, another version, a source route, and a protocol other than UDP, TCP and ICMPv4 if it covers addresses, or if a port is replaced.
+-- The first of these errors that applies: the error of the headers; another version; a source route, which contains other addresses; a
+-- protocol that is not translated. A protocol other than UDP, TCP and ICMPv4 is not translated if a port is replaced, or if the protocol
+-- covers addresses.
 abbrev pub ipv4_place_refusal : Bool → Bool → List ℕ → Option TranslateError
 ipv4_place_refusal is_quoted has_port packet = first_of (
     option_map Ip (ipv4_headers_refusal is_quoted packet)
@@ -141,7 +144,7 @@ ipv4_place_refusal is_quoted has_port packet = first_of (
     ∷ refused_if (is_none (ipv4_proto packet) && (has_port || covers_ipv4_addresses (slice_index packet 9))) (Protocol (record { 0 = slice_index packet 9 }))
     ∷ [])
 
--- where these bytes, the message of an IPv4 packet, are, and what they are
+-- `place` states where these bytes, the message of an IPv4 packet, begin and end, and which protocol they have
 pub record IsIpv4Place (bytes packet : List ℕ) (place : Place) : Type 0 where
   pub is_ipv4 : version packet ≡ 4
   pub start : place.start ≡ ipv4_header_len packet
@@ -191,10 +194,11 @@ ipv4_message_by (Some quoted) new of_quoted packet =
 abbrev pub ipv4_message_with : Option (List ℕ) → Ipv4Translation → List ℕ → List ℕ
 ipv4_message_with quoted new packet = ipv4_message_by quoted new (ipv4_opposite new) packet
 
--- the translated message and the translated packet, if the quoted packet has its own translation
+-- the translated message, if the quoted packet has its own translation
 abbrev pub ipv4_message_of_both : Ipv4Translation → Ipv4Translation → List ℕ → List ℕ
 ipv4_message_of_both new of_quoted packet = ipv4_message_by (ipv4_quoted packet) new of_quoted packet
 
+-- the translated packet, if the quoted packet has its own translation
 abbrev pub ipv4_translated_with : Ipv4Translation → Ipv4Translation → List ℕ → List ℕ
 ipv4_translated_with new of_quoted packet = ipv4_with_message new (ipv4_message_of_both new of_quoted packet) packet
 
@@ -206,7 +210,7 @@ ipv4_translated_message new packet = ipv4_message_with (ipv4_quoted packet) new 
 abbrev pub ipv4_translated : Ipv4Translation → List ℕ → List ℕ
 ipv4_translated new packet = ipv4_with_message new (ipv4_translated_message new packet) packet
 
--- the new addresses, in the form of `Addresses`
+-- the addresses after the translation, as a value of `Addresses`
 abbrev pub ipv4_between : Ipv4Translation → List ℕ → Addresses
 ipv4_between new packet = Ipv4 (ipv4_addresses new packet).source (ipv4_addresses new packet).destination
 
@@ -224,8 +228,9 @@ ipv4_pseudo_header_of protos.Tcp addresses len = ipv4_pseudo_header addresses.so
 ipv4_pseudo_header_of protos.Icmpv4 addresses len = []
 ipv4_pseudo_header_of protos.Icmpv6 addresses len = ipv4_pseudo_header addresses.source addresses.destination icmpv6_number len
 
--- A receiver accepts this message between the new addresses exactly if it accepts this old message between the old addresses. This holds for
--- a message whose checksum is updated, also if it is a part of a message, and not for a later fragment.
+-- Assume that the packet is not a later fragment, and that the checksum of its message is updated. Then a receiver accepts the translated
+-- message between the new addresses exactly if it accepts the message between the old addresses. The message may be only a part of a
+-- message.
 abbrev pub IsAcceptedByIpv4 : Ipv4Translation → List ℕ → List ℕ → List ℕ → Type 0
 IsAcceptedByIpv4 new message packet translated = (proto : Proto) → ipv4_proto packet ≡ Some proto
     → (ipv4_is_later_fragment packet ≡ false) → IsUpdated proto message
@@ -233,12 +238,12 @@ IsAcceptedByIpv4 new message packet translated = (proto : Proto) → ipv4_proto 
     (ipv4_pseudo_header_of proto (ipv4_header_of packet)) (ipv4_pseudo_header_of proto (ipv4_addresses new packet))
     message translated
 
--- this message of a translated packet is accepted
+-- a receiver accepts this translated message of the packet exactly if it accepts the message, as `IsAcceptedByIpv4` states
 abbrev pub IsIpv4Accepted : Ipv4Translation → List ℕ → List ℕ → Type 0
 IsIpv4Accepted new packet translated = IsAcceptedByIpv4 new (message_in_ipv4 false packet) packet translated
 
--- A receiver accepts the translated ICMP error exactly if it accepts the error. The checksum of the error covers the packet that it quotes.
--- The statement holds also if some bytes of the error are in other fragments or are cut off.
+-- If the packet is an ICMP error, a receiver accepts the translated error exactly if it accepts the error. The checksum of the error covers
+-- the packet that it quotes. The statement also holds if some bytes of the error are in other fragments or are cut off.
 abbrev pub IsIpv4ErrorAccepted : List ℕ → List ℕ → Type 0
 IsIpv4ErrorAccepted packet translated = (quoted : List ℕ) → ipv4_quoted packet ≡ Some quoted
     → IsVerifiedAlike (length (message_in_ipv4 false packet)) (λ len. []) (λ len. []) (message_in_ipv4 false packet) translated

@@ -1,5 +1,5 @@
--- The translation of an IPv6 packet, as an address translator makes it (RFC 3022; RFC 5508 for ICMP): new addresses and the
--- translated message. An IPv6 header has no checksum.
+-- How an address translator translates an IPv6 packet (RFC 3022; RFC 5508 for ICMP): new addresses and the translated message. An IPv6
+-- header has no checksum.
 use Rattle.std.specs.Prelude.{◌≡◌, ◌≤◌, ◌%◌, ℕ, ◌+◌, ◌==◌, ◌&&◌, ◌||◌, Bool, false, is_none, not, List, [], ◌∷◌, length, slice_range, Option, Some, None, unwrap_or}
 use Rattle.std.specs.Borrow.{Bor}
 use Rattle.std.specs.Option.{option_map}
@@ -50,15 +50,15 @@ with_ipv6_addresses new packet = with_bytes ipv6_destination_place new.destinati
 abbrev pub ipv6_start : List ℕ → ℕ
 ipv6_start packet = (skipped_headers packet).len
 
--- the number of the protocol, in the last of these headers
+-- the number of the protocol after the skipped headers
 abbrev pub ipv6_protocol : List ℕ → ℕ
 ipv6_protocol packet = (skipped_headers packet).protocol.0
 
--- the protocol of an IPv6 packet, by the number of the protocol
+-- the protocol of an IPv6 packet, by its number
 abbrev pub ipv6_proto : List ℕ → Option Proto
 ipv6_proto packet = proto_over (Ipv6 (ipv6_header_of packet).source (Some (ipv6_header_of packet).destination)) (ipv6_protocol packet)
 
--- the last of these headers is the fragment header of a later fragment
+-- the last skipped header is the fragment header of a later fragment
 abbrev pub ipv6_is_later_fragment : List ℕ → Bool
 ipv6_is_later_fragment packet = (skipped_headers packet).is_later_fragment
 
@@ -68,7 +68,7 @@ message_in_ipv6 packet = counted_after false (ipv6_start packet) packet
 
 -- ---- a packet of a flow
 
--- the new addresses of an IPv6 packet
+-- the addresses of an IPv6 packet after the translation
 abbrev pub ipv6_addresses : Ipv6Translation → List ℕ → Ipv6Header
 ipv6_addresses new packet = record {
   source = unwrap_or new.source (ipv6_header_of packet).source;
@@ -91,7 +91,8 @@ ipv6_translated_flow new packet = ipv6_with_message new (ipv6_flow_message new p
 
 -- ---- an ICMP error
 
--- The translation of the packet that an ICMP error quotes, which went in the other direction (RFC 5508, section 4).
+-- The translation of the packet that an ICMP error quotes. Source and destination are exchanged, since the quoted packet went in the other
+-- direction (RFC 5508, section 4).
 abbrev pub ipv6_opposite : Ipv6Translation → Ipv6Translation
 ipv6_opposite new = record {
   source = new.destination;
@@ -107,17 +108,18 @@ ipv6_of_quoted new (Some passed) = passed.now
 
 -- ---- errors
 
--- An extension header that is not skipped, since it contains another address or precedes a message that covers addresses, or whose contents are
--- in another fragment. Or a protocol whose checksum covers
--- addresses and is not translated: DCCP (33; RFC 4340, section 9.1), OSPF (89; RFC 5340, section A.3.1), PIM (103; RFC 7761, section 4.9),
--- VRRP (112; RFC 5798, section 5.2.8) or UDP-Lite (136; RFC 3828, section 3.1). Or ICMPv4 (1), which has no meaning over IPv6.
+-- This is the number of an extension header, of ICMPv4, or of a protocol whose checksum covers addresses and is not updated. An extension
+-- header is not skipped if it contains another address, precedes a message that covers addresses, or is not whole. ICMPv4 (1) has no
+-- meaning over IPv6. The protocols are DCCP (33; RFC 4340, section 9.1), OSPF (89; RFC 5340, section A.3.1), PIM (103; RFC 7761, section
+-- 4.9), VRRP (112; RFC 5798, section 5.2.8) and UDP-Lite (136; RFC 3828, section 3.1).
 abbrev pub covers_ipv6_addresses : ℕ → Bool
 covers_ipv6_addresses number =
     is_extension number
     || (number == icmpv4_number || (number == 33 || (number == 89 || (number == 103 || (number == 112 || number == 136)))))
 
--- The errors, in this order: an error of `transport_in_ip_lax`; another version; a protocol after the skipped headers that is not UDP, TCP or
--- ICMPv6, if the protocol covers addresses or if a port is replaced.
+-- The first of these errors that applies: the error of `transport_in_ip_lax`; another version; a protocol that is not translated. A
+-- protocol after the skipped headers, other than UDP, TCP and ICMPv6, is not translated if a port is replaced, or if the protocol covers
+-- addresses.
 abbrev pub ipv6_place_refusal : Bool → List ℕ → Option TranslateError
 ipv6_place_refusal has_port packet = first_of (
     option_map Ip (ip.lax_refusal packet)
@@ -125,7 +127,7 @@ ipv6_place_refusal has_port packet = first_of (
     ∷ refused_if (is_none (ipv6_proto packet) && (has_port || covers_ipv6_addresses (ipv6_protocol packet))) (Protocol (record { 0 = ipv6_protocol packet }))
     ∷ [])
 
--- `place` states where the message of an IPv6 packet is, and its protocol
+-- `place` states where the message of an IPv6 packet begins and ends, and which protocol it has
 pub record IsIpv6Place (packet : List ℕ) (place : Place) : Type 0 where
   pub is_ipv6 : version packet ≡ 6
   pub start : place.start ≡ ipv6_start packet
@@ -177,10 +179,11 @@ ipv6_message_by (Some quoted) new of_quoted packet =
 abbrev pub ipv6_message_with : Option (List ℕ) → Ipv6Translation → List ℕ → List ℕ
 ipv6_message_with quoted new packet = ipv6_message_by quoted new (ipv6_opposite new) packet
 
--- the translated message and the translated packet, if the quoted packet has its own translation
+-- the translated message, if the quoted packet has its own translation
 abbrev pub ipv6_message_of_both : Ipv6Translation → Ipv6Translation → List ℕ → List ℕ
 ipv6_message_of_both new of_quoted packet = ipv6_message_by (ipv6_quoted packet) new of_quoted packet
 
+-- the translated packet, if the quoted packet has its own translation
 abbrev pub ipv6_translated_with : Ipv6Translation → Ipv6Translation → List ℕ → List ℕ
 ipv6_translated_with new of_quoted packet = ipv6_with_message new (ipv6_message_of_both new of_quoted packet) packet
 
@@ -192,7 +195,7 @@ ipv6_translated_message new packet = ipv6_message_with (ipv6_quoted packet) new 
 abbrev pub ipv6_translated : Ipv6Translation → List ℕ → List ℕ
 ipv6_translated new packet = ipv6_with_message new (ipv6_translated_message new packet) packet
 
--- the new addresses, in the form of `Addresses`
+-- the addresses after the translation, as a value of `Addresses`
 abbrev pub ipv6_between : Ipv6Translation → List ℕ → Addresses
 ipv6_between new packet = Ipv6 (ipv6_addresses new packet).source (Some (ipv6_addresses new packet).destination)
 
@@ -203,15 +206,16 @@ pub record AreIpv6Addresses (addresses : Ipv6Header) : Type 0 where
 
 -- ---- a receiver's check
 
--- the pseudo header of a message of this protocol and of this length between these addresses
+-- the pseudo header of a message of this protocol and this length between these addresses; ICMPv4 has no pseudo header
 abbrev pub ipv6_pseudo_header_of : Proto → Ipv6Header → ℕ → List ℕ
 ipv6_pseudo_header_of protos.Udp addresses len = ipv6_pseudo_header addresses.source addresses.destination udp_number len
 ipv6_pseudo_header_of protos.Tcp addresses len = ipv6_pseudo_header addresses.source addresses.destination tcp_number len
 ipv6_pseudo_header_of protos.Icmpv4 addresses len = []
 ipv6_pseudo_header_of protos.Icmpv6 addresses len = ipv6_pseudo_header addresses.source addresses.destination icmpv6_number len
 
--- A receiver accepts this message between the new addresses exactly if it accepts the old message between the old addresses. This holds for
--- a message, or for a part of a message, whose checksum is updated. It does not hold for a later fragment.
+-- Assume that the packet is not a later fragment, and that the checksum of its message is updated. Then a receiver accepts the translated
+-- message between the new addresses exactly if it accepts the message between the old addresses. The message may be only a part of a
+-- message.
 abbrev pub IsIpv6Accepted : Ipv6Translation → List ℕ → List ℕ → Type 0
 IsIpv6Accepted new packet translated = (proto : Proto) → ipv6_proto packet ≡ Some proto
     → (ipv6_is_later_fragment packet ≡ false) → IsUpdated proto (message_in_ipv6 packet)
@@ -219,8 +223,8 @@ IsIpv6Accepted new packet translated = (proto : Proto) → ipv6_proto packet ≡
     (ipv6_pseudo_header_of proto (ipv6_header_of packet)) (ipv6_pseudo_header_of proto (ipv6_addresses new packet))
     (message_in_ipv6 packet) translated
 
--- A receiver accepts the translated ICMP error exactly if it accepts the error. The checksum of the error covers the packet that it quotes.
--- The statement holds also if some bytes of the error are in other fragments or are cut off.
+-- If the packet is an ICMP error, a receiver accepts the translated error exactly if it accepts the error. The checksum of the error covers
+-- the packet that it quotes. The statement also holds if some bytes of the error are in other fragments or are cut off.
 abbrev pub IsIpv6ErrorAccepted : Ipv6Translation → List ℕ → List ℕ → Type 0
 IsIpv6ErrorAccepted new packet translated = (quoted : List ℕ) → ipv6_quoted packet ≡ Some quoted
     → IsVerifiedAlike (length (message_in_ipv6 packet))

@@ -68,12 +68,13 @@ with_length (Tcp header) payload_len = Tcp header
 with_length (Icmpv4 header) payload_len = Icmpv4 header
 with_length (Icmpv6 header) payload_len = Icmpv6 header
 
--- the transport header that is sent, with its length field and its checksum
+-- the transport header that is sent over IPv4, with its length field and its checksum
 abbrev pub sent_over_ipv4 : List ℕ → List ℕ → TransportHeader → List ℕ → TransportHeader
 sent_over_ipv4 source destination header payload =
     let counted : TransportHeader = with_length header (length payload) in
     with_checksum_field counted (checksum_over_ipv4 source destination counted payload)
 
+-- the transport header that is sent over IPv6, with its length field and its checksum
 abbrev pub sent_over_ipv6 : List ℕ → List ℕ → TransportHeader → List ℕ → TransportHeader
 sent_over_ipv6 source destination header payload =
     let counted : TransportHeader = with_length header (length payload) in
@@ -85,12 +86,13 @@ sent_over_ipv6 source destination header payload =
 abbrev pub message_len : TransportHeader → ℕ → ℕ
 message_len header payload_len = length (wire header) + payload_len
 
--- the bytes of the packet: IP header, transport header and payload
+-- the bytes of an IPv4 packet: IP header, transport header and payload
 abbrev pub ipv4_packet : List ℕ → List ℕ → ℕ → TransportHeader → List ℕ → List ℕ
 ipv4_packet source destination time_to_live header payload =
     ipv4_header (ipv4_start (20 + message_len header (length payload))) time_to_live (number_of (proto_of header)) source destination
     ++ (wire (sent_over_ipv4 source destination header payload) ++ payload)
 
+-- the bytes of an IPv6 packet: IP header, transport header and payload
 abbrev pub ipv6_packet : List ℕ → List ℕ → ℕ → TransportHeader → List ℕ → List ℕ
 ipv6_packet source destination hop_limit header payload =
     ipv6_header (ipv6_start (message_len header (length payload))) (number_of (proto_of header)) hop_limit source destination
@@ -98,19 +100,21 @@ ipv6_packet source destination hop_limit header payload =
 
 -- ---- errors
 
--- The greatest length of transport header and payload that the IP header can count in 16 bits. IPv4 also counts the 20 bytes of the IP
--- header (RFC 791, section 3.1; RFC 8200, section 3).
+-- The greatest length of transport header and payload that the total length of IPv4 can count. It has 16 bits, and also counts the 20 bytes
+-- of the IP header (RFC 791, section 3.1).
 abbrev pub max_message_len_ipv4 : ℕ
 max_message_len_ipv4 = max_len_over_ipv4 - 20
 
+-- the greatest length of transport header and payload that the payload length of IPv6 can count in 16 bits (RFC 8200, section 3)
 abbrev pub max_message_len_ipv6 : ℕ
 max_message_len_ipv6 = 65535
 
--- the error for ICMP of the wrong IP version, which a receiver does not read as ICMP
+-- the error for an ICMPv6 header over IPv4, which a receiver does not read as ICMP
 abbrev pub other_version_ipv4 : TransportHeader → Option BuildSliceWriteError
 other_version_ipv4 (Icmpv6 header) = Some Icmpv6InIpv4
 other_version_ipv4 other = None
 
+-- the error for an ICMPv4 header over IPv6, which a receiver does not read as ICMP
 abbrev pub other_version_ipv6 : TransportHeader → Option BuildSliceWriteError
 other_version_ipv6 (Icmpv4 header) = Some Icmpv4InIpv6
 other_version_ipv6 other = None
@@ -121,7 +125,7 @@ payload_above max_message_len header_len payload_len =
     let max_allowed : ℕ = max_message_len - header_len in
     refused_if (nat_lt max_allowed payload_len) (PayloadLen payload_len max_allowed)
 
--- the error for a timestamp message or reply that is not 20 bytes long, which `Icmpv4Slice` refuses
+-- the error for an ICMPv4 timestamp message or reply with code 0 that is not 20 bytes long, which `Icmpv4Slice` refuses
 abbrev pub timestamp_refusal : TransportHeader → List ℕ → Option BuildSliceWriteError
 timestamp_refusal (Icmpv4 header) payload = option_map TimestampLen (icmpv4.refusal (icmpv4.wire header ++ payload))
 timestamp_refusal other payload = None
@@ -130,7 +134,7 @@ timestamp_refusal other payload = None
 abbrev pub space_refusal : ℕ → ℕ → Option BuildSliceWriteError
 space_refusal required_len len = refused_if (nat_lt len required_len) (Space required_len len)
 
--- the first error that applies: the errors that do not depend on the slice, and then a slice that is too short
+-- the first error over IPv4 that does not depend on the slice
 abbrev pub ipv4_message_refusal : TransportHeader → List ℕ → Option BuildSliceWriteError
 ipv4_message_refusal header payload = first_of (
     other_version_ipv4 header
@@ -138,18 +142,21 @@ ipv4_message_refusal header payload = first_of (
     ∷ timestamp_refusal header payload
     ∷ [])
 
+-- the first error over IPv4: an error that does not depend on the slice, or else a slice of this length that is too short
 abbrev pub ipv4_write_refusal : TransportHeader → List ℕ → ℕ → Option BuildSliceWriteError
 ipv4_write_refusal header payload len = first_of (
     ipv4_message_refusal header payload
     ∷ space_refusal (20 + message_len header (length payload)) len
     ∷ [])
 
+-- the first error over IPv6 that does not depend on the slice
 abbrev pub ipv6_message_refusal : TransportHeader → List ℕ → Option BuildSliceWriteError
 ipv6_message_refusal header payload = first_of (
     other_version_ipv6 header
     ∷ payload_above max_message_len_ipv6 (length (wire header)) (length payload)
     ∷ [])
 
+-- the first error over IPv6: an error that does not depend on the slice, or else a slice of this length that is too short
 abbrev pub ipv6_write_refusal : TransportHeader → List ℕ → ℕ → Option BuildSliceWriteError
 ipv6_write_refusal header payload len = first_of (
     ipv6_message_refusal header payload

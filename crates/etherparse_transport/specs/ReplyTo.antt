@@ -16,13 +16,13 @@ use Rattle.etherparse_transport.specs.EchoReplies.{is_host_ipv4, is_host_ipv6, i
 
 -- ---- the packets
 
--- the number of the ICMP that belongs to these addresses (RFC 5237)
+-- the protocol number of ICMP for the IP version of these addresses (RFC 5237)
 abbrev pub icmp_number : Addresses → ℕ
 icmp_number (Ipv4 source destination) = icmpv4_number
 icmp_number (Ipv6 source destination) = icmpv6_number
 
--- `transport_in_ip` accepts the packet, and it is no fragment. Its headers contain these addresses, and the number of ICMP of the IP
--- version. The message consists of all bytes after the headers that the IP header counts.
+-- `transport_in_ip` accepts the packet, and the packet is not a fragment. Its headers contain these addresses, and the protocol number of
+-- ICMP for its IP version. The message consists of the bytes after the headers that the IP header counts.
 pub record CarriesIcmp (packet : List ℕ) (between : Addresses) (message : List ℕ) : Type 0 where
   pub accepted : ip.refusal packet ≡ None
   pub headers : Headers
@@ -34,26 +34,26 @@ pub record CarriesIcmp (packet : List ℕ) (between : Addresses) (message : List
 
 -- ---- the addresses
 
--- A request to one host is answered by this host. A request to several hosts is answered by any of these hosts, from its own address (RFC
--- 1122, section 3.2.2.6; RFC 4443, section 4.2).
+-- A host with the address `responder` may answer a request to this destination. A request to one host is answered by this host. A request
+-- to several hosts is answered by any of these hosts, from its own address (RFC 1122, section 3.2.2.6; RFC 4443, section 4.2).
 abbrev pub MayAnswerIpv4 : List ℕ → List ℕ → Type 0
 MayAnswerIpv4 destination responder =
     MatchBool (is_group_ipv4 destination) (IsTrue (is_host_ipv4 responder)) (responder ≡ destination)
 
--- this host may answer a request to this destination over IPv6; the rule is as over IPv4
+-- a host with the address `responder` may answer a request to this destination over IPv6, by the rule of `MayAnswerIpv4`
 abbrev pub MayAnswerIpv6 : List ℕ → List ℕ → Type 0
 MayAnswerIpv6 destination responder =
     MatchBool (is_group_ipv6 destination) (IsTrue (is_host_ipv6 responder)) (responder ≡ destination)
 
--- The reply goes to the source of the request, and its source may answer for the destination of the request. If the final destination of a
--- packet is unknown, the packet is neither a request nor a reply.
+-- The reply goes to the source of the request, and the source of the reply may answer for the destination of the request. If the final
+-- destination of a packet is unknown, the packet is neither a request nor a reply.
 abbrev pub GoesBack : Addresses → Addresses → Type 0
 GoesBack (Ipv4 source destination) (Ipv4 responder receiver) = (receiver ≡ source) × MayAnswerIpv4 destination responder
 GoesBack (Ipv6 source (Some destination)) (Ipv6 responder (Some receiver)) = (receiver ≡ source) × MayAnswerIpv6 destination responder
 GoesBack request reply = ⊥
 
--- The reply goes to the source of the request, from the address of any host. A host replies to an anycast address from a unicast address,
--- which the request does not name (RFC 4443, section 4.2).
+-- The reply goes to the source of the request, from the address of any host. A host replies to a request to an anycast address from a
+-- unicast address, which the request does not contain (RFC 4443, section 4.2).
 abbrev pub GoesToSource : Addresses → Addresses → Type 0
 GoesToSource (Ipv4 source destination) (Ipv4 responder receiver) = (receiver ≡ source) × IsTrue (is_host_ipv4 responder)
 GoesToSource (Ipv6 source destination) (Ipv6 responder (Some receiver)) = (receiver ≡ source) × IsTrue (is_host_ipv6 responder)
@@ -61,7 +61,7 @@ GoesToSource request reply = ⊥
 
 -- ---- the messages
 
--- the slice of this ICMP version accepts the message, whose type is this type and whose code is 0
+-- the message has this type and code 0, and the slice of its ICMP version accepts it
 pub record IsOfType (type : ℕ) (refusal : Option LenError) (message : List ℕ) : Type 0 where
   pub accepted : refusal ≡ None
   pub type_is : slice_index message 0 ≡ type
@@ -86,7 +86,7 @@ pub record AnswersIcmpv6 (responder receiver request reply : List ℕ) : Type 0 
   pub same : echoed reply ≡ echoed request
   pub checksum : IsValidIcmpv6 responder receiver reply
 
--- `reply` is the reply to the message `request`; the reply has these addresses
+-- `reply` is the reply to the message `request`, and has these addresses; their final destination is known
 abbrev pub Answers : Addresses → List ℕ → List ℕ → Type 0
 Answers (Ipv4 responder receiver) request reply = AnswersIcmpv4 request reply
 Answers (Ipv6 responder (Some receiver)) request reply = AnswersIcmpv6 responder receiver request reply
@@ -94,9 +94,9 @@ Answers (Ipv6 responder None) request reply = ⊥
 
 -- ---- the reply
 
--- `reply` is the reply to `request`, if their addresses have this relation. Its message is the reply to the message of the request. The
--- checksum of its IPv4 header is right, since a host discards the packet otherwise (RFC 1122, section 3.2.1.2). The checksums of the
--- request are not tested.
+-- `reply` is the reply to `request`, and their addresses have the relation `AreItsAddresses`. The message of `reply` is the reply to the
+-- message of `request`. The checksum of the IPv4 header of `reply` is right, since a host discards the packet otherwise (RFC 1122, section
+-- 3.2.1.2). The checksums of `request` are not tested.
 pub record IsReplyBetween (AreItsAddresses : Addresses → Addresses → Type 0) (request reply : List ℕ) : Type 0 where
   pub request_addresses : Addresses
   pub reply_addresses : Addresses
@@ -112,6 +112,6 @@ pub record IsReplyBetween (AreItsAddresses : Addresses → Addresses → Type 0)
 abbrev pub IsReplyTo : List ℕ → List ℕ → Type 0
 IsReplyTo request reply = IsReplyBetween GoesBack request reply
 
--- the reply comes from the address of any host
+-- the reply comes from the address of any host, as `GoesToSource` states
 abbrev pub IsReplyFromAny : List ℕ → List ℕ → Type 0
 IsReplyFromAny request reply = IsReplyBetween GoesToSource request reply

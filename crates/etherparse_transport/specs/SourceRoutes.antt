@@ -3,7 +3,8 @@ use Rattle.std.specs.Prelude.{ℕ, ◌==◌, ◌||◌, if◌then◌else◌, Bool
 use Rattle.std.specs.List.{find}
 use Rattle.ip_part.specs.Options.{ipv4_option, is_source_route, options_of}
 
--- The option at the front. If its length is below 2 or beyond the bytes, the option consists of all bytes. `None` at the end of the list.
+-- The option at the front of these bytes. If its length is missing, below 2, or beyond the end of the bytes, the option consists of all
+-- bytes. `None` at the end of the list.
 abbrev pub option_or_rest : List ℕ → Option (List ℕ)
 option_or_rest bytes =
     if length bytes == 0 || slice_index bytes 0 == 0 then None else Some (unwrap_or (ipv4_option bytes) bytes)

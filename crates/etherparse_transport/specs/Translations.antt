@@ -1,5 +1,5 @@
--- The translation of the message in an IP packet, as an address translator makes it (RFC 3022; RFC 5508 for ICMP): new ports or a new
--- identifier, and a checksum that is updated by the replaced words (RFC 1624).
+-- How an address translator translates the message in an IP packet (RFC 3022; RFC 5508 for ICMP). It replaces ports or an identifier, and
+-- updates the checksum from the replaced words (RFC 1624).
 use Rattle.std.specs.Prelude.{◌≡◌, ◌≢◌, ◌≤◌, ◌↔◌, ◌⊎◌, ◌%◌, true, false, ℕ, ◌+◌, ◌==◌, ◌&&◌, ◌||◌, Bool, is_none, is_some, nat_le, nat_lt, not, if◌then◌else◌, List, [], ◌∷◌, ◌++◌, drop, length, slice_index, take, Option, Some, None, unwrap_or}
 use Rattle.std.specs.Int.{to_be_bytes, w16}
 use Rattle.icmp_part.specs.Icmpv4Format as icmpv4
@@ -32,8 +32,9 @@ with_number place value bytes = if nat_le (place + 2) (length bytes) then with_c
 abbrev pub and_word : ℕ → ℕ → ℕ
 and_word sum word = folded (sum + total (to_be_bytes w16 word))
 
--- Two changes, given by their removed and added sums, differ only by words that are replaced by themselves. In both changes, some added
--- word is not 0.
+-- Two changes, given by the sums of their removed and added words. The sum of the added words minus the sum of the removed words is the
+-- same for both changes, modulo 65535. For example, one change also replaces some words by themselves. In each change, some added word is
+-- not 0, and the sum of the removed words has 16 bits.
 pub record IsSameChange (removed added removed_too added_too : ℕ) : Type 0 where
   pub difference : (removed + added_too) % all_ones ≡ (removed_too + added) % all_ones
   pub some : added ≢ 0
@@ -41,7 +42,7 @@ pub record IsSameChange (removed added removed_too added_too : ℕ) : Type 0 whe
   pub small : removed ≤ all_ones
   pub small_too : removed_too ≤ all_ones
 
--- both changes update each checksum alike: they have equal sums, or differ as `IsSameChange` states
+-- two changes update each checksum to the same value: their sums are equal, or `IsSameChange` holds
 abbrev pub AreUpdatedAlike : ℕ → ℕ → ℕ → ℕ → Type 0
 AreUpdatedAlike removed added removed_too added_too =
     ((removed ≡ removed_too) × (added ≡ added_too)) ⊎ IsSameChange removed added removed_too added_too
@@ -56,11 +57,11 @@ source_port_place = 0
 abbrev pub destination_port_place : ℕ
 destination_port_place = 2
 
--- the new port, or the old port at this place
+-- the new port, or the old port at this place if there is no new port
 abbrev pub port_or : Option ℕ → ℕ → List ℕ → ℕ
 port_or port place message = unwrap_or port (number place message)
 
--- the message with the new ports
+-- the message with the new ports; it keeps an old port for which there is no new port
 abbrev pub with_ports : Option ℕ → Option ℕ → List ℕ → List ℕ
 with_ports source destination message =
     with_number destination_port_place (port_or destination destination_port_place message)
@@ -91,15 +92,15 @@ translated_tcp old new source destination segment =
 
 -- ---- ICMP queries
 
--- the type of a request with an identifier: echo, timestamp or information (RFC 792), address mask (RFC 950), or echo over IPv6 (RFC 4443,
--- section 4.1)
+-- this is the type of a request with an identifier: echo, timestamp or information (RFC 792), address mask (RFC 950), or echo over IPv6
+-- (RFC 4443, section 4.1)
 abbrev pub is_request : Proto → ℕ → Bool
 is_request protos.Udp type = false
 is_request protos.Tcp type = false
 is_request protos.Icmpv4 type = type == 8 || (type == 13 || (type == 15 || type == 17))
 is_request protos.Icmpv6 type = type == 128
 
--- the type of a reply to one of these requests
+-- this is the type of a reply with an identifier: the reply to a request that `is_request` lists
 abbrev pub is_reply : Proto → ℕ → Bool
 is_reply protos.Udp type = false
 is_reply protos.Tcp type = false
@@ -114,8 +115,8 @@ identifier_place = 4
 abbrev pub rest_of_message : List ℕ → ℕ
 rest_of_message message = total (with_number icmp_checksum_place 0 message)
 
--- The checksum to store in a query, given the updated checksum. If an IPv4 echo reply consists of zeros, its checksum is all ones, while
--- the update gives 0 (RFC 1624).
+-- The checksum to store in a query, given the updated checksum. If all other bytes of an ICMPv4 echo reply are 0, its checksum is 65535,
+-- but the update gives 0 (RFC 1624).
 abbrev pub updated_query_checksum : List ℕ → ℕ → ℕ
 updated_query_checksum message checksum = if rest_of_message message == 0 then zero_as_all_ones checksum else checksum
 
@@ -131,7 +132,7 @@ translated_query old new identifier message =
     (and_word old (number identifier_place message)) (and_word new (port_or identifier identifier_place message))))
     (with_identifier identifier message)
 
--- the message is a request or reply with an identifier; it reaches at least to the end of its identifier, and may have any code
+-- the message is a request or a reply with an identifier, and contains its whole identifier; it may have any code
 abbrev pub is_query : Proto → List ℕ → Bool
 is_query proto message = nat_le 6 (length message) && (is_request proto (slice_index message 0) || is_reply proto (slice_index message 0))
 
@@ -147,8 +148,8 @@ with_updated_checksum removed added message =
 
 -- ---- the message of a packet
 
--- The translated message of a protocol. In an ICMP message other than a query, which may be in a quoted packet, only the checksum is
--- updated. ICMPv4 has no pseudo header.
+-- The translated message of a protocol. An ICMPv4 message other than a query is unchanged, since ICMPv4 has no pseudo header. In an ICMPv6
+-- message other than a query, only the checksum is updated. A quoted packet may contain such a message.
 abbrev pub translated_message : Proto → ℕ → ℕ → Option ℕ → Option ℕ → List ℕ → List ℕ
 translated_message protos.Udp old new source destination message = translated_udp old new source destination message
 translated_message protos.Tcp old new source destination message = translated_tcp old new source destination message
@@ -160,14 +161,15 @@ translated_message protos.Icmpv6 old new source destination message =
 
 -- ---- the addresses
 
--- the bytes in which the bytes `new` are at this place
+-- these bytes, in which `new` replaces the bytes at this place
 abbrev pub with_bytes : ℕ → List ℕ → List ℕ → List ℕ
 with_bytes place new bytes = take place bytes ++ (new ++ drop (place + length new) bytes)
 
 -- ---- the message in its packet
 
--- The message after headers of this length: the counted bytes after them. If no length is stated, or if an ICMP error quotes the packet and
--- its length is not used, these are all bytes after them.
+-- The message after headers of this length. It consists of the bytes after the headers that the IP header counts. If the IP header states
+-- no length, or if `is_quoted` is true, it consists of all bytes after the headers. `is_quoted` is true for an IPv4 packet that an ICMP
+-- error quotes.
 abbrev pub counted_after : Bool → ℕ → List ℕ → List ℕ
 counted_after is_quoted len packet = drop len (ip.counted (is_quoted || ip.lacks_len packet) packet)
 
@@ -180,8 +182,8 @@ translated_in is_later_fragment (Some proto) old new source destination message 
 
 -- ---- an ICMP error
 
--- An ICMP error in which the translated packet replaces the quoted packet, after the header of eight bytes. `old` and `new` are the sums of
--- the old and the new addresses in the pseudo header.
+-- An ICMP error with an updated checksum, in which the translated packet replaces the quoted packet. The quoted packet follows the ICMP
+-- header of eight bytes. `old` and `new` are the sums of the old and the new addresses in the pseudo header.
 abbrev pub with_quote : ℕ → ℕ → List ℕ → List ℕ → List ℕ → List ℕ
 with_quote old new quoted translated message =
     with_updated_checksum (folded (old + total quoted)) (folded (new + total translated)) (with_bytes 8 translated message)
@@ -193,7 +195,7 @@ quoted_by protos.Tcp message = None
 quoted_by protos.Icmpv4 message = quoted_by_icmpv4 message
 quoted_by protos.Icmpv6 message = quoted_by_icmpv6 message
 
--- the packet that a message with these headers quotes; a later fragment quotes no packet
+-- the packet that a message of this protocol quotes; a later fragment quotes no packet
 abbrev pub quoted_in : Bool → Option Proto → List ℕ → Option (List ℕ)
 quoted_in is_later_fragment None message = None
 quoted_in is_later_fragment (Some proto) message = if is_later_fragment then None else quoted_by proto message
@@ -204,8 +206,8 @@ quoted_in is_later_fragment (Some proto) message = if is_later_fragment then Non
 abbrev pub has_port : Option ℕ → Option ℕ → Bool
 has_port source destination = is_some source || is_some destination
 
--- The least number of bytes of a transport header, which contain the ports or the identifier (RFC 792: 64 bits of data). Only the checksum
--- of TCP is after them. It is updated if it is present.
+-- The number of bytes of a transport header that a translation needs. An ICMP error quotes at least these bytes (RFC 792: 64 bits of data).
+-- They contain the ports or the identifier, and any checksum except that of TCP. The checksum of TCP is updated if it is present.
 abbrev pub needed_len : ℕ
 needed_len = 8
 
@@ -213,14 +215,15 @@ needed_len = 8
 abbrev pub is_redirect : List ℕ → Bool
 is_redirect message = slice_index message 0 == 5
 
--- The error for an ICMP message that is not a query: its slice refuses it, or it is a redirect, or it is no error.
+-- The error for an ICMP message that is not a query: its typed slice refuses it, it is an ICMPv4 redirect, or it is no ICMP error.
 abbrev pub icmp_refusal : Proto → List ℕ → Option TranslateError
 icmp_refusal protos.Udp message = None
 icmp_refusal protos.Tcp message = None
 icmp_refusal protos.Icmpv4 message = refused_if (not (is_query protos.Icmpv4 message) && (is_some (icmpv4.refusal message) || (is_redirect message || is_none (quoted_by_icmpv4 message)))) IcmpMessage
 icmp_refusal protos.Icmpv6 message = refused_if (not (is_query protos.Icmpv6 message) && (is_some (icmpv6.refusal message) || is_none (quoted_by_icmpv6 message))) IcmpMessage
 
--- the error for a message: its header is cut off, or its ICMP message can't be translated; a later fragment has no header
+-- The error for a message: its first 8 bytes are not all present, or its ICMP message can't be translated. There is no error for a later
+-- fragment, which contains no header, or for an unknown protocol.
 abbrev pub message_refusal : Bool → Option Proto → List ℕ → Option TranslateError
 message_refusal is_later_fragment None message = None
 message_refusal is_later_fragment (Some proto) message =
@@ -232,8 +235,8 @@ message_refusal is_later_fragment (Some proto) message =
 
 -- ---- the reading
 
--- The transport that is found in a translated packet. It is the transport that was found in the packet, with these addresses and this
--- message.
+-- `found` is the transport in a translated packet. It is equal to `was`, the transport in the old packet, except that it has these
+-- addresses and this message.
 pub record IsTransportWith (between : Addresses) (message : List ℕ) (was found : TransportInIp) : Type 0 where
   pub addresses : by_value found.addresses ≡ between
   pub protocol : found.protocol ≡ was.protocol
@@ -254,8 +257,9 @@ pub record IsReadWith (packet translated : List ℕ) (between : Addresses) (mess
 
 -- ---- a receiver's check
 
--- `before` and `after` are the sums that a receiver adds to the old and the new message. They are the sums of the pseudo headers, and of
--- bytes that do not change. `removed` and `added` turn one into the other. ICMPv4 has no pseudo header.
+-- `before` is the sum that a receiver adds to the old message, and `after` is the sum that it adds to the new message. Each is the sum of
+-- the pseudo header, and of bytes that do not change. For ICMPv4, which has no pseudo header, `before` and `after` are equal. For the other
+-- protocols neither is 0, and a change with the sums `removed` and `added` turns `before` into `after`.
 abbrev pub HaveSums : Proto → ℕ → ℕ → ℕ → ℕ → Type 0
 HaveSums protos.Udp removed added before after = TurnsIntoBy removed added before after × (before ≢ 0) × (after ≢ 0)
 HaveSums protos.Tcp removed added before after = TurnsIntoBy removed added before after × (before ≢ 0) × (after ≢ 0)
@@ -263,8 +267,8 @@ HaveSums protos.Icmpv4 removed added before after = before ≡ after
 HaveSums protos.Icmpv6 removed added before after = TurnsIntoBy removed added before after × (before ≢ 0) × (after ≢ 0)
 
 -- The checksum of a message is updated. The message contains its checksum and its ports or identifier, up to byte 7 in UDP, 17 in TCP, and
--- 5 in ICMP. A UDP packet has a checksum, and an ICMP message is a query. An IPv4 echo reply of zeros, checksum included, is excluded,
--- since RFC 1624 can't tell 0 and 65535 apart in it.
+-- 5 in ICMP. A UDP packet has a checksum, and an ICMP message is a query. The message is not an ICMPv4 echo reply that consists of zeros,
+-- checksum included. The update of RFC 1624 can't tell the checksums 0 and 65535 of such a reply apart.
 abbrev pub IsUpdated : Proto → List ℕ → Type 0
 IsUpdated protos.Udp packet = (8 ≤ length packet) × (number udp_checksum_place packet ≢ 0)
 IsUpdated protos.Tcp segment = 18 ≤ length segment
@@ -283,9 +287,9 @@ least_summed protos.Tcp len = len
 least_summed protos.Icmpv4 len = len
 least_summed protos.Icmpv6 len = len
 
--- A receiver accepts the translated message exactly if it accepts the message. `new` and `old` give the pseudo header for a length. This
--- holds for a whole message. It also holds if the receiver sums only the first bytes, as the length field of UDP states, and if missing
--- bytes follow them, which are in other fragments or are cut off.
+-- A receiver accepts the translated message exactly if it accepts the message. `new` and `old` return the pseudo header for a length.
+-- `whole` is about a whole message. `received` is about a message of which the receiver sums the first `count` bytes, at least `least`, and
+-- then bytes that are missing here. The missing bytes are in other fragments, or were cut off.
 pub record IsVerifiedAlike (least : ℕ) (old new : ℕ → List ℕ) (message translated : List ℕ) : Type 0 where
   pub whole : (Verifies (new (length message)) translated) ↔ (Verifies (old (length message)) message)
   pub received : (len count : ℕ) (missing : List ℕ) → least ≤ count

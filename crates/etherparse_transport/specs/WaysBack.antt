@@ -1,5 +1,5 @@
--- The way back of a translation restores the values that the translation replaced. An update keeps a checksum only modulo 65535 (RFC 1624),
--- so it gives only one of 0 and 65535. The other value is lost, even if nothing is replaced. So some packets are not restored.
+-- The way back is the translation that restores the replaced values. An update determines a checksum only modulo 65535 (RFC 1624), so it
+-- gives only one of 0 and 65535. The other value is lost, even if nothing is replaced. So some packets are not restored.
 use Rattle.std.specs.Prelude.{◌≡◌, ◌≢◌, ⊤, true, false, ℕ, ◌<◌, ◌==◌, Bool, if◌then◌else◌, List, length, IfSome, Option, Some, None}
 use Rattle.std.specs.Option.{option_map}
 use Rattle.ip_part.specs.declared.proto.Proto.{Proto}
@@ -15,14 +15,14 @@ use Rattle.etherparse_transport.specs.declared.ip.ipv6_translation.Ipv6Translati
 
 -- ---- the message
 
--- the place of a port, or of the identifier of a query
+-- the passed place of a port for UDP and TCP, or the place of the identifier for ICMP
 abbrev pub place_in : Proto → ℕ → ℕ
 place_in protos.Udp place = place
 place_in protos.Tcp place = place
 place_in protos.Icmpv4 place = identifier_place
 place_in protos.Icmpv6 place = identifier_place
 
--- the port or the identifier in a message of a known protocol
+-- the port or the identifier in a message of this protocol; 0 if the protocol is unknown
 abbrev pub port_in : Option Proto → ℕ → List ℕ → ℕ
 port_in None place message = 0
 port_in (Some proto) place message = number (place_in proto place) message
@@ -31,7 +31,7 @@ port_in (Some proto) place message = number (place_in proto place) message
 abbrev pub instead : {T : Type 0} → T → Option T → Option T
 instead old new = option_map (λ _. old) new
 
--- the checksum that an ICMPv4 query loses: 0 in an echo reply whose other bytes are 0, and otherwise 65535
+-- the checksum that the way back of an ICMPv4 query does not restore: 0 in an echo reply whose other bytes are 0, and otherwise 65535
 abbrev pub lost_checksum : List ℕ → ℕ
 lost_checksum message = if rest_of_message message == 0 then 0 else all_ones
 
@@ -48,7 +48,7 @@ abbrev pub IsChecksumRestoredIn : Bool → Option Proto → List ℕ → Type 0
 IsChecksumRestoredIn is_later_fragment None message = ⊤
 IsChecksumRestoredIn is_later_fragment (Some proto) message = (is_later_fragment ≡ false) → IsChecksumRestored proto message
 
--- both ports have 16 bits
+-- each port that is not `None` has 16 bits
 pub record ArePorts (first second : Option ℕ) : Type 0 where
   pub source : IfSome first (λ port. port < 65536)
   pub destination : IfSome second (λ port. port < 65536)
@@ -61,7 +61,7 @@ pub record IsIpv4Translation (new : Ipv4Translation) : Type 0 where
   pub destination : IfSome new.destination (λ address. length address ≡ 4)
   pub ports : ArePorts new.source_port new.destination_port
 
--- the way back of a packet of a flow with this message
+-- the way back of a packet with this message; it does not depend on a packet that the message quotes
 abbrev pub ipv4_flow_back : Ipv4Translation → List ℕ → List ℕ → Ipv4Translation
 ipv4_flow_back new message packet = record {
   source = instead (ipv4_header_of packet).source new.source;
@@ -70,8 +70,8 @@ ipv4_flow_back new message packet = record {
   destination_port = instead (port_in (ipv4_proto packet) destination_port_place message) new.destination_port;
 }
 
--- The way back of a packet that quotes this packet, given by what is replaced in the quoted packet; or the way back of a packet that quotes
--- no packet.
+-- The way back of a packet, given the packet that it quotes, if any. If it quotes a packet, its way back is the opposite of the way back of
+-- the quoted packet.
 abbrev pub ipv4_back_by : Option (List ℕ) → Ipv4Translation → List ℕ → Ipv4Translation
 ipv4_back_by None new packet = ipv4_flow_back new (message_in_ipv4 false packet) packet
 ipv4_back_by (Some quoted) new packet = ipv4_opposite (ipv4_flow_back (ipv4_opposite new) (message_in_ipv4 true quoted) quoted)
@@ -80,7 +80,7 @@ ipv4_back_by (Some quoted) new packet = ipv4_opposite (ipv4_flow_back (ipv4_oppo
 abbrev pub ipv4_way_back : Ipv4Translation → List ℕ → Ipv4Translation
 ipv4_way_back new packet = ipv4_back_by (ipv4_quoted packet) new packet
 
--- the way back of the quoted packet by its own translation, if a packet is quoted
+-- the way back of the quoted packet, which has its own translation; if no packet is quoted, that translation itself
 abbrev pub ipv4_quoted_back : Option (List ℕ) → Ipv4Translation → Ipv4Translation
 ipv4_quoted_back None of_quoted = of_quoted
 ipv4_quoted_back (Some quoted) of_quoted = ipv4_flow_back of_quoted (message_in_ipv4 true quoted) quoted
@@ -91,8 +91,8 @@ IsIpv4FlowRestored message packet = (number header_checksum_place packet ≢ all
     × IsChecksumRestoredIn (ipv4_is_later_fragment packet) (ipv4_proto packet) message
 
 -- The checksums of the error and of the quoted packet are restored. If the source of the error is replaced, it equals the destination of
--- the quoted packet. If the destination of the error is replaced, it equals the source of the quoted packet. Otherwise two addresses can
--- become equal, for example if a router sent the error.
+-- the quoted packet. If the destination of the error is replaced, it equals the source of the quoted packet. Otherwise the translation can
+-- make two different addresses equal, for example if a router sent the error. Then the way back can't restore both.
 pub record IsIpv4ErrorRestored (new : Ipv4Translation) (packet quoted : List ℕ) : Type 0 where
   pub header : number header_checksum_place packet ≢ all_ones
   pub message : number icmp_checksum_place (message_in_ipv4 false packet) ≢ all_ones
@@ -100,7 +100,7 @@ pub record IsIpv4ErrorRestored (new : Ipv4Translation) (packet quoted : List ℕ
   pub source : IfSome new.source (λ _. (ipv4_header_of quoted).destination ≡ (ipv4_header_of packet).source)
   pub destination : IfSome new.destination (λ _. (ipv4_header_of quoted).source ≡ (ipv4_header_of packet).destination)
 
--- the way back restores a packet that quotes this packet, or no packet
+-- the way back restores a packet, given the packet that it quotes, if any
 abbrev pub IsIpv4RestoredBy : Option (List ℕ) → Ipv4Translation → List ℕ → Type 0
 IsIpv4RestoredBy None new packet = IsIpv4FlowRestored (message_in_ipv4 false packet) packet
 IsIpv4RestoredBy (Some quoted) new packet = IsIpv4ErrorRestored new packet quoted
@@ -116,7 +116,7 @@ pub record AreIpv4ChecksumsRestored (packet quoted : List ℕ) : Type 0 where
   pub message : number icmp_checksum_place (message_in_ipv4 false packet) ≢ all_ones
   pub quoted_packet : IsIpv4FlowRestored (message_in_ipv4 true quoted) quoted
 
--- the ways back of two translations restore a packet that quotes this packet, or no packet
+-- the ways back of both translations restore a packet, given the packet that it quotes, if any
 abbrev pub IsIpv4RestoredWithBy : Option (List ℕ) → List ℕ → Type 0
 IsIpv4RestoredWithBy None packet = IsIpv4FlowRestored (message_in_ipv4 false packet) packet
 IsIpv4RestoredWithBy (Some quoted) packet = AreIpv4ChecksumsRestored packet quoted
@@ -133,7 +133,7 @@ pub record IsIpv6Translation (new : Ipv6Translation) : Type 0 where
   pub destination : IfSome new.destination (λ address. length address ≡ 16)
   pub ports : ArePorts new.source_port new.destination_port
 
--- the way back of a packet that is no ICMP error
+-- the way back of a packet; it does not depend on a packet that its message quotes
 abbrev pub ipv6_flow_back : Ipv6Translation → List ℕ → Ipv6Translation
 ipv6_flow_back new packet = record {
   source = instead (ipv6_header_of packet).source new.source;
@@ -142,8 +142,8 @@ ipv6_flow_back new packet = record {
   destination_port = instead (port_in (ipv6_proto packet) destination_port_place (message_in_ipv6 packet)) new.destination_port;
 }
 
--- The way back of a packet that quotes this packet, given by what is replaced in the quoted packet; or the way back of a packet that quotes
--- no packet.
+-- The way back of a packet, given the packet that it quotes, if any. If it quotes a packet, its way back is the opposite of the way back of
+-- the quoted packet.
 abbrev pub ipv6_back_by : Option (List ℕ) → Ipv6Translation → List ℕ → Ipv6Translation
 ipv6_back_by None new packet = ipv6_flow_back new packet
 ipv6_back_by (Some quoted) new packet = ipv6_opposite (ipv6_flow_back (ipv6_opposite new) quoted)
@@ -152,7 +152,7 @@ ipv6_back_by (Some quoted) new packet = ipv6_opposite (ipv6_flow_back (ipv6_oppo
 abbrev pub ipv6_way_back : Ipv6Translation → List ℕ → Ipv6Translation
 ipv6_way_back new packet = ipv6_back_by (ipv6_quoted packet) new packet
 
--- the way back of the quoted packet by its own translation, if a packet is quoted
+-- the way back of the quoted packet, which has its own translation; if no packet is quoted, that translation itself
 abbrev pub ipv6_quoted_back : Option (List ℕ) → Ipv6Translation → Ipv6Translation
 ipv6_quoted_back None of_quoted = of_quoted
 ipv6_quoted_back (Some quoted) of_quoted = ipv6_flow_back of_quoted quoted
@@ -161,14 +161,14 @@ ipv6_quoted_back (Some quoted) of_quoted = ipv6_flow_back of_quoted quoted
 abbrev pub IsIpv6FlowRestored : List ℕ → Type 0
 IsIpv6FlowRestored packet = IsChecksumRestoredIn (ipv6_is_later_fragment packet) (ipv6_proto packet) (message_in_ipv6 packet)
 
--- the conditions of `IsIpv4ErrorRestored` for an ICMP error over IPv6; an IPv6 header has no checksum
+-- the conditions of `IsIpv4ErrorRestored` for an ICMP error over IPv6, without a header checksum
 pub record IsIpv6ErrorRestored (new : Ipv6Translation) (packet quoted : List ℕ) : Type 0 where
   pub message : number icmp_checksum_place (message_in_ipv6 packet) ≢ all_ones
   pub quoted_packet : IsIpv6FlowRestored quoted
   pub source : IfSome new.source (λ _. (ipv6_header_of quoted).destination ≡ (ipv6_header_of packet).source)
   pub destination : IfSome new.destination (λ _. (ipv6_header_of quoted).source ≡ (ipv6_header_of packet).destination)
 
--- the way back restores a packet that quotes this packet, or no packet
+-- the way back restores a packet, given the packet that it quotes, if any
 abbrev pub IsIpv6RestoredBy : Option (List ℕ) → Ipv6Translation → List ℕ → Type 0
 IsIpv6RestoredBy None new packet = IsIpv6FlowRestored packet
 IsIpv6RestoredBy (Some quoted) new packet = IsIpv6ErrorRestored new packet quoted
@@ -183,7 +183,7 @@ pub record AreIpv6ChecksumsRestored (packet quoted : List ℕ) : Type 0 where
   pub message : number icmp_checksum_place (message_in_ipv6 packet) ≢ all_ones
   pub quoted_packet : IsIpv6FlowRestored quoted
 
--- the ways back of two translations restore a packet that quotes this packet, or no packet
+-- the ways back of both translations restore a packet, given the packet that it quotes, if any
 abbrev pub IsIpv6RestoredWithBy : Option (List ℕ) → List ℕ → Type 0
 IsIpv6RestoredWithBy None packet = IsIpv6FlowRestored packet
 IsIpv6RestoredWithBy (Some quoted) packet = AreIpv6ChecksumsRestored packet quoted

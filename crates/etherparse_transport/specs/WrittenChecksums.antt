@@ -44,7 +44,7 @@ IsRefusedIn found (Untested why) = (refusal found ≡ None) × JudgesFound found
 
 -- ---- the written packet
 
--- the place of the checksum of this transport in its IP packet, and the right checksum
+-- `place` is the place of the checksum of this transport in its IP packet, and `checksum` is the right checksum
 pub record IsRightIn (found : TransportInIp) (place checksum : ℕ) : Type 0 where
   pub transport : TransportSlice
   pub is_accepted : refusal found ≡ None
@@ -62,8 +62,8 @@ pub record IsWritten (before : List ℕ) (checksum : ℕ) (after : List ℕ) : T
   pub proto_is : proto_over headers.addresses headers.protocol.0 ≡ Some proto
   pub written : after ≡ with_checksum (headers.len + checksum_place proto) before checksum
 
--- What the call writes, given the verdict on the packet before. A right checksum is unchanged. A wrong or partial checksum is replaced by
--- the expected checksum. The checksum of a UDP packet without one is not 0, since 0 means that there is none (RFC 768).
+-- What `write_checksum` writes, given the verdict on the old packet. A right checksum is unchanged. A wrong or partial checksum is replaced
+-- by the expected checksum. A UDP packet without a checksum gets a checksum other than 0, since 0 means that there is none (RFC 768).
 abbrev pub WritesBy : ChecksumVerdict → List ℕ → ℕ → List ℕ → Type 0
 WritesBy verdicts.Right before checksum after = after ≡ before
 WritesBy verdicts.Absent before checksum after = checksum ≢ 0

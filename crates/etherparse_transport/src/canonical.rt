@@ -11,9 +11,9 @@ use arrayvec::ArrayVec;
 /// header, borrowed from the slice.
 ///
 /// The canonical bytes of a header are the bytes that `to_bytes` writes for the header that `from_slice` reads. All bits that reading
-/// ignores are cleared, including the bits of RFC 4884. The canonical bytes and the bytes after the header are read as the same header and
-/// the same bytes, and they are canonical themselves. The packet's checksum is kept. If a bit was cleared, the checksum may be wrong
-/// afterwards.
+/// ignores are cleared, including the bits of RFC 4884. If the canonical bytes and the bytes after the header are read together, the result
+/// is the same header and the same bytes after it. The canonical bytes are canonical themselves. The packet's checksum is kept. If a bit
+/// was cleared, the checksum may be wrong afterwards.
 ///
 /// # Errors
 ///

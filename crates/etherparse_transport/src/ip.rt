@@ -1,8 +1,9 @@
-//! From an IP packet to its transport (RFC 791, section 3.1; RFC 8200, sections 3 and 4), to its protocol and a typed
-//! slice, to the ends of its flow, and to the verdict on its checksum; and back from a transport header and a payload to a packet.
-//! `answer_echo` turns an echo request into its reply, and `is_reply_to` recognises the reply. `flow` returns addresses and ports.
-//! `translate_ipv4` and `translate_ipv6` replace them. `write_checksum` writes the right checksum into a packet, and `lower_hop_limit`
-//! lowers its hop limit. `icmpv4_error_about` and `icmpv6_error_about` write an ICMP error about a packet.
+//! Calls on IP packets. `transport_in_ip` finds the transport of a packet (RFC 791, section 3.1; RFC 8200, sections 3 and 4).
+//! `transport_slice` returns it as a typed slice, and `checksum_verdict` returns the verdict on its checksum. `write_packet_ipv4` and
+//! `write_packet_ipv6` write a packet from a transport header and a payload. `answer_echo` turns an echo request into its reply, and
+//! `is_reply_to` recognises the reply. `flow` returns addresses and ports. `translate_ipv4` and `translate_ipv6` replace addresses and
+//! ports. `write_checksum` writes the right checksum into a packet, and `lower_hop_limit` lowers its hop limit. `icmpv4_error_about` and
+//! `icmpv6_error_about` write an ICMP error about a packet.
 
 mod echo_reply;
 mod flow_ends;

@@ -4,7 +4,7 @@
 //! This crate re-exports all names of `etherparse` that the crates below define, so that a program depends only on this crate. In the
 //! module `ip`, `transport_slice` reads the transport of an IP packet, and `checksum_verdict` checks its checksum. `canonical_header` reads
 //! and writes a header of any of the four protocols in one call. `specs/Formats` describes which bytes are accepted for each protocol, how
-//! they are read and written, and which bits are kept.
+//! they are read and written, and which bits are ignored.
 //!
 //! ```
 //! let found = ip::transport_in_ip(&packet)?;

@@ -41,8 +41,8 @@ impl TransportHeader {
     /// # Errors
     ///
     /// The errors of `from_slice` for the header of this protocol:
-    /// - `Len` if the slice is shorter than the header, if an ICMPv4 timestamp message or reply is not 20 bytes long,
-    ///   or if an ICMPv6 message is longer than 4,294,967,295 bytes.
+    /// - `Len` if the slice is shorter than the header. `Len` is also returned if an ICMPv4 timestamp message or reply with code 0 is not
+    ///   20 bytes long, or if an ICMPv6 message is longer than 4,294,967,295 bytes.
     /// - `DataOffsetTooSmall` if the data offset of a TCP header is below 5.
     pub fn from_slice(
         protocol: Proto,
@@ -135,7 +135,7 @@ impl TransportHeader {
         }
     }
 
-    /// Stores the checksum of this header and this payload over IPv4 in the header (RFC 768; RFC 9293, section 3.1; RFC
+    /// Computes the checksum of this header and this payload over IPv4, and stores it in the header (RFC 768; RFC 9293, section 3.1; RFC
     /// 792). No other field changes, so the caller must set the length field of UDP.
     ///
     /// # Errors
@@ -172,9 +172,9 @@ impl TransportHeader {
         Ok(())
     }
 
-    /// Stores the checksum of this header and this payload over IPv6 in the header. The checksum of ICMPv4 covers no
-    /// address. No other field changes, so the caller must set the length field of UDP. If the packet has a routing
-    /// header, pass the final destination (RFC 8200, section 8.1).
+    /// Computes the checksum of this header and this payload over IPv6, and stores it in the header. The checksum of ICMPv4 covers no
+    /// address. No other field changes, so the caller must set the length field of UDP. If the packet has a routing header, pass the final
+    /// destination (RFC 8200, section 8.1).
     ///
     /// # Errors
     ///

@@ -19,7 +19,7 @@ ipv4_refusal source packet = option_map of_answer_echo (ipv4_answer_refusal (Som
 abbrev pub ipv6_refusal : List ℕ → List ℕ → Option EtherparseError
 ipv6_refusal source packet = option_map of_answer_echo (ipv6_answer_refusal (Some source) packet)
 
--- the status of a test for a reply: `OK` if it is the reply, and otherwise `ECHO_NO_REPLY`
+-- the status of a test for a reply: `OK` if the packet is the reply, and otherwise `ECHO_NO_REPLY`
 abbrev pub TellsWhether : Type 0 → ℕ → Type 0
 TellsWhether IsReply status = ((status ≡ numbers.status_ok) × IsReply) ⊎ ((status ≡ numbers.status_echo_no_reply) × (IsReply → ⊥))
 

@@ -40,27 +40,28 @@ use Rattle.etherparse_transport_c.specs.declared.error.EtherparseError.{Etherpar
 abbrev pub wrong_checksum_text : List ℕ
 wrong_checksum_text = codes "Checksum Error: the checksum is wrong."
 
--- The text for a refused echo request. A wrong checksum has the text that all wrong checksums have, since its status is the same.
+-- The text for a refused echo request. A wrong checksum has the same text in every call, since it has the same status in every call.
 abbrev pub echo_text_in_c : AnswerEchoError → List ℕ
 echo_text_in_c echo.Checksum = wrong_checksum_text
 echo_text_in_c error = answer_echo_text error
 
--- The text for a packet that is not translated. An IP version that the call does not accept has the text that all such versions have, since
--- its status is the same.
+-- The text for a packet that is not translated. An IP version that the call does not accept has the same text in every call, since it has
+-- the same status in every call.
 abbrev pub translate_text_in_c : ℕ → TranslateError → List ℕ
 translate_text_in_c other_version translate.OtherVersion = ip_text (ip.Version other_version)
 translate_text_in_c other_version error = translate_text error
 
--- the text of a buffer that is too small
+-- the text for a buffer that is too small
 abbrev pub buffer_text : ℕ → ℕ → List ℕ
 buffer_text required_len len = concat (
     codes "Buffer Error: " ∷ decimal required_len ∷ codes " bytes are needed, the buffer has " ∷ decimal len ∷ codes "." ∷ [])
 
--- the text of a protocol that the call does not accept
+-- the text for a protocol that the call does not accept
 abbrev pub protocol_text : ℕ → List ℕ
 protocol_text number = concat (codes "Protocol Error: the call does not accept the protocol " ∷ decimal number ∷ codes "." ∷ [])
 
--- The text of a packet that is not written. A buffer and a protocol have the texts of all calls, since they have the same statuses.
+-- The text for a packet that is not written. A small buffer and a wrong protocol have the same text in every call, since they have the same
+-- status in every call.
 abbrev pub build_text_in_c : BuildSliceWriteError → List ℕ
 build_text_in_c (build.Space required_len len) = buffer_text required_len len
 build_text_in_c build.Icmpv6InIpv4 = protocol_text numbers.protocol_icmpv6
@@ -186,7 +187,7 @@ translate_error_in error =
 
 -- ---- the text of an error
 
--- the text of the error that the library in Rattle has, or this other text if it has no such error
+-- the text of an error of the library in Rattle, or the text `other` if no error is given
 abbrev pub text_or : {E : Type 0} → List ℕ → (E → List ℕ) → Option E → List ℕ
 text_or other text None = other
 text_or other text (Some error) = text error
@@ -195,8 +196,8 @@ text_or other text (Some error) = text error
 abbrev pub untested_text_at : ℕ → List ℕ
 untested_text_at number = text_or (codes "Unknown error.") untested_text (untested_at number)
 
--- The text of an error that exists only in the library for C, or whose numbers no call returns. Statuses from 44 on are also here, since
--- they were added after the other statuses of their calls.
+-- The text of an error that exists only in the library for C, or whose numbers no call returns. Statuses from 44 on are also here: they
+-- were added later, so they are outside the ranges of `text_of`.
 abbrev pub own_text : EtherparseError → List ℕ
 own_text error =
     if error.status == numbers.status_ok then codes "No error."
@@ -224,7 +225,8 @@ own_text error =
     else if error.status == numbers.status_icmp_error_source then error_about_text about.ErrorSource
     else codes "Unknown error."
 
--- The text of a value that is too big. The payload of a packet that is written is no kind of value in the library.
+-- The text for a value that is too big. In the library in Rattle, the payload length of a written packet is not a `ValueType`. So its text
+-- is the text of a `BuildSliceWriteError`.
 abbrev pub value_text_in : EtherparseError → List ℕ
 value_text_in error =
     if error.value_type == numbers.value_ip_payload_length then build_text (build.PayloadLen error.actual error.max_allowed)

@@ -48,7 +48,7 @@ layer_number layers.Icmpv4Timestamp = numbers.layer_icmpv4_timestamp
 layer_number layers.Icmpv4TimestampReply = numbers.layer_icmpv4_timestamp_reply
 layer_number layers.Icmpv6 = numbers.layer_icmpv6
 
--- the number in C of what states a length
+-- the number in C of the source that states a length
 abbrev pub len_source_number : LenSource → ℕ
 len_source_number Slice = numbers.len_source_slice
 len_source_number UdpHeaderLen = numbers.len_source_udp_header_len
@@ -118,11 +118,11 @@ of_value error = record nothing {
 abbrev pub of_buffer : ℕ → ℕ → EtherparseError
 of_buffer required_len len = record nothing { status = numbers.status_buffer_too_small; required_len = required_len; len = len }
 
--- the error for flags of a TCP header with a bit that belongs to none of the nine flags
+-- the error for TCP flags above 0x1ff, which contain a bit that is not one of the nine flags
 abbrev pub of_flags : ℕ → EtherparseError
 of_flags flags = record nothing { status = numbers.status_flags_unknown; actual = flags; max_allowed = numbers.tcp_flags }
 
--- a protocol that the call does not accept
+-- the error for a protocol that the call does not accept
 abbrev pub of_protocol : ℕ → EtherparseError
 of_protocol number = record nothing { status = numbers.status_protocol_unknown; actual = number }
 
@@ -155,12 +155,13 @@ of_option_kind kind = record nothing { status = numbers.status_option_unknown; o
 abbrev pub of_option_values : ℕ → EtherparseError
 of_option_values kind = record nothing { status = numbers.status_option_values; option_kind = kind }
 
--- the error for a wrong length of an IP packet, with the length that the call would have accepted
+-- the error for a wrong length of an IP packet; `required_len` is a length that the call would have accepted
 abbrev pub of_ip_length : ℕ → ℕ → ℕ → EtherparseError
 of_ip_length status required_len len = record nothing { status = status; required_len = required_len; len = len }
 
--- The error for a refused IP packet. The required length is 20 for a header length, the length of the header for a total length, and 65,536
--- for a jumbo payload length. `actual` is the version, the number of an extension header, or the payload length.
+-- The error for a refused IP packet. If a length in the header is too small, `required_len` is the minimum. The minimum is 20 for a header
+-- length, the header length for a total length, and 65,536 for a jumbo payload length. `actual` is the version, the number of an extension
+-- header, or the payload length.
 abbrev pub of_ip : IpError → EtherparseError
 of_ip (ip.HeaderCutOff required_len len) = of_ip_length numbers.status_ip_header_cut_off required_len len
 of_ip (ip.Version version) = record nothing { status = numbers.status_ip_version; actual = version }
@@ -176,7 +177,7 @@ of_ip (ip.JumboPayloadUnexpected payload_len) =
 of_ip (ip.JumboPayloadFragment offset) =
     record nothing { status = numbers.status_ip_jumbo_payload_fragment; layer_start_offset = offset }
 
--- the error for a refused echo request; a wrong checksum of the message has the status that all wrong checksums have
+-- the error for a refused echo request; a wrong checksum of the message has the same status as in every other call
 abbrev pub of_answer_echo : AnswerEchoError → EtherparseError
 of_answer_echo (echo.Ip error) = of_ip error
 of_answer_echo echo.Fragment = of_status numbers.status_echo_fragment
@@ -206,7 +207,7 @@ of_write_checksum (write.Ip error) = of_ip error
 of_write_checksum (write.Transport error) = of_header_slice error
 of_write_checksum (write.Untested why) = record nothing { status = numbers.status_checksum_untested; actual = untested_number why }
 
--- a packet that is not written; ICMP of the other IP version is a protocol that the call does not accept
+-- the error for a packet that is not written; ICMP of the other IP version has the error for a protocol that the call does not accept
 abbrev pub of_build : BuildSliceWriteError → EtherparseError
 of_build (build.Space required_len len) = of_buffer required_len len
 of_build (build.PayloadLen actual max_allowed) = record nothing {
@@ -243,8 +244,8 @@ no_room needed len = refused_if (nat_lt len needed) (of_buffer needed len)
 unfoldable pub at_front : List ℕ → List ℕ → List ℕ
 at_front bytes buffer = bytes ++ drop (length bytes) buffer
 
--- The status of the test of a checksum. If the packet is refused, it is the status of the refusal. Otherwise the checksum is absent, right
--- or wrong.
+-- The status of the test of a checksum. If the packet is refused, it is the status of the refusal. Otherwise it states whether the checksum
+-- is absent, right or wrong.
 abbrev pub Tells : Option EtherparseError → Bool → Type 0 → ℕ → Type 0
 Tells (Some error) absent Valid status = status ≡ error.status
 Tells None true Valid status = status ≡ numbers.status_checksum_absent

@@ -38,7 +38,7 @@ nothing = record {
   destination = replicate 16 0;
 }
 
--- the fields of the ends of the quoted packet, which are all 0 if there is none
+-- the fields of the ends of the quoted packet; they are all 0 if no packet is quoted
 abbrev pub quoted_of : Option Ends → EtherparseFlowEnds
 quoted_of None = nothing
 quoted_of (Some ends) = ends_of ends
@@ -47,7 +47,7 @@ quoted_of (Some ends) = ends_of ends
 abbrev pub told : FlowValue → EtherparsePacketFlow
 told flow = record { ends = ends_of flow.ends; quoted = quoted_of flow.quoted }
 
--- the result for a packet with this flow; a refused packet has none, and leaves the value before
+-- the value after the call: this flow, or the value before the call if the packet is refused
 abbrev pub found : Option FlowValue → EtherparsePacketFlow → EtherparsePacketFlow
 found None before = before
 found (Some flow) before = told flow

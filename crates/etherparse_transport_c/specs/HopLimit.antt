@@ -8,7 +8,7 @@ use Rattle.etherparse_transport_c.specs.Errors.{nothing, of_ip}
 use Rattle.etherparse_transport_c.specs.Numbers as numbers
 use Rattle.etherparse_transport_c.specs.declared.error.EtherparseError.{EtherparseError}
 
--- a packet whose hop limit is not lowered; the field `actual` contains the hop limit
+-- the error for a packet whose hop limit is not lowered; if the hop limit is 0 or 1, `actual` contains it
 abbrev pub of_lower_hop_limit : LowerHopLimitError → EtherparseError
 of_lower_hop_limit (Ip error) = of_ip error
 of_lower_hop_limit (Expired hop_limit) = record nothing { status = numbers.status_hop_limit_expired; actual = hop_limit }

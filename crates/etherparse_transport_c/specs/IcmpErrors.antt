@@ -14,7 +14,7 @@ use Rattle.etherparse_transport_c.specs.Errors.{of_buffer, of_ip, of_status}
 use Rattle.etherparse_transport_c.specs.Numbers as numbers
 use Rattle.etherparse_transport_c.specs.declared.error.EtherparseError.{EtherparseError}
 
--- the error for a packet about which no ICMP error is written; the first argument is the IP version that the call does not accept
+-- the error if no ICMP error is written; the first argument is the IP version that the call does not accept
 abbrev pub of_error_about : ℕ → ErrorAboutError → EtherparseError
 of_error_about other_version NoErrorType = of_status numbers.status_no_icmp_error
 of_error_about other_version (Ip error) = of_ip error
@@ -26,27 +26,29 @@ of_error_about other_version PacketSource = of_status numbers.status_icmp_error_
 of_error_about other_version ErrorSource = of_status numbers.status_icmp_error_source
 of_error_about other_version (Space required_len len) = of_buffer required_len len
 
--- its text; the other IP version and a buffer that is too small have the texts that they have in every call
+-- the text of this error; the other IP version and a buffer that is too small have the same text in every call
 abbrev pub error_about_text_in_c : ℕ → ErrorAboutError → List ℕ
 error_about_text_in_c other_version OtherVersion = ip_text (ip.Version other_version)
 error_about_text_in_c other_version (Space required_len len) = own_text (of_buffer required_len len)
 error_about_text_in_c other_version error = error_about_text error
 
--- the refusal: there is no message with these fields, or the library refuses
+-- the refusal of the call for IPv4: no message has these fields, or the library in Rattle refuses to write the error
 abbrev pub icmpv4_refusal : Option Icmpv4Type → List ℕ → List ℕ → ℕ → Option EtherparseError
 icmpv4_refusal None source packet room = Some (of_status numbers.status_message_unknown)
 icmpv4_refusal (Some message) source packet room = option_map (of_error_about 6) (errors.icmpv4_refusal message source packet room)
 
+-- the refusal of the call for IPv6: no message has these fields, or the library in Rattle refuses to write the error
 abbrev pub icmpv6_refusal : Option Icmpv6Type → List ℕ → List ℕ → ℕ → Option EtherparseError
 icmpv6_refusal None source packet room = Some (of_status numbers.status_message_unknown)
 icmpv6_refusal (Some message) source packet room = option_map (of_error_about 4) (errors.icmpv6_refusal message source packet room)
 
--- the buffer with the error in front, if there is a message with these fields
+-- the buffer with the ICMPv4 error at its front; if no message has these fields, the buffer is unchanged
 abbrev pub with_icmpv4_error : Option Icmpv4Type → List ℕ → ℕ → List ℕ → List ℕ → List ℕ
 with_icmpv4_error None source time_to_live packet buffer = buffer
 with_icmpv4_error (Some message) source time_to_live packet buffer =
     errors.icmpv4_error message source time_to_live packet ++ drop (errors.ipv4_front_len + length (errors.ipv4_quote packet)) buffer
 
+-- the buffer with the ICMPv6 error at its front; if no message has these fields, the buffer is unchanged
 abbrev pub with_icmpv6_error : Option Icmpv6Type → List ℕ → ℕ → List ℕ → List ℕ → List ℕ
 with_icmpv6_error None source hop_limit packet buffer = buffer
 with_icmpv6_error (Some message) source hop_limit packet buffer =

@@ -51,7 +51,7 @@ timestamp_fields kind message = record nothing {
   transmit_timestamp = message.transmit_timestamp;
 }
 
--- The number of the kind, and the fields that only this kind has. The field `code_u8` contains the code.
+-- A header with the number of the kind, and with the fields that only this kind has. The code is not set here: `packet_of` sets `code_u8`.
 abbrev pub message_fields : Icmpv4Type → EtherparseIcmpv4Header
 message_fields (Unknown type code fields) = record nothing { kind = numbers.icmpv4_kind_unknown }
 message_fields (EchoReply echo) = echo_fields numbers.icmpv4_kind_echo_reply echo
@@ -117,7 +117,7 @@ timestamp_in fields = record {
   transmit_timestamp = fields.transmit_timestamp;
 }
 
--- the message with these fields, or `None` if the kind is unknown, or if this kind has no such code
+-- the message with these fields, or `None` if the kind is unknown, or if the code is unknown for this kind
 abbrev pub message_in : EtherparseIcmpv4Header → Option Icmpv4Type
 message_in fields =
     if fields.kind == numbers.icmpv4_kind_unknown then Some (Unknown fields.type_u8 fields.code_u8 fields.bytes4to7)
@@ -131,7 +131,7 @@ message_in fields =
     else if fields.kind == numbers.icmpv4_kind_timestamp_reply then Some (TimestampReply (timestamp_in fields))
     else None
 
--- the bytes of a header with this message and checksum
+-- the bytes of a header with this message and checksum; if there is no message, the list is empty
 abbrev pub header_bytes : ℕ → Option Icmpv4Type → List ℕ
 header_bytes checksum None = []
 header_bytes checksum (Some message) = icmpv4.wire (record { icmp_type = message; checksum = checksum })
@@ -153,7 +153,7 @@ header_read message found = record (message_fields found.icmp_type) {
   bytes4to7 = take 4 (icmpv4.written message).fields;
 }
 
--- the call reads from the packet what the library reads: it refuses the packet with this error, or reads this header and this payload
+-- the call for C reads the same as the library in Rattle: it refuses the packet with this error, or it reads this header and this payload
 abbrev pub IsReadAs : Icmpv4Type → List ℕ → Result (Icmpv4Header × List ℕ) LenError → Type 0
 IsReadAs message packet (Err error) = refusal packet ≡ Some (of_len error)
 IsReadAs message packet (Ok found) = (refusal packet ≡ None) × (packet_of packet ≡ record {
@@ -162,15 +162,15 @@ IsReadAs message packet (Ok found) = (refusal packet ≡ None) × (packet_of pac
   payload_len = length found.1;
 })
 
--- The packet begins with a header of this message and checksum. The library reads the header back as the same message. An unknown message
--- whose type and code are listed is read as the listed message. A timestamp message that is not 20 bytes long is refused.
+-- Assume that the packet begins with the header of this message and checksum. Then the library reads the packet as the same message. An
+-- `Unknown` message whose type and code have a variant is read as that variant. A timestamp message that is not 20 bytes long is refused.
 abbrev pub ReadsBack : ℕ → Option Icmpv4Type → List ℕ → Type 0
 ReadsBack checksum None packet = ⊤
 ReadsBack checksum (Some message) packet =
     IsReadAs message packet (reads_back message checksum (drop (length (header_bytes checksum (Some message))) packet))
 
--- The header that was read is the header that was written: its checksum, its kind and the fields of its kind are equal. If the kind is
--- unknown, its type, code and four bytes are equal.
+-- The header that was read equals the header that was written. The checksum is equal. If the written kind is known, the kind and the fields
+-- of the kind are equal. If it is unknown, the type, the code and the four bytes after the checksum are equal.
 pub record IsSameHeader (fields read : EtherparseIcmpv4Header) : Type 0 where
   pub checksum : read.checksum ≡ fields.checksum
   pub kind : fields.kind ≢ numbers.icmpv4_kind_unknown → read.kind ≡ fields.kind

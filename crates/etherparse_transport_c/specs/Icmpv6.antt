@@ -51,7 +51,7 @@ router_flags header = icmpv6.router_advertisement_flags header
 abbrev pub neighbor_flags : NeighborAdvertisementHeader → ℕ
 neighbor_flags header = icmpv6.neighbor_advertisement_flags header
 
--- The number of the kind, and the fields that only this kind has. The field `code_u8` contains the code.
+-- A header with the number of the kind, and with the fields that only this kind has. The code is not set here: `packet_of` sets `code_u8`.
 abbrev pub message_fields : Icmpv6Type → EtherparseIcmpv6Header
 message_fields (Unknown type code fields) = bare numbers.icmpv6_kind_unknown
 message_fields (DestinationUnreachable code) = bare numbers.icmpv6_kind_destination_unreachable
@@ -127,7 +127,7 @@ neighbor_in fields = record {
   override_flag = is_set fields.flags numbers.icmpv6_neighbor_override;
 }
 
--- the message with these fields, or `None` if the kind is unknown, or if this kind has no such code
+-- the message with these fields, or `None` if the kind is unknown, or if the code is unknown for this kind
 abbrev pub message_in : EtherparseIcmpv6Header → Option Icmpv6Type
 message_in fields =
     if fields.kind == numbers.icmpv6_kind_unknown then Some (Unknown fields.type_u8 fields.code_u8 fields.bytes4to7)
@@ -144,7 +144,7 @@ message_in fields =
     else if fields.kind == numbers.icmpv6_kind_redirect then Some Redirect
     else None
 
--- the bytes of a header with this message and checksum
+-- the bytes of a header with this message and checksum; if there is no message, the list is empty
 abbrev pub header_bytes : ℕ → Option Icmpv6Type → List ℕ
 header_bytes checksum None = []
 header_bytes checksum (Some message) = icmpv6.wire (record { icmp_type = message; checksum = checksum })
@@ -166,7 +166,7 @@ header_read message found = record (message_fields found.icmp_type) {
   bytes4to7 = take 4 (icmpv6.written message).fields;
 }
 
--- the call reads from the packet what the library reads: it refuses the packet with this error, or reads this header and this payload
+-- the call for C reads the same as the library in Rattle: it refuses the packet with this error, or it reads this header and this payload
 abbrev pub IsReadAs : Icmpv6Type → List ℕ → Result (Icmpv6Header × List ℕ) LenError → Type 0
 IsReadAs message packet (Err error) = refusal packet ≡ Some (of_len error)
 IsReadAs message packet (Ok found) = (refusal packet ≡ None) × (packet_of packet ≡ record {
@@ -182,8 +182,8 @@ ReadsBack checksum None packet = ⊤
 ReadsBack checksum (Some message) packet =
     IsReadAs message packet (reads_back message checksum (drop (length (header_bytes checksum (Some message))) packet))
 
--- The header that was read is the header that was written: its checksum, its kind and the fields of its kind are equal. If the kind is
--- unknown, its type, code and four bytes are equal.
+-- The header that was read equals the header that was written. The checksum is equal. If the written kind is known, the kind and the fields
+-- of the kind are equal. If it is unknown, the type, the code and the four bytes after the checksum are equal.
 pub record IsSameHeader (fields read : EtherparseIcmpv6Header) : Type 0 where
   pub checksum : read.checksum ≡ fields.checksum
   pub kind : fields.kind ≢ numbers.icmpv6_kind_unknown → read.kind ≡ fields.kind

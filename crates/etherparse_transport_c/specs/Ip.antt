@@ -43,7 +43,7 @@ abbrev pub source_of : Addresses → List ℕ
 source_of (Ipv4 source destination) = ipv4_address source
 source_of (Ipv6 source destination) = source
 
--- the final destination in 16 bytes, which are 0 if it is not known
+-- the final destination in 16 bytes; all bytes are 0 if the destination is not known
 abbrev pub destination_of : Addresses → List ℕ
 destination_of (Ipv4 source destination) = ipv4_address destination
 destination_of (Ipv6 source (Some destination)) = destination
@@ -80,12 +80,14 @@ ipv6_fields packet = record {
   traffic_class = be_number packet 0 2 / 16 % 256;
 }
 
+-- the fields of the IP header of either version
 abbrev pub header_fields : List ℕ → HeaderFields
 header_fields packet = if version packet == 4 then ipv4_fields packet else ipv6_fields packet
 
 -- ---- the transport
 
--- the number of hops that are left, from the fixed part of an IP header; each accepted packet has a fixed part
+-- the number of hops that are left, from the fixed part of an IP header; `None` does not occur, since each accepted packet contains this
+-- part
 abbrev pub hop_limit_in : Option Fixed → ℕ
 hop_limit_in (Some (fixed.Ipv4 source destination time_to_live protocol)) = time_to_live
 hop_limit_in (Some (fixed.Ipv6 source destination hop_limit next_header)) = hop_limit

@@ -86,7 +86,7 @@ status_option_values = 31
 abbrev pub status_echo_fragment : ℕ
 status_echo_fragment = 32
 
--- the packet is no echo request, or its IP version is not accepted by the call
+-- the packet is not an echo request, or the call does not accept its IP version
 abbrev pub status_echo_no_request : ℕ
 status_echo_no_request = 33
 
@@ -106,7 +106,7 @@ status_echo_request_source = 36
 abbrev pub status_echo_reply_source : ℕ
 status_echo_reply_source = 37
 
--- the ICMP message is not an error
+-- the ICMP message is not an error, or it is not an error that a call can write
 abbrev pub status_no_icmp_error : ℕ
 status_no_icmp_error = 38
 
@@ -114,7 +114,7 @@ status_no_icmp_error = 38
 abbrev pub status_translate_has_options : ℕ
 status_translate_has_options = 39
 
--- not translated: the protocol of the packet is not UDP, TCP, or the ICMP of its IP version
+-- not translated: the protocol is not UDP, TCP, or the ICMP of the IP version; it covers the addresses, or a port is replaced
 abbrev pub status_translate_protocol : ℕ
 status_translate_protocol = 40
 
@@ -142,23 +142,27 @@ status_translate_source_route = 45
 abbrev pub status_checksum_untested : ℕ
 status_checksum_untested = 46
 
--- a packet whose hop limit is 0 or 1, so that it is not lowered
+-- the hop limit of the packet is 0 or 1, so it is not lowered
 abbrev pub status_hop_limit_expired : ℕ
 status_hop_limit_expired = 47
 
--- packets about which no ICMP error is written, and a source of an error that is not the address of one host
+-- the packet is a later fragment, so no ICMP error is written about it
 abbrev pub status_icmp_error_later_fragment : ℕ
 status_icmp_error_later_fragment = 48
 
+-- the packet is an ICMP error or may be one, so no ICMP error is written about it
 abbrev pub status_icmp_error_about_error : ℕ
 status_icmp_error_about_error = 49
 
+-- the destination of the packet is an address of several hosts, so no ICMP error is written about it
 abbrev pub status_icmp_error_about_group : ℕ
 status_icmp_error_about_group = 50
 
+-- the source of the packet is not the address of one host, so no ICMP error is written about it
 abbrev pub status_icmp_error_packet_source : ℕ
 status_icmp_error_packet_source = 51
 
+-- the source of the ICMP error is not the address of one host
 abbrev pub status_icmp_error_source : ℕ
 status_icmp_error_source = 52
 

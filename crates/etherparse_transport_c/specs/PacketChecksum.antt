@@ -37,7 +37,7 @@ pub record IsTold (packet : List ℕ) (told : ℕ) : Type 0 where
   pub length : carried.is_length_missing ≡ false
   pub tells : ((told ≡ 1) × HasPartial carried) ⊎ ((told ≡ 0) × (HasPartial carried → ⊥))
 
--- `told` is the result for an accepted packet; if the packet is refused, it is unchanged
+-- if the packet is accepted, `told` is the result; if the packet is refused, `told` is unchanged
 abbrev pub TellsPartial : Option EtherparseError → List ℕ → ℕ → ℕ → Type 0
 TellsPartial None packet told before = IsTold packet told
 TellsPartial (Some error) packet told before = told ≡ before

@@ -24,7 +24,8 @@ use Rattle.etherparse_transport_c.specs.declared.packet_verdict.EtherparseIpPack
 
 -- ---- refusals of packets
 
--- the protocol of the header that follows these IP headers; in a fragment no header follows
+-- the protocol of the transport header that follows these IP headers; `None` for a fragment, and for a protocol other than UDP, TCP and the
+-- ICMP of the IP version
 abbrev pub proto_after : Headers → Option Proto
 proto_after headers = if headers.is_fragment then None else proto_over headers.addresses headers.protocol.0
 
@@ -45,11 +46,11 @@ abbrev pub refusal_of_carried : List ℕ → TransportInIp → Option Etherparse
 refusal_of_carried packet carried =
     transport_refusal carried.is_length_missing packet (headers_of carried.is_length_missing packet)
 
--- the refusal of an IP packet, or the refusal of its transport if the IP headers are accepted
+-- the refusal of an IP packet, or of its transport if the IP headers are accepted
 abbrev pub refusal : List ℕ → Option EtherparseError
 refusal packet = first_refusal (ip.refusal packet) (transport_refusal false packet (headers_of false packet))
 
--- the refusal of an IP packet that may be cut off or state no length, or the refusal of its transport if the IP headers are accepted
+-- the refusal of an IP packet, or of its transport if the IP headers are accepted; the packet may be cut off or state no length
 abbrev pub lax_refusal : List ℕ → Option EtherparseError
 lax_refusal packet =
     first_refusal (ip.lax_refusal packet) (transport_refusal (lacks_len packet) packet (headers_of (lacks_len packet) packet))
@@ -63,7 +64,7 @@ proto_number Tcp = numbers.protocol_tcp
 proto_number Icmpv4 = numbers.protocol_icmpv4
 proto_number Icmpv6 = numbers.protocol_icmpv6
 
--- the number of the protocol of this transport, or 0 without a transport
+-- the number of the protocol of this transport, or 0 if there is no transport
 abbrev pub header_protocol : Option TransportSlice → ℕ
 header_protocol None = 0
 header_protocol (Some transport) = proto_number (proto_of transport)
@@ -105,7 +106,7 @@ pub record IsJudged (is_length_missing : Bool) (packet : List ℕ) (told : Ether
   pub tells : told ≡ packet_in is_length_missing packet carries.headers (kept carried) verdict
   pub payload : HasPayload is_length_missing packet told.transport
 
--- `told` is the result for an accepted packet; if the packet is refused, it is unchanged
+-- if the packet is accepted, `told` is the result; if the packet is refused, `told` is unchanged
 abbrev pub Judges : Option EtherparseError → Bool → List ℕ → EtherparseIpPacket → EtherparseIpPacket → Type 0
 Judges None is_length_missing packet told before = IsJudged is_length_missing packet told
 Judges (Some error) is_length_missing packet told before = told ≡ before

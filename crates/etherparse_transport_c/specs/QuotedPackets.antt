@@ -7,7 +7,7 @@ use Rattle.etherparse_transport_c.specs.Icmpv6 as icmpv6
 use Rattle.etherparse_transport_c.specs.Numbers as numbers
 use Rattle.etherparse_transport_c.specs.declared.error.EtherparseError.{EtherparseError}
 
--- the refusal of a message, given the packet that it quotes: there is none, so the message is no error
+-- the refusal of a message, given the packet that it quotes: a message that quotes no packet is not an error
 abbrev pub no_error : Option (List ℕ) → Option EtherparseError
 no_error None = Some (of_status numbers.status_no_icmp_error)
 no_error (Some packet) = None
@@ -20,7 +20,7 @@ icmpv4_refusal message = first_refusal (icmpv4.refusal message) (no_error (quote
 abbrev pub icmpv6_refusal : List ℕ → Option EtherparseError
 icmpv6_refusal message = first_refusal (icmpv6.refusal message) (no_error (quoted_by_icmpv6 message))
 
--- the length of the quoted packet, or 0 without a quoted packet
+-- the length of the quoted packet, or 0 if no packet is quoted
 abbrev pub quoted_len : Option (List ℕ) → ℕ
 quoted_len None = 0
 quoted_len (Some packet) = length packet

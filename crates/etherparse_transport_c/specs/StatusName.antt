@@ -2,7 +2,7 @@
 use Rattle.std.specs.Prelude.{ℕ, ◌==◌, if◌then◌else◌, List, codes}
 use Rattle.etherparse_transport_c.specs.Numbers as numbers
 
--- the greatest length of a name in bytes, for the names of later versions too
+-- the maximum length of a name, in bytes; names that later versions add are not longer
 abbrev pub max_status_name_len : ℕ
 max_status_name_len = 63
 

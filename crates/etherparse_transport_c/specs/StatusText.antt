@@ -2,7 +2,7 @@
 use Rattle.std.specs.Prelude.{ℕ, ◌==◌, if◌then◌else◌, List, codes}
 use Rattle.etherparse_transport_c.specs.Numbers as numbers
 
--- the greatest length of a text in bytes, for the texts of later versions too
+-- the maximum length of a text, in bytes; texts that later versions add are not longer
 abbrev pub max_status_text_len : ℕ
 max_status_text_len = 127
 

@@ -81,7 +81,7 @@ packet_of bytes = record {
   payload_len = length bytes - (tcp.layout_of bytes).header_len;
 }
 
--- the first refusal that applies: the options have more than 40 bytes, or the flags have a bit that belongs to none of the nine flags
+-- the first refusal that applies: the options have more than 40 bytes, or the flags are above 0x1ff
 abbrev pub fields_refusal : EtherparseTcpHeader → List ℕ → Option EtherparseError
 fields_refusal fields options =
     first_refusal (option_map of_options (too_long (length options))) (refused_if (nat_lt numbers.tcp_flags fields.flags) (of_flags fields.flags))
@@ -151,19 +151,19 @@ option_of SelectiveAcknowledgementPermitted = record { kind = numbers.tcp_option
 option_of (SelectiveAcknowledgement first more) = record { kind = numbers.tcp_option_sack; value_count = 2 + edge_count more; values = first.0 ∷ first.1 ∷ all_edges more }
 option_of (Timestamp value echo) = record { kind = numbers.tcp_option_timestamp; value_count = 2; values = value ∷ echo ∷ replicate 6 0 }
 
--- the status of a call that read this item
+-- the status of a call that read this item, or `OPTIONS_END` if no option is left
 abbrev pub item_status : Option Item → ℕ
 item_status None = numbers.status_options_end
 item_status (Some (Ok element)) = numbers.status_ok
 item_status (Some (Err error)) = (of_option error).status
 
--- the option after a call that read this item; if the item is no element, the option is unchanged
+-- the option after a call that read this item; if an error was read or no option is left, the option is unchanged
 abbrev pub item_option : Option Item → EtherparseTcpOption → EtherparseTcpOption
 item_option (Some (Ok element)) before = option_of element
 item_option (Some (Err error)) before = before
 item_option None before = before
 
--- the error after a call that read this item; if the item is an element, the error is unchanged
+-- the error after a call that read this item; if an element was read, the error is unchanged
 abbrev pub item_error : Option Item → EtherparseError → EtherparseError
 item_error (Some (Err error)) before = of_option error
 item_error (Some (Ok element)) before = before
@@ -181,24 +181,24 @@ pub record ReadsFrom (options : List ℕ) (from to status : ℕ) (option option_
 
 -- ---- options of any kind
 
--- the option, given the place at which its value ends
+-- the option in the form of the C struct, given the place at which its value ends
 abbrev pub raw_option_of : RawOption → ℕ → EtherparseTcpRawOption
 raw_option_of option to =
     record { kind = option.kind; value_offset = to - length option.value; value_len = length option.value }
 
--- the status of a call that read this item
+-- the status of a call that read this item, or `OPTIONS_END` if no option is left
 abbrev pub raw_item_status : Option RawItem → ℕ
 raw_item_status None = numbers.status_options_end
 raw_item_status (Some (Ok option)) = numbers.status_ok
 raw_item_status (Some (Err error)) = (of_raw_option error).status
 
--- the option after a call that read this item; if the item is no option, the option is unchanged
+-- the option after a call that read this item; if an error was read or no option is left, the option is unchanged
 abbrev pub raw_item_option : Option RawItem → ℕ → EtherparseTcpRawOption → EtherparseTcpRawOption
 raw_item_option (Some (Ok option)) to before = raw_option_of option to
 raw_item_option (Some (Err error)) to before = before
 raw_item_option None to before = before
 
--- the error after a call that read this item; if the item is an option, the error is unchanged
+-- the error after a call that read this item; if an option was read, the error is unchanged
 abbrev pub raw_item_error : Option RawItem → EtherparseError → EtherparseError
 raw_item_error (Some (Err error)) before = of_raw_option error
 raw_item_error (Some (Ok option)) before = before

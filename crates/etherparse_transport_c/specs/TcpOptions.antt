@@ -11,11 +11,11 @@ use Rattle.etherparse_transport_c.specs.declared.tcp_option.EtherparseTcpOption.
 
 -- ---- one option
 
--- the value at this place of an option
+-- the value at this place in the list of values of an option
 abbrev pub value : EtherparseTcpOption → ℕ → ℕ
 value option place = slice_index option.values place
 
--- this element, if the option has no values
+-- this element if the option has no values, otherwise `None`
 abbrev pub bare_in : EtherparseTcpOption → TcpOptionElement → Option TcpOptionElement
 bare_in option element = if option.value_count == 0 then Some element else None
 
@@ -66,35 +66,35 @@ is_known kind =
     kind == numbers.tcp_option_noop || (kind == numbers.tcp_option_maximum_segment_size || (kind == numbers.tcp_option_window_scale
     || (kind == numbers.tcp_option_sack_permitted || (kind == numbers.tcp_option_sack || kind == numbers.tcp_option_timestamp))))
 
--- the error for an option that is no element: its kind is unknown, or an option of its kind can't have its values
+-- the error for an option without an element: its kind is unknown, or an option of its kind can't have its values
 abbrev pub no_element : EtherparseTcpOption → EtherparseError
 no_element option = if is_known option.kind then of_option_values option.kind else of_option_kind option.kind
 
 -- ---- several options
 
--- Appends the element of an option to the elements `found`, and continues with the next options by `further`. If the option is no element,
--- the result is the error for this option.
+-- Appends the element of an option to the elements `found`, and passes them to `further`, which goes on with the next options. If the
+-- option has no element, the result is the error for this option.
 abbrev pub gathered_next : (List TcpOptionElement → Result (List TcpOptionElement) EtherparseError) → List TcpOptionElement
     → EtherparseTcpOption → Option TcpOptionElement → Result (List TcpOptionElement) EtherparseError
 gathered_next further found option None = Err (no_element option)
 gathered_next further found option (Some element) = further (found ++ (element ∷ []))
 
--- the elements `found` and then the elements of these options, or the error for the first option that is no element
+-- the elements `found` and then the elements of these options, or the error for the first option without an element
 abbrev pub gathered : List TcpOptionElement → List EtherparseTcpOption → Result (List TcpOptionElement) EtherparseError
 gathered found [] = Ok found
 gathered found (option ∷ options) = gathered_next (λ longer. gathered longer options) found option (element_in option)
 
--- the refusal of options: the error of an option that is no element, or an error if the elements have more than 40 bytes
+-- the refusal of options, by the result of `gathered`: its error, or an error if the elements have more than 40 bytes
 abbrev pub refusal_of : Result (List TcpOptionElement) EtherparseError → Option EtherparseError
 refusal_of (Ok elements) = option_map of_options (too_long (saturated (length (join elements))))
 refusal_of (Err error) = Some error
 
--- the bytes of elements, padded with zeros to whole words of four bytes
+-- the bytes of the elements that `gathered` returned, padded with zeros to whole words of four bytes; empty if it returned an error
 abbrev pub bytes_of : Result (List TcpOptionElement) EtherparseError → List ℕ
 bytes_of (Ok elements) = pad (join elements)
 bytes_of (Err error) = []
 
--- the refusal of options: the error for the first option that is no element, or an error if the elements have more than 40 bytes
+-- the refusal of these options: the error for the first option without an element, or an error if the options have more than 40 bytes
 abbrev pub options_refusal : List EtherparseTcpOption → Option EtherparseError
 options_refusal options = refusal_of (gathered [] options)
 

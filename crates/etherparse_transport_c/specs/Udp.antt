@@ -67,7 +67,8 @@ abbrev pub checksummed_ipv4 : List ℕ → List ℕ → List ℕ → ℕ
 checksummed_ipv4 source destination packet =
     total (ipv4_pseudo_header source destination numbers.protocol_udp (length packet)) + total (with_checksum 6 packet 0)
 
--- The sum from which the checksum of a packet over IPv6 is computed. It covers the pseudo header and the packet, as over IPv4.
+-- The sum from which the checksum of a packet over IPv6 is computed. It covers the pseudo header and the packet. The pseudo header contains
+-- the number of bytes of the packet. The checksum of the packet, bytes 6 and 7, counts as zeros.
 abbrev pub checksummed_ipv6 : List ℕ → List ℕ → List ℕ → ℕ
 checksummed_ipv6 source destination packet =
     total (ipv6_pseudo_header source destination numbers.protocol_udp (length packet)) + total (with_checksum 6 packet 0)

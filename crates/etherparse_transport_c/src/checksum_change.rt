@@ -35,9 +35,9 @@ pub extern "C" fn etherparse_checksum_change_new() -> EtherparseChecksumChange
     }
 }
 
-/// Returns the change that also replaces the old bytes by the new bytes (RFC 1624). The old and the new bytes begin at an even place of the
-/// bytes that the checksum covers. Their lengths are both even, or both odd. The lengths can differ, for example if a pseudo header of IPv4
-/// replaces a pseudo header of IPv6.
+/// Returns `change`, extended by one more replacement: the old bytes are replaced by the new bytes (RFC 1624). The old and the new bytes
+/// must begin at an even place of the bytes that the checksum covers. Their lengths must be both even, or both odd. The lengths can differ,
+/// for example if a pseudo header of IPv4 replaces a pseudo header of IPv6.
 #[unsafe(no_mangle)]
 pub extern "C" fn etherparse_checksum_change_replace(
     change: EtherparseChecksumChange,
@@ -45,7 +45,7 @@ pub extern "C" fn etherparse_checksum_change_replace(
     new: &[u8],
 ) -> EtherparseChecksumChange
     ensures value { result ≡ record { removed = folded (change.removed + total old.now); added = folded (change.added + total new.now) } }
-    // The new bytes can replace the old bytes at any even place.
+    // The result is right for every even place at which the new bytes replace the old bytes.
     ensures replaces { (packet : ℕ) (between changed : List ℕ) → PartReplaced old.now new.now between changed
         → TurnsIntoBy change.removed change.added packet (total between) → TurnsIntoBy result.removed result.added packet (total changed) }
 {

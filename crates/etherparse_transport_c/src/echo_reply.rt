@@ -24,7 +24,7 @@ use etherparse_transport::ip::{
 /// - A status of `etherparse_transport_in_ip`.
 /// - `ECHO_FRAGMENT` for a fragment, and `ECHO_NO_REQUEST` if the protocol is not ICMP.
 /// - `ECHO_HAS_OPTIONS` for IPv4 options, an authentication header, or IPv6 extension headers.
-/// - `LENGTH`, as the call that reads the message returns it, and `ECHO_NO_REQUEST` if the message is no echo request.
+/// - `LENGTH`, as the call that reads the message returns it, and `ECHO_NO_REQUEST` if the message is not an echo request.
 /// - `CHECKSUM_WRONG`, and over IPv4 `ECHO_HEADER_CHECKSUM_WRONG`, if a checksum is wrong.
 /// - `ECHO_REQUEST_SOURCE` or `ECHO_REPLY_SOURCE` if the source of the request or reply is not the address of one host.
 ///
@@ -118,13 +118,13 @@ pub extern "C" fn etherparse_echo_answer_ipv6(
     }
 }
 
-/// Tests whether `packet` is the reply to the echo request in `request` (RFC 792, "Echo or Echo Reply Message"; RFC 1122, section 3.2.2.6;
+/// Tests whether `reply` is the reply to the echo request in `request` (RFC 792, "Echo or Echo Reply Message"; RFC 1122, section 3.2.2.6;
 /// RFC 4443, sections 4.1 and 4.2). Both packets begin with their IP headers, and may contain options and extension headers. Bytes after a
 /// packet are ignored.
 ///
 /// # Errors
 ///
-/// The status is `OK` if the packet is the reply. Otherwise, and if a packet is refused, it is `ECHO_NO_REPLY`.
+/// The status is `OK` if `reply` is the reply. Otherwise it is `ECHO_NO_REPLY`, also if one of the packets can't be read.
 #[unsafe(no_mangle)]
 pub extern "C" fn etherparse_echo_is_reply(
     request: &[u8],
@@ -141,13 +141,13 @@ pub extern "C" fn etherparse_echo_is_reply(
     }
 }
 
-/// Tests whether `packet` is the reply to the echo request in `request`. The reply may come from the address of any host. A host replies to
-/// a request to an anycast address from its unicast address (RFC 4443, section 4.2). Otherwise the call does what
+/// Tests whether `reply` is the reply to the echo request in `request`. The reply may come from any address of one host: a host that
+/// receives a request to an anycast address replies from its unicast address (RFC 4443, section 4.2). Otherwise the call does what
 /// `etherparse_echo_is_reply` does.
 ///
 /// # Errors
 ///
-/// The status is `OK` if the packet is the reply. Otherwise, and if a packet is refused, it is `ECHO_NO_REPLY`.
+/// The status is `OK` if `reply` is the reply. Otherwise it is `ECHO_NO_REPLY`, also if one of the packets can't be read.
 #[unsafe(no_mangle)]
 pub extern "C" fn etherparse_echo_is_reply_from_any(
     request: &[u8],

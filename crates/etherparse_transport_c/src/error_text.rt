@@ -70,7 +70,7 @@ fn byte(number: usize) -> Option<u8>
     }
 }
 
-/// Returns the wrong length that the error states, or `None` if no call returns these numbers.
+/// Returns the library's error about a length, or `None` if the layer or the source of the length is unknown.
 fn len_error(error: &EtherparseError) -> Option<LenError>
     ensures { result ≡ specs.len_error_in error.now }
 {
@@ -86,7 +86,7 @@ fn len_error(error: &EtherparseError) -> Option<LenError>
     }
 }
 
-/// Returns the value that the error states, or `None` if no call returns these numbers.
+/// Returns the library's error about a value that is too big, or `None` if the kind of the value is unknown.
 fn value_error(error: &EtherparseError) -> Option<ValueTooBigError<usize>>
     ensures { result ≡ specs.value_error_in error.now }
 {
@@ -100,7 +100,7 @@ fn value_error(error: &EtherparseError) -> Option<ValueTooBigError<usize>>
     }
 }
 
-/// Returns the reason why a TCP header was refused, or `None` if no call returns these numbers.
+/// Returns the reason why a TCP header was refused, or `None` if the data offset does not fit in a byte.
 fn header_error(error: &EtherparseError) -> Option<HeaderError>
     ensures { result ≡ specs.header_error_in error.now }
 {
@@ -110,7 +110,7 @@ fn header_error(error: &EtherparseError) -> Option<HeaderError>
     }
 }
 
-/// Returns the reason why an option was refused, or `None` if no call returns these numbers.
+/// Returns the reason why an option was refused, or `None` if a number that must fit in a byte is above 255.
 fn option_error(error: &EtherparseError) -> Option<TcpOptionReadError>
     ensures { result ≡ specs.option_error_in error.now }
 {
@@ -132,7 +132,7 @@ fn option_error(error: &EtherparseError) -> Option<TcpOptionReadError>
     }
 }
 
-/// Returns the reason why an IP packet was refused, or `None` if no call returns these numbers.
+/// Returns the reason why an IP packet was refused. It is `None` for any other status, or if a number that must fit in a byte is above 255.
 fn ip_error(error: &EtherparseError) -> Option<IpError>
     ensures { result ≡ specs.ip_error_in error.now }
 {
@@ -173,7 +173,7 @@ fn ip_error(error: &EtherparseError) -> Option<IpError>
     }
 }
 
-/// Returns the reason why an echo request was refused, or `None` if no call returns these numbers.
+/// Returns the reason why an echo request was refused, or `None` for any other status.
 fn answer_echo_error(error: &EtherparseError) -> Option<AnswerEchoError>
     ensures { result ≡ specs.answer_echo_error_in error.now }
 {
@@ -188,7 +188,7 @@ fn answer_echo_error(error: &EtherparseError) -> Option<AnswerEchoError>
     }
 }
 
-/// Returns the reason why a packet was not translated, or `None` if no call returns these numbers.
+/// Returns the reason why a packet was not translated. It is `None` for any other status, or if the protocol does not fit in a byte.
 fn translate_error(error: &EtherparseError) -> Option<TranslateError>
     ensures { result ≡ specs.translate_error_in error.now }
 {
@@ -207,7 +207,8 @@ fn translate_error(error: &EtherparseError) -> Option<TranslateError>
     }
 }
 
-/// Returns the reason why a checksum was not tested. `number` is the number of the verdict.
+/// Returns the reason why a checksum was not tested, by the number of its verdict. Returns `None` if no verdict with this number has a
+/// reason.
 fn untested(number: usize) -> Option<Untested>
     ensures { result ≡ specs.untested_at number }
 {
@@ -234,7 +235,7 @@ fn untested_text(number: usize) -> ErrorText
 
 /// Returns the text of an error in each of these cases:
 /// - The error exists only in the library for C.
-/// - The status is above 43, and so it is not next to the other statuses of its call.
+/// - The status is above 43. It was added later, so it is outside the ranges of statuses in `text`.
 /// - No call returns an error with this status and these numbers.
 fn own_text(error: &EtherparseError) -> ErrorText
     ensures { reads_as result ≡ specs.own_text error.now }
@@ -298,7 +299,7 @@ fn own_text(error: &EtherparseError) -> ErrorText
     }
 }
 
-/// Returns the text of a value that is too big.
+/// Returns the text for a value that is too big.
 fn value_text(error: &EtherparseError) -> ErrorText
     ensures { reads_as result ≡ specs.value_text_in error.now }
 {
@@ -315,7 +316,8 @@ fn value_text(error: &EtherparseError) -> ErrorText
     }
 }
 
-/// Returns the text of an error. If the Rattle library has the same error, both have the same text.
+/// Returns the text of an error. Most errors have the same text in the Rattle library. A wrong checksum, a small buffer and a protocol that
+/// is not accepted have only one text, whichever call returns the error.
 fn text(error: &EtherparseError) -> ErrorText
     ensures { reads_as result ≡ text_of error.now }
 {

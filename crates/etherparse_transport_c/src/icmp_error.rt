@@ -15,20 +15,22 @@ use crate::status;
 use etherparse_transport::err::packet::ErrorAboutError;
 use etherparse_transport::ip::{IpError, icmpv4_error_about, icmpv6_error_about};
 
-/// Writes an ICMPv4 error about a packet into the buffer, and its length to `written`. The error is an IPv4 packet from `source` to the source
-/// of the packet, with both checksums (RFC 792; RFC 1122, section 3.2.2). It quotes the packet from its first byte on, so that it has at most
-/// 576 bytes (RFC 1812, section 4.3.2.3). The checksum in `message` is not used.
+/// Writes an ICMPv4 error about a packet into the buffer, and its length to `written`. The error is an IPv4 packet from `source` to the
+/// source of the packet, with both checksums (RFC 792; RFC 1122, section 3.2.2). It has at most 576 bytes (RFC 1812, section 4.3.2.3), and
+/// quotes as many of the first bytes of the packet as fit. The checksum in `message` is not used.
 ///
 /// # Errors
 ///
 /// The status is `OK`, or the first of these that applies:
 /// - `MESSAGE_UNKNOWN` if no message has this kind and this code.
-/// - `NO_ICMP_ERROR` unless the kind is destination unreachable, redirect to the address of one host, time exceeded or parameter problem.
+/// - `NO_ICMP_ERROR` for any kind except destination unreachable, redirect, time exceeded and parameter problem. The call also returns it
+///   for a redirect whose gateway is not the address of one host.
 /// - A status of `etherparse_transport_in_ip_lax`, and `IP_VERSION` for an IPv6 packet.
 /// - `ICMP_ERROR_LATER_FRAGMENT` for a fragment with an offset above 0.
-/// - `ICMP_ERROR_ABOUT_ERROR` if the packet is an ICMPv4 error, or its type is cut off.
+/// - `ICMP_ERROR_ABOUT_ERROR` if the packet is an ICMPv4 error, or an ICMPv4 message whose type is cut off.
 /// - `ICMP_ERROR_ABOUT_GROUP` if the destination in the IP header is 255.255.255.255 or a multicast address.
-/// - `ICMP_ERROR_PACKET_SOURCE` if the source in the IP header is not the address of one host, and `ICMP_ERROR_SOURCE` if `source` is not.
+/// - `ICMP_ERROR_PACKET_SOURCE` if the source in the IP header is not the address of one host.
+/// - `ICMP_ERROR_SOURCE` if `source` is not the address of one host.
 /// - `BUFFER_TOO_SMALL` if the buffer is shorter than the error.
 ///
 /// After an error `error` contains the reason, and `buffer` and `written` are unchanged.
@@ -67,21 +69,22 @@ pub extern "C" fn etherparse_icmpv4_error_about(
     }
 }
 
-/// Writes an ICMPv6 error about a packet into the buffer, and its length to `written`. The error is an IPv6 packet from `source` to the source
-/// of the packet, with its checksum (RFC 4443, sections 2.4 and 3). It quotes the packet from its first byte on, so that it has at most 1,280
-/// bytes. The checksum in `message` is not used.
+/// Writes an ICMPv6 error about a packet into the buffer, and its length to `written`. The error is an IPv6 packet from `source` to the
+/// source of the packet, with its checksum (RFC 4443, sections 2.4 and 3). It has at most 1,280 bytes, and quotes as many of the first
+/// bytes of the packet as fit. The checksum in `message` is not used.
 ///
 /// # Errors
 ///
 /// The status is `OK`, or the first of these that applies:
 /// - `MESSAGE_UNKNOWN` if no message has this kind and this code.
-/// - `NO_ICMP_ERROR` unless the kind is destination unreachable, packet too big, time exceeded or parameter problem.
+/// - `NO_ICMP_ERROR` for any kind except destination unreachable, packet too big, time exceeded and parameter problem.
 /// - A status of `etherparse_transport_in_ip_lax`, and `IP_VERSION` for an IPv4 packet.
 /// - `ICMP_ERROR_LATER_FRAGMENT` for a fragment with an offset above 0.
-/// - `ICMP_ERROR_ABOUT_ERROR` if the packet is an ICMPv6 error or redirect, or its type is cut off.
-/// - `ICMP_ERROR_ABOUT_GROUP` if the destination in the IP header is a multicast address, and the message is neither packet too big nor a
-///   parameter problem of code 2.
-/// - `ICMP_ERROR_PACKET_SOURCE` if the source in the IP header is not the address of one host, and `ICMP_ERROR_SOURCE` if `source` is not.
+/// - `ICMP_ERROR_ABOUT_ERROR` if the packet is an ICMPv6 error, a redirect, or an ICMPv6 message whose type is cut off.
+/// - `ICMP_ERROR_ABOUT_GROUP` if the destination in the IP header is a multicast address. A packet too big message and a parameter problem
+///   of code 2 are written nevertheless.
+/// - `ICMP_ERROR_PACKET_SOURCE` if the source in the IP header is not the address of one host.
+/// - `ICMP_ERROR_SOURCE` if `source` is not the address of one host.
 /// - `BUFFER_TOO_SMALL` if the buffer is shorter than the error.
 ///
 /// After an error `error` contains the reason, and `buffer` and `written` are unchanged.
@@ -114,7 +117,7 @@ pub extern "C" fn etherparse_icmpv6_error_about(
     }
 }
 
-/// Returns the error for a packet about which no ICMP error is written. `other_version` is the IP version that the call does not accept.
+/// Returns the error if no ICMP error is written. `other_version` is the IP version that the call does not accept.
 fn of_error_about(error: &ErrorAboutError, other_version: u8) -> EtherparseError
     ensures numbers { result ≡ specs.of_error_about other_version error.now }
     ensures text { text_of result ≡ error_about_text_in_c other_version error.now }

@@ -41,16 +41,16 @@ pub struct EtherparseIcmpv4Header {
     pub id: u16,
     /// In an echo or timestamp message, and in its reply: the sequence number.
     pub sequence_number: u16,
-    /// If the code is 4, fragmentation needed: the MTU of the next hop, in bytes (RFC 1191, section 4). It is 0 if the router does not
-    /// report the MTU.
+    /// In a destination unreachable message of code 4, fragmentation needed: the MTU of the next hop, in bytes (RFC 1191, section 4). It is
+    /// 0 if the router does not report the MTU.
     pub next_hop_mtu: u16,
     /// The type.
     pub type_u8: u8,
     /// The code.
     pub code_u8: u8,
-    /// In a parameter problem: the place of the error in the original datagram, in bytes.
+    /// In a parameter problem message of code 0: the place of the error in the original datagram, in bytes.
     pub pointer: u8,
-    /// The bytes after the checksum, as received. In a redirect message they are the gateway's address.
+    /// The four bytes after the checksum, as received. In a redirect message they are the gateway's address.
     pub bytes4to7: [u8; 4],
 }
 
@@ -264,8 +264,8 @@ pub(crate) fn message_of(fields: &EtherparseIcmpv4Header) -> Option<Icmpv4Type>
     }
 }
 
-/// Writes a header (RFC 792). The kind determines the type. For kind 0, `type_u8` and `code_u8` are written. If a kind has only one code,
-/// the code is 0.
+/// Writes a header (RFC 792). The kind determines the type. For kind 0, `type_u8`, `code_u8` and `bytes4to7` are written. If a kind has
+/// only one code, the code is 0.
 ///
 /// # Errors
 ///
@@ -285,7 +285,8 @@ pub extern "C" fn etherparse_icmpv4_header_write(
         (at_front (header_bytes fields.now.checksum (message_in fields.now)) buffer.old) buffer.old }
     ensures written { written.new ≡ unless_refused (write_refusal fields.now.checksum (message_in fields.now) (length buffer.old))
         (length (header_bytes fields.now.checksum (message_in fields.now))) written.old }
-    // The written header is read back, whatever bytes follow it. If these bytes are accepted as a message, the message has this header.
+    // The written header is read back, whatever bytes follow it. If the header and the bytes after it are accepted as a message, the
+    // message has this header.
     ensures reads_back { write_refusal fields.now.checksum (message_in fields.now) (length buffer.old) ≡ None
         → (len : ℕ) → written.new ≤ len → len ≤ length buffer.new → ReadsBack fields.now.checksum (message_in fields.now) (take len buffer.new) }
     ensures same { write_refusal fields.now.checksum (message_in fields.now) (length buffer.old) ≡ None
@@ -310,7 +311,7 @@ fn packet_checksum(packet: &Icmpv4Slice<'_>) -> u16
     ensures sum { result ≡ checksum_of (total (with_checksum 2 packet.now 0)) }
     ensures valid { IsValidIcmpv4 (with_checksum 2 packet.now result) }
 {
-    // A message of unknown type and code is written with exactly the bytes that were read.
+    // An `Unknown` message is written with exactly the bytes that were read, whatever its type is.
     let message = Icmpv4Type::Unknown {
         type_u8: packet.type_u8(),
         code_u8: packet.code_u8(),

@@ -39,7 +39,7 @@ pub struct EtherparseIcmpv6Header {
     /// In an echo request or reply: the sequence number.
     pub sequence_number: u16,
     /// In a router advertisement: the time for which the router can be used as a default router, in seconds. If the time is 0, the router
-    /// is no default router (RFC 4861, section 4.2).
+    /// is not a default router (RFC 4861, section 4.2).
     pub router_lifetime: u16,
     /// In a router advertisement: the hop limit that the router proposes, or 0 if it proposes no hop limit (RFC 4861, section 4.2).
     pub cur_hop_limit: u8,
@@ -49,7 +49,7 @@ pub struct EtherparseIcmpv6Header {
     pub type_u8: u8,
     /// The code.
     pub code_u8: u8,
-    /// The bytes after the checksum, as received.
+    /// The four bytes after the checksum, as received.
     pub bytes4to7: [u8; 4],
 }
 
@@ -194,7 +194,7 @@ fn echo_of(fields: &EtherparseIcmpv6Header) -> IcmpEchoHeader
     }
 }
 
-/// Whether a flag is set.
+/// Returns whether the flag with this bit is set.
 fn has(flags: u8, bit: u8) -> bool
     ensures { result ≡ specs.is_set flags bit }
 {
@@ -251,8 +251,8 @@ pub(crate) fn message_of(fields: &EtherparseIcmpv6Header) -> Option<Icmpv6Type>
     }
 }
 
-/// Writes a header (RFC 4443, section 2.1). The kind determines the type. For kind 0, `type_u8` and `code_u8` are written. If a kind has
-/// only one code, the code is 0.
+/// Writes a header (RFC 4443, section 2.1). The kind determines the type. For kind 0, `type_u8`, `code_u8` and `bytes4to7` are written. If
+/// a kind has only one code, the code is 0.
 ///
 /// # Errors
 ///
@@ -272,7 +272,8 @@ pub extern "C" fn etherparse_icmpv6_header_write(
         (at_front (header_bytes fields.now.checksum (message_in fields.now)) buffer.old) buffer.old }
     ensures written { written.new ≡ unless_refused (write_refusal fields.now.checksum (message_in fields.now) (length buffer.old))
         (length (header_bytes fields.now.checksum (message_in fields.now))) written.old }
-    // The written header is read back, whatever bytes follow it. If these bytes are accepted as a message, the message has this header.
+    // The written header is read back, whatever bytes follow it. If the header and the bytes after it are accepted as a message, the
+    // message has this header.
     ensures reads_back { write_refusal fields.now.checksum (message_in fields.now) (length buffer.old) ≡ None
         → (len : ℕ) → written.new ≤ len → len ≤ length buffer.new → ReadsBack fields.now.checksum (message_in fields.now) (take len buffer.new) }
     ensures same { write_refusal fields.now.checksum (message_in fields.now) (length buffer.old) ≡ None
@@ -303,7 +304,7 @@ fn packet_checksum(
         (total (pseudo_header source destination (length packet.now)) + total (with_checksum 2 packet.now 0))) }
     ensures valid { IfOk result (λ checksum. IsValidIcmpv6 source destination (with_checksum 2 packet.now checksum)) }
 {
-    // A message of unknown type and code is written with exactly the bytes that were read.
+    // An `Unknown` message is written with exactly the bytes that were read, whatever its type is.
     let message = Icmpv6Type::Unknown {
         type_u8: packet.type_u8(),
         code_u8: packet.code_u8(),

@@ -24,29 +24,29 @@ pub struct EtherparseIpTransport {
     pub protocol: u32,
     /// The place at which the payload begins, in bytes from the first byte of the packet.
     pub payload_offset: usize,
-    /// The length of the payload, in bytes. If the packet states its length, padding after the packet is not counted.
+    /// The length of the payload, in bytes. If the packet states its length, padding after the packet is not included.
     pub payload_len: usize,
     /// 1 if the packet is a fragment, otherwise 0. It is a fragment if more fragments follow, or if its fragment offset is above 0.
     pub is_fragment: u32,
     /// 1 if the IP header counts more bytes than were passed, otherwise 0.
     pub is_cut_off: u32,
-    /// 1 if the final destination is known, otherwise 0. It is 0 if an IPv6 routing header with segments left is of a type for which the
-    /// last address is not known.
+    /// 1 if the final destination is known, otherwise 0. It is 0 if an IPv6 routing header with segments left has an unknown type, or
+    /// contains no address.
     pub has_destination: u32,
     /// The source that the checksum covers: the source in the IP header, or a home address (RFC 6275). An IPv4 address is in the first four
     /// bytes, and the other bytes are 0.
     pub source: [u8; 16],
-    /// The final destination, which the checksum covers. It is stored like the source. All bytes are 0 if it is not known.
+    /// The final destination, which the checksum covers. It is stored in the same form as `source`. All bytes are 0 if it is not known.
     pub destination: [u8; 16],
-    /// 1 if the IP header states no length, otherwise 0. Then all passed bytes are counted. It can be 1 only after a call whose name ends
-    /// in `_lax`.
+    /// 1 if the IP header states no length, otherwise 0. If it is 1, all passed bytes belong to the packet. It can be 1 only after a call
+    /// whose name ends in `_lax`.
     pub is_length_missing: u32,
     /// 1 if the packet is a later fragment, otherwise 0. The offset of a later fragment is above 0. Its payload is a later part of the
     /// whole payload, so it does not begin with a transport header.
     pub is_later_fragment: u32,
     /// The number of hops that are left: the time to live of IPv4, or the hop limit of IPv6.
     pub hop_limit: u32,
-    /// The place of the payload in the payload of the whole packet, in bytes, if the packet is a fragment. Otherwise it is 0.
+    /// If the packet is a fragment: the place of its payload in the whole payload, in bytes. Otherwise it is 0.
     pub fragment_offset: u32,
     /// The identification, which all fragments of one packet share: 16 bits over IPv4, and 32 bits in the fragment header of IPv6. It is 0
     /// over IPv6 without a fragment header.
@@ -191,7 +191,7 @@ fn header_fields(bytes: &[u8]) -> HeaderFields
     }
 }
 
-/// Returns the transport of a packet in the form of the C struct. It is the same for the strict and the lax call.
+/// Returns the transport of a packet in the form of the C struct. The strict and the lax call share this function.
 #[inline(always)]
 pub(crate) fn fields(bytes: &[u8], transport: &TransportInIp<'_>) -> EtherparseIpTransport
     requires { 20 ≤ length bytes.now }
@@ -250,9 +250,9 @@ fn find_apart(bytes: &[u8], transport: &mut EtherparseIpTransport, error: ErrorP
     find(bytes, transport, error)
 }
 
-/// Finds the transport in the IP packet at the front of some bytes, after its options and extension headers (RFC 791, section 3.1; RFC
-/// 8200, sections 3 and 4). The IP header states the length of the packet. All bytes after the packet are padding. The payload is a part of
-/// `bytes`. No checksum is tested.
+/// Finds the transport in the IP packet at the front of some bytes. The transport follows the options and the extension headers (RFC 791,
+/// section 3.1; RFC 8200, sections 3 and 4). The IP header states the length of the packet. All bytes after the packet are padding. The
+/// payload is a part of `bytes`. No checksum is tested.
 ///
 /// # Errors
 ///
@@ -311,9 +311,9 @@ fn find_lax_apart(bytes: &[u8], transport: &mut EtherparseIpTransport, error: Er
     find_lax(bytes, transport, error)
 }
 
-/// Like `etherparse_transport_in_ip`, but accepts an IP packet that is cut off, or whose header states no length. If the header counts more
-/// bytes than were passed, the payload ends with the passed bytes, and `is_cut_off` is 1. If the header states no length, as described at
-/// `transport_in_ip_lax`, all bytes are counted, and `is_length_missing` is 1.
+/// Does what `etherparse_transport_in_ip` does, but also accepts an IP packet that is cut off, or whose header states no length. If the
+/// header counts more bytes than were passed, the payload ends with the passed bytes, and `is_cut_off` is 1. If the header states no
+/// length, as described at `transport_in_ip_lax`, all passed bytes belong to the packet, and `is_length_missing` is 1.
 ///
 /// # Errors
 ///

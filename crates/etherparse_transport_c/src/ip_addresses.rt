@@ -66,8 +66,8 @@ fn addresses(bytes: &[u8]) -> Result<EtherparseIpAddresses, EtherparseError>
 }
 
 /// Reads the addresses of the IP header at the front of these bytes (RFC 791, section 3.1; RFC 8200, section 3). Options and extension
-/// headers are not read. They can contain a source route, a routing header or a home address. Then the checksum covers other addresses, and
-/// `etherparse_transport_in_ip` returns those.
+/// headers are not read. If they contain a source route, a routing header or a home address, the checksum may cover other addresses.
+/// `etherparse_transport_in_ip` returns the addresses that the checksum covers.
 ///
 /// # Errors
 ///

@@ -16,9 +16,10 @@ use crate::packet_verdict::of_transport;
 use etherparse_transport::err::tcp::HeaderSliceError;
 use etherparse_transport::ip::{TransportInIp, transport_in_ip, transport_slice, write_checksum};
 
-/// Stores the right checksum of UDP, TCP or ICMP in an IP packet of either version, whatever checksum the packet contains, and writes the
-/// checksum to `checksum`. Afterwards `etherparse_packet_verdict` returns the verdict `RIGHT`. A partial checksum becomes a whole checksum.
-/// A UDP packet over IPv4 without a checksum gets a checksum. No other byte changes. The checksum of the IPv4 header is not tested.
+/// Stores the right checksum of UDP, TCP or ICMP in an IP packet of either version, and writes it to `checksum`. The checksum that the
+/// packet contains before the call does not matter. Afterwards `etherparse_packet_verdict` returns the verdict `RIGHT`. A partial checksum
+/// becomes a whole checksum. A UDP packet over IPv4 without a checksum gets a checksum. No other byte changes. The checksum of the IPv4
+/// header is not tested.
 ///
 /// # Errors
 ///
@@ -68,7 +69,7 @@ fn has_partial(carried: &TransportInIp<'_>) -> Result<bool, HeaderSliceError>
 /// Tests whether the checksum of UDP, TCP or ICMPv6 in an IP packet is partial, and writes 1 or 0 to `is_partial`. A partial checksum is
 /// the sum of only the pseudo header. A host leaves the rest to its network card (checksum offload). So a packet from a socket of the same
 /// host often contains a partial checksum. Call `etherparse_packet_checksum_store` to complete it before the packet is changed or
-/// forwarded. The payload is not read. The result is 0 for a fragment, and for any other protocol.
+/// forwarded. The payload is not read. The call writes 0 for a fragment, and for any other protocol.
 ///
 /// # Errors
 ///

@@ -31,13 +31,13 @@ pub struct EtherparseFlowEnds {
     pub has_source_port: u32,
     /// 1 if `destination_port` is known, otherwise 0.
     pub has_destination_port: u32,
-    /// The source port of UDP and TCP, or the identifier of a request of ICMP (RFC 5508, section 3.1). It is 0 if it is not known.
+    /// The source port of UDP and TCP, or the identifier of an ICMP request (RFC 5508, section 3.1). It is 0 if it is not known.
     pub source_port: u16,
-    /// The destination port of UDP and TCP, or the identifier of a reply of ICMP. It is 0 if it is not known.
+    /// The destination port of UDP and TCP, or the identifier of an ICMP reply. It is 0 if it is not known.
     pub destination_port: u16,
     /// The source that the checksum covers. An IPv4 address is in the first four bytes, and the other bytes are 0.
     pub source: [u8; 16],
-    /// The final destination, which the checksum covers, in the same form as the source. It is 0 if it is not known.
+    /// The final destination, which the checksum covers. It is stored in the same form as `source`. All bytes are 0 if it is not known.
     pub destination: [u8; 16],
 }
 
@@ -47,8 +47,8 @@ pub struct EtherparseFlowEnds {
 pub struct EtherparsePacketFlow {
     /// The ends of the packet itself.
     pub ends: EtherparseFlowEnds,
-    /// The ends of the packet that an ICMP error quotes, which went in the other direction. Every field is 0 if there is none, and so is
-    /// `quoted.version`.
+    /// The ends of the packet that an ICMP error quotes, which went in the other direction. If no packet is quoted, every field is 0,
+    /// including `quoted.version`.
     pub quoted: EtherparseFlowEnds,
 }
 
@@ -101,13 +101,13 @@ fn told(found: &PacketFlow<'_>) -> EtherparsePacketFlow
 }
 
 /// Finds the flow that an IP packet of either version belongs to: its addresses, its protocol, and its ports or the identifier of an ICMP
-/// query, and the same of the packet that an ICMP error quotes (RFC 3022, section 4; RFC 5508). The packet may be cut off or state no length,
-/// as for `etherparse_transport_in_ip_lax`. No checksum is tested.
+/// query (RFC 3022, section 4; RFC 5508). For an ICMP error, the call also finds the flow of the quoted packet. The packet may be cut off
+/// or state no length, as for `etherparse_transport_in_ip_lax`. No checksum is tested.
 ///
 /// # Errors
 ///
-/// The statuses of `etherparse_transport_in_ip_lax`. After an error `error` contains the reason, and `flow` is unchanged. If the transport
-/// header or the quoted packet can't be read, its ports or ends are not known.
+/// The statuses of `etherparse_transport_in_ip_lax`. After an error `error` contains the reason, and `flow_of_packet` is unchanged. A
+/// transport header or quoted packet that can't be read is not an error. Then the ports are not known, or all fields of `quoted` are 0.
 #[unsafe(no_mangle)]
 pub extern "C" fn etherparse_flow(
     bytes: &[u8],

@@ -43,7 +43,8 @@ fn number_of_proto(proto: Proto) -> u32
     }
 }
 
-/// Returns the number of the protocol whose header begins the payload, or 0 if the payload begins with no such header.
+/// Returns the number of the protocol whose header is at the start of the payload. It is 0 if the payload does not begin with a header of
+/// UDP, TCP or ICMP.
 fn header_protocol(carried: &TransportInIp<'_>) -> u32
     ensures { transports.refusal carried.now ≡ None → result ≡ specs.header_protocol (kept carried.now) }
 {
@@ -89,7 +90,7 @@ pub(crate) fn of_transport(place: usize, error: &HeaderSliceError) -> Etherparse
     }
 }
 
-/// Finds the transport of a packet and returns its verdict. It is the same for the strict and the lax call.
+/// Writes the transport of a packet and the verdict on its checksum to `packet`. The strict and the lax call share this function.
 fn judge(
     bytes: &[u8],
     carried: &TransportInIp<'_>,
@@ -117,7 +118,7 @@ fn judge(
 }
 
 /// Finds the transport in the IP packet at the front of some bytes, as `etherparse_transport_in_ip` does. Then it tests the checksum.
-/// `packet` contains the verdict, and the right checksum if the checksum is wrong.
+/// Afterwards `packet` contains the verdict, and the right checksum if the stored checksum is wrong or partial.
 ///
 /// # Errors
 ///
@@ -140,7 +141,7 @@ pub extern "C" fn etherparse_packet_verdict(
 }
 
 /// Finds the transport in a packet that may be cut off or state no length, as `etherparse_transport_in_ip_lax` does. Then it tests the
-/// checksum, unless the packet is cut off. A UDP packet that is cut off is read as `etherparse_udp_packet_read_lax` reads it.
+/// checksum, but not if the packet is cut off. A UDP packet that is cut off is read as `etherparse_udp_packet_read_lax` reads it.
 ///
 /// # Errors
 ///

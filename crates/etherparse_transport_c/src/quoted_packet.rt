@@ -8,14 +8,14 @@ use crate::error::{of_len, of_status};
 use crate::status;
 use etherparse_transport::{Icmpv4Header, Icmpv4Slice, Icmpv6Header, Icmpv6Slice};
 
-/// Finds the packet that an ICMPv4 error quotes, and writes its place in the message and its length. An error is a destination unreachable,
-/// source quench, redirect, time exceeded or parameter problem message. If the length field of RFC 4884 counts at least 128 bytes, it
-/// states where the quoted packet ends.
+/// Finds the packet that an ICMPv4 error quotes, and writes its place in the message to `offset`, and its length to `len`. An error is a
+/// destination unreachable, source quench, redirect, time exceeded or parameter problem message. The quoted packet ends with the message,
+/// or earlier if a length field of RFC 4884 states a smaller length. A length below 128 bytes is ignored.
 ///
 /// # Errors
 ///
-/// The status is `OK`, a status of `etherparse_icmpv4_packet_read`, or `NO_ICMP_ERROR` if the message is no error. After an error `error`
-/// contains the reason, and `offset` and `len` are unchanged.
+/// The status is `OK`, a status of `etherparse_icmpv4_packet_read`, or `NO_ICMP_ERROR` if the message is not an error. After an error
+/// `error` contains the reason, and `offset` and `len` are unchanged.
 #[unsafe(no_mangle)]
 #[tactic(auto, using(crate::proofs::QuotedPacketLemmas::found_in_icmpv4))]
 pub extern "C" fn etherparse_icmpv4_quoted_packet(
@@ -43,13 +43,14 @@ pub extern "C" fn etherparse_icmpv4_quoted_packet(
     }
 }
 
-/// Finds the packet that an ICMPv6 error quotes, and writes its place in the message and its length. Each message with a type below 128 is
-/// an error. If the length field of RFC 4884 counts at least 128 bytes, it states where the quoted packet ends.
+/// Finds the packet that an ICMPv6 error quotes, and writes its place in the message to `offset`, and its length to `len`. Each message
+/// with a type below 128 is an error. The quoted packet ends with the message, or earlier if a length field of RFC 4884 states a smaller
+/// length. A length below 128 bytes is ignored.
 ///
 /// # Errors
 ///
-/// The status is `OK`, a status of `etherparse_icmpv6_packet_read`, or `NO_ICMP_ERROR` if the message is no error. After an error `error`
-/// contains the reason, and `offset` and `len` are unchanged.
+/// The status is `OK`, a status of `etherparse_icmpv6_packet_read`, or `NO_ICMP_ERROR` if the message is not an error. After an error
+/// `error` contains the reason, and `offset` and `len` are unchanged.
 #[unsafe(no_mangle)]
 #[tactic(auto, using(crate::proofs::QuotedPacketLemmas::found_in_icmpv6))]
 pub extern "C" fn etherparse_icmpv6_quoted_packet(

@@ -24,13 +24,13 @@ pub const CHECKSUM_ABSENT: u32 = 6;
 /// There are more than 40 bytes of TCP options.
 pub const OPTIONS_TOO_LONG: u32 = 7;
 
-/// The flags of a TCP header contain a bit that belongs to none of the nine flags.
+/// The flags of a TCP header are above 0x1FF: they contain a bit that is not one of the nine flags.
 pub const FLAGS_UNKNOWN: u32 = 8;
 
-/// The call does not accept the protocol: it is none of the four, or ICMP of the other IP version.
+/// The call does not accept the protocol: it is not UDP, TCP or ICMP, or it is ICMP of the other IP version.
 pub const PROTOCOL_UNKNOWN: u32 = 9;
 
-/// No option is left: the list or the option bytes end here.
+/// No option is left: the option bytes end here, or the option that ends the list follows.
 pub const OPTIONS_END: u32 = 10;
 
 /// Fewer bytes are left than the option needs.
@@ -42,7 +42,7 @@ pub const OPTION_SIZE: u32 = 12;
 /// The kind of the option is unknown.
 pub const OPTION_UNKNOWN: u32 = 13;
 
-/// The kind of the message is unknown, or this kind has no such code.
+/// The kind of the message is unknown, or the code is unknown for this kind.
 pub const MESSAGE_UNKNOWN: u32 = 14;
 
 /// The bytes end within the IP header, or there are no bytes. If the hop-by-hop options must contain the length, the bytes may also end
@@ -82,7 +82,7 @@ pub const OPTION_VALUES: u32 = 31;
 /// The packet is a fragment. An echo request is answered only after its fragments are joined (RFC 1122, section 3.3.2).
 pub const ECHO_FRAGMENT: u32 = 32;
 
-/// The packet is no echo request, or it has an IP version that the call does not accept.
+/// The packet is not an echo request, or it has an IP version that the call does not accept.
 pub const ECHO_NO_REQUEST: u32 = 33;
 
 /// The packet contains IPv4 options, an authentication header, or IPv6 extension headers. The reply would need these headers too.
@@ -97,13 +97,15 @@ pub const ECHO_REQUEST_SOURCE: u32 = 36;
 /// The source of the reply to an echo request is not the address of one host.
 pub const ECHO_REPLY_SOURCE: u32 = 37;
 
-/// The ICMP message is not an error. For an ICMP error to write, its type and code may also be unknown, or its gateway may be no host.
+/// The ICMP message is not an error. A call that writes an ICMP error returns this status for more messages: for kind 0, and for a redirect
+/// whose gateway is not the address of one host.
 pub const NO_ICMP_ERROR: u32 = 38;
 
 /// No call returns this status. It is reserved for the translation of a packet with IPv4 options.
 pub const TRANSLATE_HAS_OPTIONS: u32 = 39;
 
-/// The packet is not translated: its protocol is not UDP, TCP, or the ICMP of its IP version, and covers the addresses or has no port.
+/// The packet is not translated, because its protocol is not UDP, TCP, or the ICMP of its IP version. Such a packet is refused only if a
+/// port is replaced, or if the protocol covers the addresses.
 pub const TRANSLATE_PROTOCOL: u32 = 40;
 
 /// The packet is not translated, because it ends within the first 8 bytes of its transport header.
@@ -127,16 +129,16 @@ pub const CHECKSUM_UNTESTED: u32 = 46;
 /// The hop limit of the packet is 0 or 1, so it is not lowered.
 pub const HOP_LIMIT_EXPIRED: u32 = 47;
 
-/// The packet is a later fragment, about which there is no ICMP error.
+/// The packet is a later fragment, so no ICMP error is written about it.
 pub const ICMP_ERROR_LATER_FRAGMENT: u32 = 48;
 
-/// The packet may be an ICMP error, about which there is no ICMP error.
+/// The packet is an ICMP error or an ICMPv6 redirect, or its ICMP type is cut off. So no ICMP error is written about it.
 pub const ICMP_ERROR_ABOUT_ERROR: u32 = 49;
 
-/// The destination of the packet is an address of several hosts, so there is no ICMP error about it.
+/// The destination of the packet is an address of several hosts, so no ICMP error is written about it.
 pub const ICMP_ERROR_ABOUT_GROUP: u32 = 50;
 
-/// The source of the packet is not the address of one host, so there is no ICMP error about it.
+/// The source of the packet is not the address of one host, so no ICMP error is written about it.
 pub const ICMP_ERROR_PACKET_SOURCE: u32 = 51;
 
 /// The source of the ICMP error is not the address of one host.

@@ -125,7 +125,7 @@ pub extern "C" fn etherparse_tcp_packet_read(
     }
 }
 
-/// Whether the flag with this bit is set in `flags`.
+/// Returns whether the flag with this bit is set in `flags`.
 fn has(flags: u16, bit: u16) -> bool
     ensures { result ≡ is_set flags bit }
 {
@@ -170,7 +170,7 @@ fn made_header(fields: &EtherparseTcpHeader, options: &[u8]) -> Result<TcpHeader
 ///
 /// The status is `OK`, or the first of these that applies:
 /// - `OPTIONS_TOO_LONG` if there are more than 40 option bytes.
-/// - `FLAGS_UNKNOWN` if `header.flags` is above 0x1FF.
+/// - `FLAGS_UNKNOWN` if `fields.flags` is above 0x1FF.
 /// - `BUFFER_TOO_SMALL` if the buffer is shorter than the header.
 #[unsafe(no_mangle)]
 pub extern "C" fn etherparse_tcp_header_write(
@@ -215,7 +215,7 @@ fn changed_header(fields: &EtherparseTcpHeader, bytes: &[u8]) -> Result<TcpHeade
 ///
 /// The status is `OK`, or the first of these that applies:
 /// - `LENGTH` or `DATA_OFFSET`, as `etherparse_tcp_packet_read` returns it.
-/// - `FLAGS_UNKNOWN` if `header.flags` is above 0x1FF.
+/// - `FLAGS_UNKNOWN` if `fields.flags` is above 0x1FF.
 #[unsafe(no_mangle)]
 pub extern "C" fn etherparse_tcp_header_store(
     fields: &EtherparseTcpHeader,
@@ -239,7 +239,7 @@ pub extern "C" fn etherparse_tcp_header_store(
     }
 }
 
-/// Computes the checksum of a segment over IPv4. All bytes are the segment, header and payload. Its checksum field is ignored.
+/// Computes the checksum of a segment over IPv4. The segment consists of all bytes. Its checksum field is ignored.
 fn checksum_ipv4(
     bytes: &[u8],
     source: &[u8; 4],
@@ -264,8 +264,8 @@ fn checksum_ipv4(
     }
 }
 
-/// Computes the checksum to store in a segment over IPv4 (RFC 9293, section 3.1). All bytes are the segment, header and payload. Its
-/// checksum field is ignored.
+/// Computes the checksum to store in a segment over IPv4 (RFC 9293, section 3.1). The segment consists of all bytes. Its checksum field is
+/// ignored.
 ///
 /// # Errors
 ///
@@ -331,7 +331,7 @@ pub extern "C" fn etherparse_tcp_checksum_store_ipv4(
     }
 }
 
-/// Computes the checksum of a segment over IPv6. All bytes are the segment, header and payload. Its checksum field is ignored.
+/// Computes the checksum of a segment over IPv6. The segment consists of all bytes. Its checksum field is ignored.
 fn checksum_ipv6(
     bytes: &[u8],
     source: &[u8; 16],
@@ -356,8 +356,8 @@ fn checksum_ipv6(
     }
 }
 
-/// Computes the checksum to store in a segment over IPv6 (RFC 9293, section 3.1; RFC 8200, section 8.1). All bytes are the segment, header
-/// and payload. Its checksum field is ignored.
+/// Computes the checksum to store in a segment over IPv6 (RFC 9293, section 3.1; RFC 8200, section 8.1). The segment consists of all bytes.
+/// Its checksum field is ignored.
 ///
 /// # Errors
 ///
@@ -423,7 +423,7 @@ pub extern "C" fn etherparse_tcp_checksum_store_ipv6(
     }
 }
 
-/// Returns the header of a segment and its payload. A segment that is too long for the length field of the pseudo header is refused.
+/// Returns the header and the payload of a segment. A segment that is too long for the length field of the pseudo header is refused.
 fn counted_parts<'a>(
     bytes: &'a [u8],
     limit: usize,
@@ -446,7 +446,7 @@ fn counted_parts<'a>(
     }
 }
 
-/// Tests the checksum of a segment over IPv4 (RFC 9293, section 3.1). All bytes are the segment, header and payload.
+/// Tests the checksum of a segment over IPv4 (RFC 9293, section 3.1). The segment consists of all bytes.
 ///
 /// # Errors
 ///
@@ -473,7 +473,7 @@ pub extern "C" fn etherparse_tcp_checksum_test_ipv4(
     }
 }
 
-/// Tests the checksum of a segment over IPv6 (RFC 9293, section 3.1; RFC 8200, section 8.1). All bytes are the segment, header and payload.
+/// Tests the checksum of a segment over IPv6 (RFC 9293, section 3.1; RFC 8200, section 8.1). The segment consists of all bytes.
 ///
 /// # Errors
 ///

@@ -6,7 +6,7 @@ ghost use Rattle.net_base.specs.TextParts.{reads_as};
 use arrayvec::ArrayVec;
 use etherparse_transport::err::{ErrorText, TextPart};
 
-/// The greatest length of a text, in bytes.
+/// The maximum length of a text, in bytes.
 const MAX_TEXT_LEN: usize = 256;
 
 /// The bytes of a text. A text that does not fit is truncated.

@@ -94,16 +94,16 @@ fn of_ipv6(translation: &EtherparseIpv6Translation) -> Ipv6Translation
 }
 
 /// Translates an IPv4 packet in place. The call replaces its addresses, and its ports or the identifier of an ICMP query. It updates its
-/// checksums (RFC 3022; RFC 1624; RFC 5508). In the packet that an ICMP error quotes, source and destination are exchanged. In a later
-/// fragment only the addresses are replaced.
+/// checksums (RFC 3022; RFC 1624; RFC 5508). In the packet that an ICMP error quotes, the call replaces the destination by the new source,
+/// and the source by the new destination. In a later fragment only the addresses are replaced.
 ///
 /// # Errors
 ///
 /// The status is `OK`, or the first of these that applies:
 /// - A status of `etherparse_transport_in_ip_lax`.
 /// - `IP_VERSION` for an IPv6 packet, and `TRANSLATE_SOURCE_ROUTE` for a loose or strict source route.
-/// - `TRANSLATE_PROTOCOL` if the protocol is not UDP, TCP or ICMPv4, and a port is set or the protocol covers the addresses.
-/// - `TRANSLATE_HEADER_CUT_OFF` if fewer than 8 bytes of UDP, TCP or ICMP are there.
+/// - `TRANSLATE_PROTOCOL` if the protocol is not UDP, TCP or ICMPv4, and either a port is replaced or the protocol covers the addresses.
+/// - `TRANSLATE_HEADER_CUT_OFF` if the packet contains fewer than 8 bytes of UDP, TCP or ICMP.
 /// - `TRANSLATE_ICMP_MESSAGE` for a redirect, and for an ICMP message that is neither a query nor an error.
 /// - `TRANSLATE_QUOTED_PACKET` if the packet that an ICMP error quotes can't be translated.
 ///
@@ -129,9 +129,9 @@ pub extern "C" fn etherparse_translate_ipv4(
 ///
 /// # Errors
 ///
-/// The statuses of `etherparse_translate_ipv4`, except `TRANSLATE_SOURCE_ROUTE`. The call returns `IP_VERSION` for an IPv4 packet. It also
-/// returns `TRANSLATE_PROTOCOL` for an extension header that is not skipped: hop-by-hop options, fragment headers, routing headers without
-/// segments left and destination options without a home address are skipped.
+/// The statuses of `etherparse_translate_ipv4`, except `TRANSLATE_SOURCE_ROUTE`. The call returns `IP_VERSION` for an IPv4 packet. It skips
+/// hop-by-hop options, fragment headers, routing headers without segments left, and destination options without a home address. For any
+/// other extension header it returns `TRANSLATE_PROTOCOL`.
 #[unsafe(no_mangle)]
 pub extern "C" fn etherparse_translate_ipv6(
     packet: &mut [u8],
@@ -149,13 +149,13 @@ pub extern "C" fn etherparse_translate_ipv6(
     }
 }
 
-/// Translates an IPv4 packet in place. If it is an ICMP error, `quoted` replaces values in the packet that it quotes. The source of
-/// `quoted` is the source of the quoted packet, which went in the other direction (RFC 5508, section 4). If no packet is quoted, `quoted`
-/// is not used. Otherwise the call does what `etherparse_translate_ipv4` does.
+/// Translates an IPv4 packet in place. If it is an ICMP error, `quoted` replaces values in the packet that it quotes. `quoted.source` is
+/// the new source of the quoted packet, which went in the other direction (RFC 5508, section 4). If no packet is quoted, `quoted` is not
+/// used. Otherwise the call does what `etherparse_translate_ipv4` does.
 ///
 /// # Errors
 ///
-/// The statuses of `etherparse_translate_ipv4`. The ports of `quoted` decide whether the protocol of the quoted packet is refused. After an
+/// The statuses of `etherparse_translate_ipv4`. If a port of `quoted` is replaced, the quoted packet must be UDP, TCP or ICMP. After an
 /// error `error` contains the reason, and `packet` is unchanged.
 #[unsafe(no_mangle)]
 pub extern "C" fn etherparse_translate_ipv4_with_quoted(
@@ -180,7 +180,7 @@ pub extern "C" fn etherparse_translate_ipv4_with_quoted(
 ///
 /// # Errors
 ///
-/// The statuses of `etherparse_translate_ipv6`. The ports of `quoted` decide whether the protocol of the quoted packet is refused. After an
+/// The statuses of `etherparse_translate_ipv6`. If a port of `quoted` is replaced, the quoted packet must be UDP, TCP or ICMP. After an
 /// error `error` contains the reason, and `packet` is unchanged.
 #[unsafe(no_mangle)]
 pub extern "C" fn etherparse_translate_ipv6_with_quoted(

@@ -48,7 +48,7 @@ pub struct EtherparseUdpPacket {
     pub payload_offset: usize,
     /// The length of the payload, in bytes.
     pub payload_len: usize,
-    /// What states `payload_len`: a number of `len_source`.
+    /// The source that states `payload_len`: a number of `len_source`.
     pub payload_len_source: u32,
 }
 
@@ -87,12 +87,13 @@ fn packet(slice: &UdpSlice<'_>) -> EtherparseUdpPacket
     }
 }
 
-/// Reads the packet at the front of some bytes (RFC 768). The length field states the length of the packet. If it is 0, all bytes are the
-/// packet.
+/// Reads the packet at the front of some bytes (RFC 768). The length field states the length of the packet. If it is 0, the packet consists
+/// of all bytes.
 ///
 /// # Errors
 ///
-/// The status is `OK`, or `LENGTH` if there are fewer than 8 bytes, or if the length field is 1 to 7 or above the number of bytes.
+/// The status is `OK` or `LENGTH`. It is `LENGTH` if there are fewer than 8 bytes. It is also `LENGTH` if the length field is 1 to 7, or
+/// above the number of bytes.
 #[unsafe(no_mangle)]
 pub extern "C" fn etherparse_udp_packet_read(
     bytes: &[u8],
@@ -112,8 +113,8 @@ pub extern "C" fn etherparse_udp_packet_read(
     }
 }
 
-/// Reads the packet at the front of some bytes (RFC 768). The length field states the length of the packet. If it is 0 or invalid, all
-/// bytes are the packet.
+/// Reads the packet at the front of some bytes (RFC 768). The length field states the length of the packet. If it is 0 or invalid, the
+/// packet consists of all bytes.
 ///
 /// # Errors
 ///
@@ -159,7 +160,7 @@ pub extern "C" fn etherparse_udp_header_write(
     write(&header(fields).to_bytes(), buffer, written, error)
 }
 
-/// Returns the packet at the front of some bytes. A payload above this limit is refused.
+/// Returns the packet at the front of some bytes. A payload longer than this limit is refused.
 // perf: if it is not inlined, its result is stored in parts and loaded as a whole, for which the processor waits. The test of a checksum
 // over 11 bytes takes 93 instead of 140 instructions (29 Nov 2026).
 #[inline(always)]
@@ -252,9 +253,9 @@ fn checksum_ipv4(
     }
 }
 
-/// Computes the checksum to store in the packet at the front of some bytes, over IPv4 (RFC 768). It is the packet that
-/// `etherparse_udp_packet_read` reads. Its checksum field is ignored. The pseudo header contains the number of bytes of the packet, even if
-/// the length field is 0.
+/// Computes the checksum to store in the packet at the front of some bytes, over IPv4 (RFC 768). The packet ends where
+/// `etherparse_udp_packet_read` finds its end. Its checksum field is ignored. The pseudo header contains the number of bytes of the packet,
+/// even if the length field is 0.
 ///
 /// # Errors
 ///
@@ -343,9 +344,9 @@ fn checksum_ipv6(
     }
 }
 
-/// Computes the checksum to store in the packet at the front of some bytes, over IPv6 (RFC 768; RFC 8200, section 8.1). It is the packet
-/// that `etherparse_udp_packet_read` reads. Its checksum field is ignored. The pseudo header contains the number of bytes of the packet,
-/// even if the length field is 0.
+/// Computes the checksum to store in the packet at the front of some bytes, over IPv6 (RFC 768; RFC 8200, section 8.1). The packet ends
+/// where `etherparse_udp_packet_read` finds its end. Its checksum field is ignored. The pseudo header contains the number of bytes of the
+/// packet, even if the length field is 0.
 ///
 /// # Errors
 ///

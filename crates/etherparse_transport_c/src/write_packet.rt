@@ -41,7 +41,7 @@ pub struct EtherparseIpv6Header {
     pub next_header: u8,
 }
 
-/// Returns the protocol with this number, if it is a protocol over IPv4.
+/// Returns the protocol with this number, or `None` if it is not UDP, TCP or ICMPv4.
 fn proto_in_ipv4(number: u8) -> Option<Proto>
     ensures { result ≡ proto_over_ipv4 number }
 {
@@ -53,7 +53,7 @@ fn proto_in_ipv4(number: u8) -> Option<Proto>
     }
 }
 
-/// Returns the protocol with this number, if it is a protocol over IPv6.
+/// Returns the protocol with this number, or `None` if it is not UDP, TCP or ICMPv6.
 fn proto_in_ipv6(number: u8) -> Option<Proto>
     ensures { result ≡ proto_over_ipv6 number }
 {
@@ -65,8 +65,8 @@ fn proto_in_ipv6(number: u8) -> Option<Proto>
     }
 }
 
-/// Returns the transport header at the front of a message, and the bytes after it. `proto` is the protocol with this number, if the IP
-/// version has it.
+/// Returns the transport header at the front of a message, and the bytes after it. `proto` is the protocol with this number, or `None` if
+/// the call does not accept it.
 fn read_message(
     number: u8,
     proto: Option<Proto>,
@@ -86,14 +86,15 @@ fn read_message(
 }
 
 /// Writes an IPv4 packet to the front of a buffer (RFC 791, section 3.1): an IP header without options, and the message after it. The
-/// message is a transport header and its payload. The call computes both checksums, the total length, and the length field of UDP, whatever
-/// the message contains in these fields. It clears the reserved bits of the transport header. The flag "don't fragment" is set, and
-/// identification, type of service and fragment offset are 0. Afterwards `etherparse_packet_verdict` returns the verdict `RIGHT`.
+/// message is a transport header and its payload. The call computes both checksums, the total length, and the length field of UDP. It
+/// ignores the checksum and the UDP length in the message. It clears the reserved bits of the transport header. The flag "don't fragment"
+/// is set, and identification, type of service and fragment offset are 0. Afterwards `etherparse_packet_verdict` returns the verdict
+/// `RIGHT`.
 ///
 /// # Errors
 ///
 /// The status is `OK`, or the first of these that applies:
-/// - `PROTOCOL_UNKNOWN` if `header.protocol` is none of UDP, TCP and ICMPv4.
+/// - `PROTOCOL_UNKNOWN` if `header.protocol` is not UDP, TCP or ICMPv4.
 /// - `LENGTH` or `DATA_OFFSET` as the call that reads a header of the protocol returns it. The length field of UDP is not checked.
 /// - `VALUE_TOO_BIG` if the packet would be longer than 65,535 bytes.
 /// - `BUFFER_TOO_SMALL` if the buffer is shorter than the packet.
@@ -114,7 +115,7 @@ pub extern "C" fn etherparse_write_packet_ipv4(
         (at_front (ipv4_bytes header.now message.now) buffer.old) buffer.old }
     ensures written { written.new ≡ unless_refused (ipv4_refusal header.now message.now (length buffer.old))
         (length (ipv4_bytes header.now message.now)) written.old }
-    // With any padding after it, the packet is read as its parts, and its checksum is right.
+    // If any padding follows the packet, it is still read as its parts, and its checksum is right.
     ensures read { ipv4_refusal header.now message.now (length buffer.old) ≡ None → (padding : List ℕ) →
         IsReadAs (ipv4_bytes header.now message.now ++ padding) (addresses.Ipv4 header.now.source header.now.destination)
         (sent_over_ipv4 header.now.source header.now.destination (header_at (proto_over_ipv4 header.now.protocol) message.now)
@@ -142,12 +143,13 @@ pub extern "C" fn etherparse_write_packet_ipv4(
 }
 
 /// Writes an IPv6 packet to the front of a buffer (RFC 8200, section 3): an IP header without extension headers, and the message after it.
-/// The call computes the payload length, otherwise as `etherparse_write_packet_ipv4`. Traffic class and flow label are 0.
+/// The call computes the payload length, the checksum and the length field of UDP. Traffic class and flow label are 0. Otherwise the call
+/// does what `etherparse_write_packet_ipv4` does.
 ///
 /// # Errors
 ///
 /// The status is `OK`, or the first of these that applies:
-/// - `PROTOCOL_UNKNOWN` if `header.next_header` is none of UDP, TCP and ICMPv6.
+/// - `PROTOCOL_UNKNOWN` if `header.next_header` is not UDP, TCP or ICMPv6.
 /// - `LENGTH` or `DATA_OFFSET` as the call that reads a header of the protocol returns it. The length field of UDP is not checked.
 /// - `VALUE_TOO_BIG` if the message is longer than 65,535 bytes.
 /// - `BUFFER_TOO_SMALL` if the buffer is shorter than the packet.
@@ -168,7 +170,7 @@ pub extern "C" fn etherparse_write_packet_ipv6(
         (at_front (ipv6_bytes header.now message.now) buffer.old) buffer.old }
     ensures written { written.new ≡ unless_refused (ipv6_refusal header.now message.now (length buffer.old))
         (length (ipv6_bytes header.now message.now)) written.old }
-    // With any padding after it, the packet is read as its parts, and its checksum is right.
+    // If any padding follows the packet, it is still read as its parts, and its checksum is right.
     ensures read { ipv6_refusal header.now message.now (length buffer.old) ≡ None → (padding : List ℕ) →
         IsReadAs (ipv6_bytes header.now message.now ++ padding) (addresses.Ipv6 header.now.source (Some header.now.destination))
         (sent_over_ipv6 header.now.source header.now.destination (header_at (proto_over_ipv6 header.now.next_header) message.now)

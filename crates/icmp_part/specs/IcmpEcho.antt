@@ -8,7 +8,7 @@ use Rattle.net_base.specs.Bytes.{be_number}
 use Rattle.icmp_part.specs.MessageFormat.{MessageFormat, all_used}
 use Rattle.icmp_part.specs.declared.icmp_echo_header.IcmpEchoHeader.{IcmpEchoHeader}
 
--- the identifier at this place, and the sequence number two bytes later
+-- the fields that begin at this place: the identifier, and the sequence number two bytes later
 abbrev pub echo_of : List ℕ → ℕ → IcmpEchoHeader
 echo_of bytes from = record { id = be_number bytes from 2; seq = be_number bytes (from + 2) 2 }
 

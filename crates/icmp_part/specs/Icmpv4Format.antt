@@ -1,6 +1,6 @@
 -- The ICMPv4 header (RFC 792): which packets are accepted, how the header is read and written, and what its checksum covers.
 --
---   byte  0     1     2, 3      4 to 7, of timestamps 4 to 19
+--   byte  0     1     2, 3      4 to 7 (in timestamps: 4 to 19)
 --         type  code  checksum  by type and code
 use Rattle.std.specs.Prelude.{◌≡◌, ◌≤◌, ◌⊎◌, ℕ, ◌+◌, ◌==◌, ◌&&◌, not, nat_lt, List, [], ◌∷◌, ◌++◌, length, drop, map, slice_index, slice_range, Option, Some, None}
 use Rattle.std.specs.Int.{to_be_bytes, w16, w32}
@@ -34,8 +34,8 @@ with_next_hop_mtu = record {
   message_of = λ bytes. FragmentationNeeded (be_number bytes 6 2);
 }
 
--- type 3: codes 0 to 5 of RFC 792, "Destination Unreachable Message", 6 to 12 of RFC 1122, section 3.2.2.1, and 13 to 15 of
--- RFC 1812, section 5.2.7.1
+-- The formats of type 3, by code. Codes 0 to 5 are from RFC 792, "Destination Unreachable Message". Codes 6 to 12 are from RFC 1122,
+-- section 3.2.2.1. Codes 13 to 15 are from RFC 1812, section 5.2.7.1.
 abbrev pub dest_unreachable_formats : List (MessageFormat DestUnreachableHeader)
 dest_unreachable_formats =
     unused Network  -- 0
@@ -65,7 +65,7 @@ redirect_codes =
     ∷ RedirectForTypeOfServiceAndHost  -- 3
     ∷ []
 
--- type 5: the gateway's address is in bytes 4 to 7
+-- the format of type 5 with this code; the gateway's address is in bytes 4 to 7
 abbrev pub redirect : RedirectCode → MessageFormat Icmpv4Type
 redirect code = all_used 8 (λ bytes. Redirect (record { code = code; gateway_internet_address = slice_range bytes 4 8 }))
 
@@ -83,7 +83,8 @@ with_pointer = record {
   message_of = λ bytes. PointerIndicatesError (slice_index bytes 4);
 }
 
--- type 12: code 0 is from RFC 792, "Parameter Problem Message", code 1 from RFC 1122, section 3.2.2.5, and code 2 is in no RFC
+-- the formats of type 12, by code: code 0 is from RFC 792, "Parameter Problem Message", code 1 from RFC 1122, section 3.2.2.5, and code 2
+-- is in no RFC
 abbrev pub parameter_problem_formats : List (MessageFormat ParameterProblemHeader)
 parameter_problem_formats =
     with_pointer  -- 0
@@ -91,8 +92,8 @@ parameter_problem_formats =
     ∷ unused BadLength  -- 2
     ∷ []
 
--- the fields of types 13 and 14, in bytes 4 to 19: identifier, sequence number and three times (RFC 792, "Timestamp or Timestamp Reply
--- Message")
+-- the fields of types 13 and 14 that begin at this place: identifier, sequence number and three times (RFC 792, "Timestamp or Timestamp
+-- Reply Message")
 abbrev pub timestamp_of : List ℕ → ℕ → TimestampMessage
 timestamp_of bytes from = record {
   id = be_number bytes from 2;
@@ -106,7 +107,8 @@ timestamp_of bytes from = record {
 abbrev pub timestamp : (TimestampMessage → Icmpv4Type) → MessageFormat Icmpv4Type
 timestamp variant = all_used 20 (λ bytes. variant (timestamp_of bytes 4))
 
--- the types of RFC 792 except 4, 15 and 16, which are deprecated (RFC 6633; RFC 6918), each with the formats of its codes from 0 on
+-- The types of RFC 792, each with the formats of its codes from 0 on. Types 4, 15 and 16 are missing, since they are deprecated (RFC 6633;
+-- RFC 6918).
 abbrev pub formats : List (ℕ × List (MessageFormat Icmpv4Type))
 formats =
     (0, echo EchoReply ∷ [])
@@ -119,7 +121,7 @@ formats =
     ∷ (14, timestamp TimestampReply ∷ [])
     ∷ []
 
--- the format of any other type and code: the type, the code, and bytes 4 to 7 unchanged
+-- the format of a type and code that are not listed: the type, the code, and bytes 4 to 7 unchanged
 abbrev pub unknown : MessageFormat Icmpv4Type
 unknown = all_used 8 (λ bytes. Unknown (slice_index bytes 0) (slice_index bytes 1) (slice_range bytes 4 8))
 
@@ -133,7 +135,7 @@ format_of bytes = format_at (slice_index bytes 0) (slice_index bytes 1)
 
 -- ---- reading
 
--- the length of the header, and the masks of its used bits
+-- the length of the header of a packet, and the masks of its used bits
 abbrev pub layout_of : List ℕ → HeaderLayout
 layout_of bytes = (format_of bytes).layout
 
@@ -141,7 +143,7 @@ layout_of bytes = (format_of bytes).layout
 abbrev pub icmp_type_of : List ℕ → Icmpv4Type
 icmp_type_of bytes = (format_of bytes).message_of bytes
 
--- the message with its fields, and the checksum
+-- the header of a packet: the message with its fields, and the checksum
 abbrev pub header_of : List ℕ → Icmpv4Header
 header_of bytes = record { icmp_type = icmp_type_of bytes; checksum = be_number bytes 2 2 }
 
@@ -166,13 +168,13 @@ pub record HasWholeHeader (bytes : List ℕ) : Type 0 where
   pub shortest : 8 ≤ length bytes
   pub timestamp : (slice_index bytes 0 ≡ 13) ⊎ (slice_index bytes 0 ≡ 14) → slice_index bytes 1 ≡ 0 → length bytes ≡ 20
 
--- the bytes are accepted, and read as this header and the bytes after it
+-- the bytes are accepted, and read as this header and this rest
 pub record DecodesAs (bytes : List ℕ) (header : Icmpv4Header) (rest : List ℕ) : Type 0 where
   pub accepted : refusal bytes ≡ None
   pub fields : header ≡ header_of bytes
   pub after_header : rest ≡ drop (layout_of bytes).header_len bytes
 
--- accepted bytes with the unused bits of the header cleared; the bytes after the header are kept
+-- these bytes with the unused bits of the header cleared; the bytes after the header are unchanged
 abbrev pub canonical : List ℕ → List ℕ
 canonical bytes = masked (layout_of bytes).masks bytes
 
@@ -248,12 +250,12 @@ written (TimestampReply message) = record { type = 14; code = 0; fields = timest
 abbrev pub wire : Icmpv4Header → List ℕ
 wire header = header_bytes (written header.icmp_type) header.checksum
 
--- the number of bytes after the header, if the kind of the message fixes it
+-- the number of bytes after the header, if the kind of message determines it
 abbrev pub fixed_payload_size : Icmpv4Type → Option ℕ
 fixed_payload_size (TimestampRequest message) = Some 0
 fixed_payload_size (TimestampReply message) = Some 0
 fixed_payload_size other = None
 
--- the sum from which the checksum is computed: the header with a zero instead of the checksum, and the payload
+-- the sum from which the checksum is computed: the header with checksum 0, and the payload
 abbrev pub checksummed : Icmpv4Header → List ℕ → ℕ
 checksummed header payload = total (wire (record header { checksum = 0 })) + total payload

@@ -55,8 +55,8 @@ time_exceeded_codes =
     ∷ FragmentReassemblyTimeExceeded  -- 1
     ∷ []
 
--- type 4, by code: 0 to 2 of RFC 4443, section 3.4; 3 of RFC 7112, section 5; 4 of RFC 8754, section 4.3.1.2; 5 to 10 of RFC 8883, section
--- 2
+-- Type 4, by code. Codes 0 to 2 are from RFC 4443, section 3.4. Code 3 is from RFC 7112, section 5. Code 4 is from RFC 8754, section
+-- 4.3.1.2. Codes 5 to 10 are from RFC 8883, section 2.
 abbrev pub parameter_problem_codes : List ParameterProblemCode
 parameter_problem_codes =
     ErroneousHeaderField  -- 0
@@ -72,21 +72,23 @@ parameter_problem_codes =
     ∷ OptionTooBig  -- 10
     ∷ []
 
--- type 4: the pointer to the error is in bytes 4 to 7 (RFC 4443, section 3.4)
+-- the format of type 4 with this code; the pointer to the error is in bytes 4 to 7 (RFC 4443, section 3.4)
 abbrev pub parameter_problem : ParameterProblemCode → MessageFormat Icmpv6Type
 parameter_problem code = all_used header_len (λ bytes. ParameterProblem (record { code = code; pointer = be_number bytes 4 4 }))
 
--- type 134, from byte 4 on (RFC 4861, section 4.2): the current hop limit; a byte with the flags M and O, whose other bits are reserved;
--- the router lifetime
+-- type 134: the bit of the flag M in byte 5 (RFC 4861, section 4.2)
 abbrev pub managed_bit : ℕ
 managed_bit = 0x80
 
+-- type 134: the bit of the flag O in byte 5
 abbrev pub other_bit : ℕ
 other_bit = 0x40
 
+-- the masks of bytes 4 to 7; the bits of byte 5 other than M and O are reserved
 abbrev pub router_advertisement_masks : List ℕ
 router_advertisement_masks = 0xff ∷ 0xc0 ∷ 0xff ∷ 0xff ∷ []
 
+-- the fields that begin at this place: the current hop limit, a byte with the flags M and O, and the router lifetime
 abbrev pub router_advertisement_of : List ℕ → ℕ → RouterAdvertisementHeader
 router_advertisement_of bytes from = record {
   cur_hop_limit = slice_index bytes from;
@@ -102,19 +104,23 @@ router_advertisement = record {
   message_of = λ bytes. RouterAdvertisement (router_advertisement_of bytes 4);
 }
 
--- type 136, from byte 4 on (RFC 4861, section 4.4): a byte with the flags R, S and O; all other bits are reserved
+-- type 136: the bit of the flag R in byte 4 (RFC 4861, section 4.4)
 abbrev pub router_bit : ℕ
 router_bit = 0x80
 
+-- type 136: the bit of the flag S in byte 4
 abbrev pub solicited_bit : ℕ
 solicited_bit = 0x40
 
+-- type 136: the bit of the flag O in byte 4
 abbrev pub override_bit : ℕ
 override_bit = 0x20
 
+-- the masks of bytes 4 to 7; all bits other than R, S and O are reserved
 abbrev pub neighbor_advertisement_masks : List ℕ
 neighbor_advertisement_masks = 0xe0 ∷ 0 ∷ 0 ∷ 0 ∷ []
 
+-- the flags in the byte at this place
 abbrev pub neighbor_advertisement_of : List ℕ → ℕ → NeighborAdvertisementHeader
 neighbor_advertisement_of bytes from = record {
   router = flag bytes from router_bit;
@@ -145,7 +151,7 @@ formats =
     ∷ (137, unused Redirect ∷ [])
     ∷ []
 
--- the format of any other type and code: the type, the code, and bytes 4 to 7 unchanged
+-- the format of a type and code that are not listed: the type, the code, and bytes 4 to 7 unchanged
 abbrev pub unknown : MessageFormat Icmpv6Type
 unknown = all_used header_len (λ bytes. Unknown (slice_index bytes 0) (slice_index bytes 1) (slice_range bytes 4 8))
 
@@ -159,14 +165,15 @@ format_of bytes = format_at (slice_index bytes 0) (slice_index bytes 1)
 
 -- ---- reading
 
--- the length of the header, and the masks of its used bits
+-- the length of the header of a packet, and the masks of its used bits
 abbrev pub layout_of : List ℕ → HeaderLayout
 layout_of bytes = (format_of bytes).layout
 
--- the message with its fields, and the header, which also contains the checksum
+-- the message with its fields
 abbrev pub icmp_type_of : List ℕ → Icmpv6Type
 icmp_type_of bytes = (format_of bytes).message_of bytes
 
+-- the header of a packet: the message with its fields, and the checksum
 abbrev pub header_of : List ℕ → Icmpv6Header
 header_of bytes = record { icmp_type = icmp_type_of bytes; checksum = be_number bytes 2 2 }
 
@@ -181,23 +188,24 @@ refusal bytes = first_of (
     ∷ refused_if (nat_lt max_packet_len (length bytes)) (wrong_length layers.Icmpv6 max_packet_len (length bytes))
     ∷ [])
 
--- the packet is accepted: its length is within these limits
+-- the packet is accepted: its length is within both limits
 pub record HasPacketLength (bytes : List ℕ) : Type 0 where
   pub shortest : header_len ≤ length bytes
   pub longest : length bytes ≤ max_packet_len
 
--- the bytes are accepted, and read as this header and the bytes after it
+-- the bytes are accepted, and read as this header and this rest
 pub record DecodesAs (bytes : List ℕ) (header : Icmpv6Header) (rest : List ℕ) : Type 0 where
   pub accepted : refusal bytes ≡ None
   pub fields : header ≡ header_of bytes
   pub after_header : rest ≡ drop (layout_of bytes).header_len bytes
 
--- accepted bytes with the unused bits of the header cleared; the bytes after the header are kept
+-- these bytes with the unused bits of the header cleared; the bytes after the header are unchanged
 abbrev pub canonical : List ℕ → List ℕ
 canonical bytes = masked (layout_of bytes).masks bytes
 
 -- ---- writing
 
+-- the code of a message of type 1
 abbrev pub dest_unreachable_code : DestUnreachableCode → ℕ
 dest_unreachable_code NoRoute = 0
 dest_unreachable_code Prohibited = 1
@@ -207,10 +215,12 @@ dest_unreachable_code Port = 4
 dest_unreachable_code SourceAddressFailedPolicy = 5
 dest_unreachable_code RejectRoute = 6
 
+-- the code of a message of type 3
 abbrev pub time_exceeded_code : TimeExceededCode → ℕ
 time_exceeded_code HopLimitExceeded = 0
 time_exceeded_code FragmentReassemblyTimeExceeded = 1
 
+-- the code of a message of type 4
 abbrev pub parameter_problem_code : ParameterProblemCode → ℕ
 parameter_problem_code ErroneousHeaderField = 0
 parameter_problem_code UnrecognizedNextHeader = 1
@@ -224,17 +234,20 @@ parameter_problem_code TooManyExtensionHeaders = 8
 parameter_problem_code TooManyOptionsInExtensionHeader = 9
 parameter_problem_code OptionTooBig = 10
 
--- the byte of flags, and the bytes of all fields, of both advertisements
+-- byte 4 of a neighbor advertisement: its flags
 abbrev pub neighbor_advertisement_flags : NeighborAdvertisementHeader → ℕ
 neighbor_advertisement_flags header =
     from_bool header.router * router_bit + from_bool header.solicited * solicited_bit + from_bool header.override_flag * override_bit
 
+-- bytes 4 to 7 of a neighbor advertisement
 abbrev pub neighbor_advertisement_fields : NeighborAdvertisementHeader → List ℕ
 neighbor_advertisement_fields header = neighbor_advertisement_flags header ∷ 0 ∷ 0 ∷ 0 ∷ []
 
+-- byte 5 of a router advertisement: its flags
 abbrev pub router_advertisement_flags : RouterAdvertisementHeader → ℕ
 router_advertisement_flags header = from_bool header.managed_address_config * managed_bit + from_bool header.other_config * other_bit
 
+-- bytes 4 to 7 of a router advertisement
 abbrev pub router_advertisement_fields : RouterAdvertisementHeader → List ℕ
 router_advertisement_fields header =
     header.cur_hop_limit ∷ router_advertisement_flags header ∷ to_be_bytes w16 header.router_lifetime
@@ -260,7 +273,7 @@ wire header = header_bytes (written header.icmp_type) header.checksum
 
 -- ---- the checksum
 
--- the length of the longest payload; it follows a header of eight bytes
+-- the length of the longest payload: the longest packet without its header of eight bytes
 abbrev pub max_payload_len : ℕ
 max_payload_len = max_packet_len - header_len
 
@@ -268,7 +281,7 @@ max_payload_len = max_packet_len - header_len
 abbrev pub pseudo_header : List ℕ → List ℕ → ℕ → List ℕ
 pseudo_header source destination len = ipv6_pseudo_header source destination icmpv6_number len
 
--- the sum from which the checksum is computed: the pseudo header, the header with a zero instead of the checksum, and the payload
+-- the sum from which the checksum is computed: the pseudo header, the header with checksum 0, and the payload
 abbrev pub checksummed : List ℕ → List ℕ → Icmpv6Header → List ℕ → ℕ
 checksummed source destination header payload =
     total (pseudo_header source destination (length (wire header) + length payload))

@@ -12,7 +12,7 @@ use Rattle.icmp_part.specs.declared.icmpv6_header.Icmpv6Header.{Icmpv6Header}
 use Rattle.icmp_part.specs.declared.icmpv6_type.Icmpv6Type.{Icmpv6Type}
 use Rattle.icmp_part.specs.declared.icmpv6_type.Icmpv6Type.TheVariants.{Unknown, DestinationUnreachable, PacketTooBig, TimeExceeded, ParameterProblem, EchoRequest, EchoReply, RouterSolicitation, RouterAdvertisement, NeighborSolicitation, NeighborAdvertisement, Redirect}
 
--- the result of reading these bytes: this error, or this header and the bytes after it
+-- reading these bytes returns this error, or this header and this rest
 abbrev pub IsReadAs : List ℕ → Result (Icmpv6Header × List ℕ) LenError → Type 0
 IsReadAs bytes (Ok found) = DecodesAs bytes found.0 found.1
 IsReadAs bytes (Err error) = refusal bytes ≡ Some error
@@ -21,12 +21,11 @@ IsReadAs bytes (Err error) = refusal bytes ≡ Some error
 abbrev pub icmpv6_header : Icmpv6Type → ℕ → Icmpv6Header
 icmpv6_header message checksum = record { icmp_type = message; checksum = checksum }
 
--- The message that is listed at this type and code, with its fields from these four bytes. `None` if no message is listed there.
+-- The listed message with this type and code, with its fields from these four bytes. `None` if the type and code are not listed.
 abbrev pub listed_kind : ℕ → ℕ → List ℕ → Option Icmpv6Type
 listed_kind type code bytes5to8 = listed (codes_of formats type) code (type ∷ code ∷ 0 ∷ 0 ∷ bytes5to8)
 
--- An unknown message is read back as the message that is listed at its type and code, if there is one. Any other message is read back
--- unchanged.
+-- An `Unknown` message with a listed type and code is read back as the listed message. Any other message is read back unchanged.
 abbrev pub message_reads_back : Icmpv6Type → Icmpv6Type
 message_reads_back (Unknown type code bytes5to8) = unwrap_or (listed_kind type code bytes5to8) (Unknown type code bytes5to8)
 message_reads_back other = other
@@ -38,7 +37,7 @@ reads_back message checksum payload =
     then Err (wrong_length layers.Icmpv6 max_packet_len (header_len + length payload))
     else Ok (icmpv6_header (message_reads_back message) checksum, payload)
 
--- ---- the numbers of a message are in the ranges of their types, and arrays have their lengths
+-- the numbers of a message are in the ranges of their types, and arrays have their lengths
 abbrev pub FieldsFit : Icmpv6Type → Type 0
 FieldsFit (Unknown type code bytes5to8) = length bytes5to8 ≡ 4
 FieldsFit (DestinationUnreachable code) = Unit {0}

@@ -13,10 +13,11 @@ pub record MessageFormat (Message : Type 0) : Type 0 where
   pub layout : HeaderLayout
   pub message_of : List ℕ → Message
 
--- the masks for this number of bytes: all bits used, and all bits unused
+-- the masks for this number of bytes, with every bit used
 abbrev pub used : ℕ → List ℕ
 used count = replicate count 255
 
+-- the masks for this number of bytes, with every bit unused
 abbrev pub cleared : ℕ → List ℕ
 cleared count = replicate count 0
 
@@ -28,7 +29,7 @@ all_used len message_of = record { layout = record { header_len = len; masks = u
 abbrev pub unused : {Message : Type 0} → Message → MessageFormat Message
 unused message = record { layout = record { header_len = 8; masks = used 4 ++ cleared 4 }; message_of = λ bytes. message }
 
--- the format of a message that consists of a part with this format
+-- the format of a message whose only field is a part with this format
 abbrev pub inside : {Part Message : Type 0} → (Part → Message) → MessageFormat Part → MessageFormat Message
 inside variant format = record { layout = format.layout; message_of = λ bytes. variant (format.message_of bytes) }
 
@@ -37,7 +38,7 @@ abbrev pub codes_of : {Message : Type 0} → List (ℕ × List (MessageFormat Me
 codes_of [] type = []
 codes_of (listed ∷ others) type = if type == listed.0 then listed.1 else codes_of others type
 
--- The message that a packet with this code is read as. `None` if the code is not listed.
+-- The message that is read from a packet with this code. `None` if the code is not listed.
 abbrev pub listed : {Message : Type 0} → List (MessageFormat Message) → ℕ → List ℕ → Option Message
 listed formats code bytes = option_map (λ format. format.message_of bytes) (slice_get formats code)
 
@@ -51,7 +52,7 @@ pub record Written : Type 0 where
   pub code : ℕ
   pub fields : List ℕ
 
--- the bytes of a header
+-- the bytes of a header with this checksum
 abbrev pub header_bytes : Written → ℕ → List ℕ
 header_bytes message checksum = message.type ∷ message.code ∷ (to_be_bytes w16 checksum ++ message.fields)
 

@@ -1,4 +1,4 @@
-/// The fields of an echo message and of its reply (RFC 792, "Echo or Echo Reply Message"; RFC 4443, sections 4.1 and 4.2).
+/// The fields of an echo message or echo reply message (RFC 792, "Echo or Echo Reply Message"; RFC 4443, sections 4.1 and 4.2).
 ///
 /// ```
 /// use etherparse_transport::{IcmpEchoHeader, Icmpv4Header, Icmpv4Type};
@@ -11,9 +11,9 @@
 /// ```
 #[derive(Clone, Copy, Debug, PartialEq, Eq, PartialOrd, Ord, Hash)]
 pub struct IcmpEchoHeader {
-    /// An identifier that helps to match replies to requests. It may be zero (bytes 4 and 5 of the header).
+    /// An identifier that helps to match replies to requests (bytes 4 and 5 of the header). It may be zero.
     pub id: u16,
-    /// A sequence number that helps to match replies to requests. It may be zero (bytes 6 and 7 of the header).
+    /// A sequence number that helps to match replies to requests (bytes 6 and 7 of the header). It may be zero.
     pub seq: u16,
 }
 

@@ -15,7 +15,7 @@ use net_base::wrong_length;
 use std::marker::Model;
 use word_sum::checksum::Sum16BitWords;
 
-/// The unit of the length field of an error, in bytes (RFC 4884, section 4).
+/// The unit of the length field in an ICMPv4 error message, in bytes (RFC 4884, section 4).
 const LENGTH_UNIT: usize = 4;
 
 /// The bytes of an ICMPv4 packet: the header and the payload after it (RFC 792).
@@ -127,21 +127,22 @@ impl<'a> Icmpv4Slice<'a> {
     /// Whether the checksum is right: the one's complement sum of the packet, checksum included, is all ones (RFC 1071, section 1; RFC
     /// 792). There is no pseudo header. The slice must end at the end of the IP packet.
     ///
-    /// This check detects each change of one byte of a valid packet. It detects each change of one aligned two-byte word, except between
-    /// 0000 and FFFF. If all bytes are zeros after the change, it detects that too, since zeros are not valid. It does not detect that two
-    /// aligned words were exchanged.
+    /// This check detects each change of one byte of a valid packet. It also detects each change of one aligned two-byte word, except from
+    /// 0000 to FFFF or from FFFF to 0000. If all bytes of the changed packet are zeros, the change is always detected, since such a packet
+    /// is not valid. An exchange of two aligned words is not detected.
     pub fn is_checksum_valid(&self) -> bool
         ensures valid { IsTrue result ↔ IsValidIcmpv4 self.now }
-        // The stored checksum is right exactly if it is the checksum computed with zeros in its place, or FFFF if that is 0.
+        // A checksum is computed with zeros in place of the stored checksum. The stored checksum is right exactly if it equals the computed
+        // checksum, or is FFFF while the computed checksum is 0.
         ensures agrees { IsTrue result ↔ AcceptsChecksum (total (with_zero_checksum self.now)) (be_number self.now 2 2) }
-        // These are the changes that the check detects, and a change that it does not detect.
+        // For a valid packet, this states which changes the check detects, and which changes it does not detect.
         ensures detects { IsTrue result → DetectsWithoutPseudoHeader self.now }
     {
         is_valid(self.slice)
     }
 
-    /// The message with its fields (RFC 792). The fields exclude bits that this kind of message does not use. `bytes5to8` contains these
-    /// bits.
+    /// The message with its fields (RFC 792). The fields do not contain the bits that this kind of message does not use. To read those
+    /// bits, call `bytes5to8`.
     #[inline(always)]
     pub fn icmp_type(&self) -> Icmpv4Type
         ensures { result ≡ icmp_type_of self.now }
@@ -152,9 +153,9 @@ impl<'a> Icmpv4Slice<'a> {
         }
     }
 
-    /// The message, in a `Result` that is never `Err`: it would contain the length of a slice without a header. The number next to the
-    /// message is not used.
-    // `Icmpv6Slice::message` gives the reason for the unused number.
+    /// The message, in a `Result` that is never `Err`. An `Err` would contain the length of a slice that is too short for a header. The
+    /// number next to the message is not used.
+    // A comment on `Icmpv6Slice::message` explains the unused number.
     #[inline(always)]
     #[tactic(auto, using(std::proofs::lemmas::Option::slice_get_past, crate::proofs::ListedLemmas::listed_mapped, crate::proofs::ListedLemmas::listed_inside, crate::proofs::Icmpv4FormatLemmas::icmp_type_of_listed))]
     fn message(&self) -> Result<(Icmpv4Type, usize), usize>
@@ -232,7 +233,7 @@ impl<'a> Icmpv4Slice<'a> {
         }
     }
 
-    /// The header as a message with its fields (RFC 792).
+    /// The header (RFC 792): the message with its fields, and the checksum.
     #[inline(always)]
     pub fn header(&self) -> Icmpv4Header
         ensures { result ≡ header_of self.now }
@@ -260,9 +261,9 @@ impl<'a> Icmpv4Slice<'a> {
     }
 
     /// The packet that this error quotes, from its IP header on, as far as the message contains it (RFC 792). `None` if the message is not
-    /// an error. Errors are destination unreachable, source quench, redirect, time exceeded and parameter problem messages. If the length
-    /// field in byte 5 counts at least 128 bytes, it states where the quoted packet ends. Otherwise the error is not extended (RFC 4884,
-    /// sections 3 and 4).
+    /// an error. Errors are destination unreachable, source quench, redirect, time exceeded and parameter problem messages. In destination
+    /// unreachable, time exceeded and parameter problem messages, byte 5 is a length field. If it counts at least 128 bytes, it states
+    /// where the quoted packet ends. Otherwise the quoted packet ends with the message (RFC 4884, sections 3 and 4).
     pub fn quoted_packet(&self) -> Option<&'a [u8]>
         ensures { option_map (λ packet. packet.now) result ≡ quoted_by_icmpv4 self.now }
     {

@@ -84,8 +84,8 @@ pub const CODE_PARAM_PROBLEM_UNRECOG_NEXT_HEADER: u8 = 1;
 pub const CODE_PARAM_PROBLEM_UNRECOG_IPV6_OPTION: u8 = 2;
 /// Parameter problem: the first fragment has an incomplete IPv6 header chain (RFC 7112, section 5).
 pub const CODE_PARAM_PROBLEM_IPV6_FIRST_FRAG_INCOMP_HEADER_CHAIN: u8 = 3;
-/// Parameter problem: the node does not process this upper-layer header in a packet whose destination is its segment identifier (RFC 8754,
-/// section 4.3.1.2).
+/// Parameter problem: the destination is a segment identifier of a node that does not process this upper-layer header (RFC 8754, section
+/// 4.3.1.2).
 pub const CODE_PARAM_PROBLEM_SR_UPPER_LAYER_HEADER_ERROR: u8 = 4;
 /// Parameter problem: the type of the next header is unrecognized by an intermediate node (RFC 8883, section 2).
 pub const CODE_PARAM_PROBLEM_UNRECOG_NEXT_HEADER_BY_INTERMEDIATE_NODE: u8 = 5;

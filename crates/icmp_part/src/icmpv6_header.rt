@@ -41,8 +41,8 @@ impl Icmpv6Header {
     /// The length of the header, in bytes: an older name of `MIN_LEN`.
     pub const MIN_SERIALIZED_SIZE: usize = Icmpv6Header::MIN_LEN;
 
-    /// The capacity of the bytes that `to_bytes` returns: a header, and the two addresses after the header of a
-    /// redirect message (RFC 4861, section 4.5). The length of every header is `MIN_LEN`.
+    /// The capacity of the `ArrayVec` that `to_bytes` returns, in bytes. It has room for a redirect header and the two addresses after it
+    /// (RFC 4861, section 4.5). Every header has the length `MIN_LEN`.
     pub const MAX_LEN: usize = 40;
 
     /// An older name of `MAX_LEN`.
@@ -112,9 +112,8 @@ impl Icmpv6Header {
         Ok(())
     }
 
-    /// Reads a header (RFC 4443, section 2.1). Returns the header and the bytes after it. The slice must end at the end
-    /// of the IP packet. Bits that the kind of the message does not use are not kept, including the bits of RFC 4884.
-    /// The checksum is not checked.
+    /// Reads a header (RFC 4443, section 2.1). Returns the header and the bytes after it. The slice must end at the end of the IP packet.
+    /// Bits that this kind of message does not use are dropped, for example the length field of RFC 4884. The checksum is not checked.
     ///
     /// # Errors
     ///
@@ -131,10 +130,10 @@ impl Icmpv6Header {
         Ok((packet.header(), packet.payload()))
     }
 
-    /// The bytes of the header (RFC 4443, section 2.1). Unused bytes are zero.
+    /// The bytes of the header (RFC 4443, section 2.1). Unused bits are zero.
     ///
-    /// With a payload of at most 4,294,967,287 bytes after them, these bytes are read back as the same header. There is
-    /// one exception: `Unknown` with the type and code of another kind is read back as that kind.
+    /// If a payload of at most 4,294,967,287 bytes follows these bytes, they are read back as the same header. There is one exception:
+    /// `Unknown` with the type and code of another kind is read back as that kind.
     #[inline(always)]
     #[tactic(auto, using(crate::proofs::Icmpv6ReadsBackLemmas::written_reads_back))]
     pub fn to_bytes(&self) -> ArrayVec<u8, 40>

@@ -17,10 +17,10 @@ use net_base::err::{Layer, LenError};
 use net_base::{ip_number, pseudo_header_ipv6};
 use std::marker::Model;
 
-/// The unit of the length field of an error, in bytes (RFC 4884, section 4).
+/// The unit of the length field in an ICMPv6 error message, in bytes (RFC 4884, section 4).
 const LENGTH_UNIT: usize = 8;
 
-/// The greatest type of an error (RFC 4443, section 2.1).
+/// The greatest type of an ICMPv6 error message (RFC 4443, section 2.1).
 const MAX_ERROR_TYPE: u8 = 127;
 
 /// The bytes of an ICMPv6 packet: the header and the payload after it (RFC 4443, section 2.1).
@@ -122,11 +122,12 @@ impl<'a> Icmpv6Slice<'a> {
     /// Whether the checksum is right: the one's complement sum of pseudo header and packet is all ones (RFC 1071, section 1; RFC 4443,
     /// section 2.3). If the packet has a routing header, pass the final destination.
     ///
-    /// This check detects each change of one byte of a valid packet. It detects each change of one aligned two-byte word, except between
-    /// 0000 and FFFF. It does not detect that two aligned words were exchanged.
+    /// This check detects each change of one byte of a valid packet. It also detects each change of one aligned two-byte word, except from
+    /// 0000 to FFFF or from FFFF to 0000. An exchange of two aligned words is not detected.
     pub fn is_checksum_valid(&self, source_ip: [u8; 16], destination_ip: [u8; 16]) -> bool
         ensures valid { IsTrue result ↔ IsValidIcmpv6 source_ip destination_ip self.now }
-        // The stored checksum is right exactly if it is the checksum computed with zeros in its place, or FFFF if that is 0.
+        // A checksum is computed with zeros in place of the stored checksum. The stored checksum is right exactly if it equals the computed
+        // checksum, or is FFFF while the computed checksum is 0.
         ensures agrees { IsTrue result ↔ AcceptsChecksum
             (total (pseudo_header source_ip destination_ip (length self.now)) + total (with_zero_checksum self.now)) (be_number self.now 2 2) }
         ensures detects { IsTrue result → Detects (IsValidIcmpv6 source_ip destination_ip) self.now }
@@ -134,8 +135,8 @@ impl<'a> Icmpv6Slice<'a> {
         is_valid(self.slice, source_ip, destination_ip)
     }
 
-    /// The message with its fields (RFC 4443, RFC 4861). The fields exclude bits that this kind of message does not use. `bytes5to8`
-    /// contains these bits.
+    /// The message with its fields (RFC 4443, RFC 4861). The fields do not contain the bits that this kind of message does not use. To read
+    /// those bits, call `bytes5to8`.
     #[inline(always)]
     pub fn icmp_type(&self) -> Icmpv6Type
         ensures { result ≡ icmp_type_of self.now }
@@ -146,13 +147,13 @@ impl<'a> Icmpv6Slice<'a> {
         }
     }
 
-    /// The message, in a `Result` that is never `Err`: it would contain the length of a slice without a header. The number next to the
-    /// message is not used.
-    // perf: each arm of this single match returns the message that it builds (23 Nov 2026). If a message is the value of an arm, or comes
-    // from a call in an arm, it is copied by loads that are wider than the stores before them. That takes four times as long. The bytes of
-    // `Unknown` overlap the numbers of the other kinds, so that message alone is stored in two parts and loaded as one. The unused number,
-    // like that of an `Err`, makes the message begin at a multiple of eight bytes. So its first eight bytes are one number in a register.
-    // This halves the time of an unknown message (26 Nov 2026).
+    /// The message, in a `Result` that is never `Err`. An `Err` would contain the length of a slice that is too short for a header. The
+    /// number next to the message is not used.
+    // perf: each arm of this single match returns the message that it builds (23 Nov 2026). Two other forms are slow: a message that is the
+    // value of an arm, and a message that a call in an arm returns. It is copied by loads that are wider than the stores before them, which
+    // takes four times as long. In memory, the bytes of `Unknown` overlap the numbers of other variants, so only `Unknown` is stored in two
+    // parts and loaded as one. The unused numbers in `Ok` and `Err` align the message to eight bytes. So its first eight bytes are one
+    // number in a register. This halves the time of an unknown message (26 Nov 2026).
     #[inline(always)]
     #[tactic(auto, using(std::proofs::lemmas::Option::slice_get_past, crate::proofs::ListedLemmas::listed_mapped, crate::proofs::Icmpv6FormatLemmas::icmp_type_of_listed))]
     fn message(&self) -> Result<(Icmpv6Type, usize), usize>
@@ -217,7 +218,7 @@ impl<'a> Icmpv6Slice<'a> {
         Ok((unknown, 0))
     }
 
-    /// The header as a message with its fields (RFC 4443, RFC 4861).
+    /// The header (RFC 4443, RFC 4861): the message with its fields, and the checksum.
     #[inline(always)]
     pub fn header(&self) -> Icmpv6Header
         ensures { result ≡ header_of self.now }
@@ -245,9 +246,9 @@ impl<'a> Icmpv6Slice<'a> {
     }
 
     /// The packet that this error quotes, from its IPv6 header on, as far as the message contains it (RFC 4443, sections 2.1 and 2.4).
-    /// `None` if the message is not an error. Each message with a type below 128 is an error. Destination unreachable and time exceeded
-    /// messages have a length field in byte 4. If it counts at least 128 bytes, it states where the quoted packet ends. Otherwise the error
-    /// is not extended (RFC 4884, sections 3 and 4).
+    /// `None` if the message is not an error. Each message with a type below 128 is an error. In destination unreachable and time exceeded
+    /// messages, byte 4 is a length field. If it counts at least 128 bytes, it states where the quoted packet ends. Otherwise the quoted
+    /// packet ends with the message (RFC 4884, sections 3 and 4).
     pub fn quoted_packet(&self) -> Option<&'a [u8]>
         ensures { option_map (λ packet. packet.now) result ≡ quoted_by_icmpv6 self.now }
     {

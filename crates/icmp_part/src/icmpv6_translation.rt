@@ -12,8 +12,8 @@ impl Icmpv6Header {
     ghost use Rattle.icmp_part.specs.EchoIdentifier.{icmpv6_echo_id, icmpv6_with_echo_id};
     ghost use Rattle.icmp_part.specs.Icmpv6Format.{checksummed};
 
-    /// Replaces the identifier of an echo request or its reply, updates the checksum, and returns the old identifier.
-    /// For any other message the call returns `None`, and the header is unchanged.
+    /// Replaces the identifier of an echo request or echo reply, updates the checksum, and returns the old identifier. For any other
+    /// message the call returns `None`, and the header is unchanged.
     ///
     /// In a fragmented packet only the first fragment contains the header, and its checksum covers all fragments (RFC 8200, section 4.5).
     pub fn translate_echo_id(&mut self, id: u16) -> Option<u16>
@@ -28,7 +28,8 @@ impl Icmpv6Header {
         ensures verifies { (source destination payload : List ℕ) → length source ≡ 16 → length destination ≡ 16 →
             (IsAllOnes (checksummed source destination self.new payload + self.new.checksum))
             ↔ (IsAllOnes (checksummed source destination self.old payload + self.old.checksum)) }
-        // The new checksum is the result of RFC 1624, section 3, equation 3, which decides between 0 and 65535.
+        // The new checksum is the result of equation 3 in RFC 1624, section 3. If both 0 and 65535 are possible, this equation determines
+        // which of them is stored.
         ensures equation { IfSome result (λ was. self.new.checksum
             ≡ updated_checksum_of self.old.checksum (folded (total (to_be_bytes w16 was))) (folded (total (to_be_bytes w16 id)))) }
     {
@@ -38,16 +39,17 @@ impl Icmpv6Header {
         Some(old)
     }
 
-    /// Updates the checksum of any message after its source or destination `old` was replaced by `new`. If the packet has a routing header,
-    /// the checksum covers the final destination.
+    /// Updates the checksum of any message after its source or destination address changed from `old` to `new`. If the packet has a routing
+    /// header, the checksum covers the final destination.
     ///
-    /// The checksum of a packet covers the unused bits of its header. If they may be set, change the bytes of the packet, and its checksum
-    /// by `ChecksumChange`, since a header that was read does not keep them.
+    /// The checksum of a packet covers the unused bits of its header, but an `Icmpv6Header` does not contain these bits. If they may be
+    /// set, change the bytes of the packet instead of the header. Update the checksum in these bytes with `ChecksumChange`.
     ///
     /// In a fragmented packet only the first fragment contains the header, and its checksum covers all fragments (RFC 8200, section 4.5).
     pub fn translate_address(&mut self, old: [u8; 16], new: [u8; 16])
         ensures unchanged { self.new ≡ record self.old { checksum = self.new.checksum } }
-        // A right checksum becomes the right checksum for the new source, or for the new destination.
+        // If the source was replaced, a right checksum becomes the right checksum for the new source. The next clause states this for the
+        // destination.
         ensures source { (destination payload : List ℕ) → length destination ≡ 16 →
             self.old.checksum ≡ checksum_of (checksummed old destination self.old payload) →
             self.new.checksum ≡ checksum_of (checksummed new destination self.new payload) }
@@ -61,7 +63,8 @@ impl Icmpv6Header {
         ensures destination_verifies { (source payload : List ℕ) → length source ≡ 16 →
             (IsAllOnes (checksummed source new self.new payload + self.new.checksum))
             ↔ (IsAllOnes (checksummed source old self.old payload + self.old.checksum)) }
-        // The new checksum is the result of RFC 1624, section 3, equation 3, which decides between 0 and 65535.
+        // The new checksum is the result of equation 3 in RFC 1624, section 3. If both 0 and 65535 are possible, this equation determines
+        // which of them is stored.
         ensures equation { self.new.checksum ≡ updated_checksum_of self.old.checksum (folded (total old)) (folded (total new)) }
     {
         self.checksum = ChecksumChange::new()
@@ -73,7 +76,7 @@ impl Icmpv6Header {
 impl Icmpv6Type {
     ghost use Rattle.icmp_part.specs.EchoIdentifier.{icmpv6_echo_id, icmpv6_with_echo_id};
 
-    /// Replaces the identifier of an echo request or its reply, and returns the old identifier.
+    /// Replaces the identifier of an echo request or echo reply, and returns the old identifier. `None` for any other message.
     fn replace_echo_id(&mut self, id: u16) -> Option<u16>
         ensures was { result ≡ icmpv6_echo_id self.old }
         ensures replaced { self.new ≡ icmpv6_with_echo_id self.old id }

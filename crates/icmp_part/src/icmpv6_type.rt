@@ -15,8 +15,7 @@ use arrayvec::ArrayVec;
 use net_base::err::{ValueTooBigError, ValueType};
 use net_base::{check_payload_len, ip_number, pseudo_header_ipv6};
 
-/// An ICMPv6 message by type and code, with its fields (RFC 4443, RFC 4861). Bytes are counted from the start of the
-/// header.
+/// An ICMPv6 message by type and code, with its fields (RFC 4443, RFC 4861). Bytes are numbered from the start of the header, from 0.
 ///
 /// ```
 /// use etherparse_transport::Icmpv6Type;
@@ -31,10 +30,10 @@ use net_base::{check_payload_len, ip_number, pseudo_header_ipv6};
 /// ```
 #[derive(Clone, Copy, Debug, PartialEq, Eq, PartialOrd, Ord, Hash)]
 pub enum Icmpv6Type {
-    /// A message of any other type and code. Its bytes are kept unchanged.
+    /// A message whose type and code belong to no other variant. Bytes 4 to 7 are stored unchanged.
     ///
-    /// With the type and code of another kind, it is written unchanged, but read back as that kind, without the bits that the kind does not
-    /// use.
+    /// If a caller sets a type and code that belong to another variant, the message is written unchanged. It is read back as that variant,
+    /// without the bits that the variant does not use.
     Unknown {
         /// The type (byte 0).
         type_u8: u8,
@@ -45,8 +44,8 @@ pub enum Icmpv6Type {
     },
     /// A packet could not be delivered (RFC 4443, section 3.1).
     DestinationUnreachable(DestUnreachableCode),
-    /// A packet was larger than the MTU of the next link (RFC 4443, section 3.2). Only a message with code 0, which senders use, is read as
-    /// this variant.
+    /// A packet was larger than the MTU of the next link (RFC 4443, section 3.2). Senders use code 0. A message with another code is read
+    /// as `Unknown`.
     PacketTooBig {
         /// The MTU of the next link, in bytes (bytes 4 to 7).
         mtu: u32,
@@ -65,10 +64,11 @@ pub enum Icmpv6Type {
     RouterAdvertisement(RouterAdvertisementHeader),
     /// A request for a neighbor's link-layer address (RFC 4861, section 4.3). The payload begins with the target's address.
     NeighborSolicitation,
-    /// The answer to a neighbor solicitation, or an unsolicited message (RFC 4861, section 4.4). The payload begins with the target's
+    /// The answer to a neighbor solicitation, or an unsolicited announcement (RFC 4861, section 4.4). The payload begins with the target's
     /// address.
     NeighborAdvertisement(NeighborAdvertisementHeader),
-    /// A router tells a host a better first hop for a destination (RFC 4861, section 4.5). The payload begins with the addresses of both.
+    /// A router tells a host a better first hop for a destination (RFC 4861, section 4.5). The payload begins with the address of the first
+    /// hop and the address of the destination.
     Redirect,
 }
 
@@ -93,13 +93,14 @@ impl Icmpv6Type {
         self.start().code_u8()
     }
 
-    /// The first eight bytes of the header. The checksum is missing, and unused bits are zero.
+    /// The first eight bytes of the header, without the checksum. Unused bits are zero.
     #[inline(always)]
     pub(crate) fn start(&self) -> MessageStart
         ensures written { result ≡ written self.now }
         ensures fits { FieldsFit self.now }
     {
-        // The bytes of `Unknown` are read one by one. An array would be loaded at once, and overlaps the numbers of the other kinds.
+        // The bytes of `Unknown` are read one by one. An array would be loaded at once, from memory in which other variants store several
+        // numbers.
         match self {
             Self::Unknown {
                 type_u8,

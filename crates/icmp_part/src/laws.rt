@@ -1,5 +1,5 @@
-//! Laws of the types and constants: the results of a clone, of `==`, of an order and of a hash. Each law is the
-//! contract of a function that makes this one call.
+//! Laws of the types and constants: the results of `clone`, `==`, `cmp` and `hash`, and the values of constants. Each law is the contract
+//! of a function. The function makes only the call that the law describes, or no call.
 //!
 //! # Errors
 //!

@@ -73,8 +73,8 @@ impl MessageStart {
     pub(crate) fn to_array(self, checksum: u16) -> [u8; 8]
         ensures { result ≡ header_bytes self checksum }
     {
-        // perf: the header is one number, so that it is stored by one instruction. As eight bytes it was eight moves, or sixteen
-        // instructions that joined them (27 Nov 2026).
+        // perf: the header is one number, so that it is stored by one instruction. As eight single bytes it took eight moves, or sixteen
+        // instructions to join the bytes (27 Nov 2026).
         let number = u64::from(self.type_and_code)
             + u64::from(checksum.swap_bytes()) * 0x1_0000
             + u64::from(self.bytes5to8) * 0x1_0000_0000;
@@ -82,8 +82,8 @@ impl MessageStart {
     }
 
     /// The eight bytes of the header with this checksum, as a list with room for more bytes.
-    // perf: each byte is pushed, so that the bytes are not stored before they are written together. Extending by a slice takes twice as
-    // long.
+    // perf: each byte is pushed by itself, and the compiler writes all of them together. Extending by a slice first stores the bytes
+    // elsewhere, and takes twice as long.
     #[inline(always)]
     pub(crate) fn to_bytes<const CAPACITY: usize>(self, checksum: u16) -> ArrayVec<u8, CAPACITY>
         requires { 8 ≤ CAPACITY }
@@ -112,7 +112,8 @@ impl MessageStart {
     }
 }
 
-/// Writes these bytes to the front of the slice, and returns their number. The bytes after them are not changed.
+/// Writes these bytes to the front of the slice, and returns their number. The rest of the slice is not changed. Returns a `LenError` of
+/// this layer if the slice is too short.
 #[inline(always)]
 pub(crate) fn write_array<const N: usize>(
     slice: &mut [u8],

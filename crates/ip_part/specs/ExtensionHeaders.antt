@@ -103,9 +103,9 @@ has_segments_left number bytes = number == routing && not (slice_index bytes 3 =
 abbrev pub entry : List ℕ → ℕ → List ℕ
 entry bytes index = slice_range bytes (8 + index * 16) (24 + index * 16)
 
--- The final destination that a routing header with segments left states. In type 0 it is the last address of the header, and the length
--- byte is twice the number of addresses (RFC 2460, section 4.4). In type 2 it is the home address (RFC 6275, section 6.4.1). In type 4 it
--- is the first entry of the segment list, which is the last segment (RFC 8754, section 2). For any other type, or if the header contains no
+-- The final destination in a routing header that has segments left. In type 0 it is the last address of the header, and the length byte is
+-- twice the number of addresses (RFC 2460, section 4.4). In type 2 it is the home address (RFC 6275, section 6.4.1). In type 4 it is the
+-- first entry of the segment list, which is the last segment (RFC 8754, section 2). For any other type, or if the header contains no
 -- address, it is unknown.
 abbrev pub final_destination : List ℕ → Option (List ℕ)
 final_destination bytes =
@@ -115,14 +115,13 @@ final_destination bytes =
     else if slice_index bytes 2 == 2 || slice_index bytes 2 == 4 then Some (entry bytes 0)
     else None
 
--- the final destination after this extension header is added; only a routing header with segments left changes it
+-- the final destination, updated by this extension header; only a routing header with segments left changes it
 abbrev pub destination_after : Option (List ℕ) → ℕ → List ℕ → Option (List ℕ)
 destination_after destination number bytes = if has_segments_left number bytes then final_destination bytes else destination
 
 -- ---- home address
 
--- the source after this extension header is added; only destination options with a home address change it (RFC 6275, sections 6.3 and
--- 9.3.1)
+-- the source, updated by this extension header; only destination options with a home address change it (RFC 6275, sections 6.3 and 9.3.1)
 abbrev pub source_after : List ℕ → ℕ → List ℕ → List ℕ
 source_after source number bytes = if number == destination_options then home_address_after source bytes else source
 
@@ -133,7 +132,7 @@ pub record ExtensionHeader : Type 0 where
   pub number : ℕ
   pub bytes : List ℕ
 
--- the bytes of the extension header are exactly as many as it states
+-- The extension header is whole. Its number is known, and it has exactly as many bytes as it states, at least 8.
 pub record IsWhole (header : ExtensionHeader) : Type 0 where
   pub known : is_extension header.number ≡ true
   pub shortest : 8 ≤ length header.bytes
@@ -150,8 +149,8 @@ IsChain is_ipv6 may_be_extended number (header ∷ headers) protocol =
     (may_be_extended ≡ true) × (header.number ≡ number) × IsWhole header
     × IsChain is_ipv6 (is_ipv6 && not (is_later_fragment header.number header.bytes)) (next_number header.bytes) headers protocol
 
--- Extension headers, one after the other, as in `IsChain`. After them another extension header may come, and it has the number `next`. This
--- is the extension header that is refused.
+-- Extension headers, one after the other, as in `IsChain`. After them comes another extension header, with the number `next`. This is the
+-- extension header that is refused.
 abbrev pub LeadsTo : Bool → Bool → ℕ → List ExtensionHeader → ℕ → Type 0
 LeadsTo is_ipv6 may_be_extended number [] next = (number ≡ next) × (may_be_extended ≡ true) × (is_extension next ≡ true)
 LeadsTo is_ipv6 may_be_extended number (header ∷ headers) next =
@@ -186,7 +185,7 @@ abbrev pub front_of : ℕ → List ℕ → ExtensionHeader
 front_of number rest = record { number = number; bytes = take (extension_len number rest) rest }
 
 -- The bytes are too few for an extension header of this number. There are fewer than 8 bytes, the least length of an extension header, or
--- fewer bytes than the header states.
+-- fewer bytes than the header states. `required_len` is 8 or the stated length.
 abbrev pub LacksBytes : ℕ → List ℕ → ℕ → Type 0
 LacksBytes number rest required_len =
     ((length rest < 8) × (required_len ≡ 8))
@@ -218,6 +217,7 @@ abbrev pub destination_by : Option (List ℕ) → List ExtensionHeader → Optio
 destination_by destination headers =
     fold (λ destination header. destination_after destination header.number header.bytes) destination headers
 
--- the source of a packet with these extension headers: the last home address, or this source if there is none
+-- the source of a packet with these extension headers: the last home address in destination options, or `source` if there is no home
+-- address
 abbrev pub source_by : List ℕ → List ExtensionHeader → List ℕ
 source_by source headers = fold (λ source header. source_after source header.number header.bytes) source headers

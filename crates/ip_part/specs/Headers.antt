@@ -1,4 +1,4 @@
--- The contents of the headers of an IP packet that were read, with the addresses as bytes.
+-- The contents of the headers that were read in an IP packet, with the addresses as bytes.
 use Rattle.std.specs.Prelude.{ℕ, Bool, Result, Ok, Err}
 use Rattle.net_base.specs.declared.ip_number.IpNumber.{IpNumber}
 use Rattle.ip_part.specs.Addresses.{Addresses, by_value}
@@ -18,6 +18,7 @@ pub record Headers : Type 0 where
   pub payload_len : ℕ
   pub is_jumbogram : Bool
 
+-- the contents of the headers, with the values of the borrowed addresses
 abbrev pub headers_by_value : borrowed.Headers → Headers
 headers_by_value headers = record {
   addresses = by_value headers.addresses;
@@ -30,6 +31,7 @@ headers_by_value headers = record {
   is_jumbogram = headers.is_jumbogram;
 }
 
+-- the result, with the values of the borrowed addresses
 abbrev pub result_by_value : {E : Type 0} → Result borrowed.Headers E → Result Headers E
 result_by_value (Ok headers) = Ok (headers_by_value headers)
 result_by_value (Err error) = Err error

@@ -27,7 +27,7 @@ ipv6_header packet = take 40 packet
 abbrev pub total_len : List ℕ → ℕ
 total_len packet = be_number (ipv4_header packet) 2 2
 
--- the error of an IPv4 header, if there is one: it states a length below five words, or it is cut off
+-- The error of an IPv4 header, if it has an error. The header states a length below 20 bytes, or it is cut off.
 abbrev pub ipv4_header_refusal : List ℕ → Option IpError
 ipv4_header_refusal packet = first_of (
     refused_if (nat_lt (length packet) 20) (HeaderCutOff 20 (length packet))
@@ -35,8 +35,8 @@ ipv4_header_refusal packet = first_of (
     ∷ refused_if (nat_lt (length packet) (ipv4_header_len packet)) (HeaderCutOff (ipv4_header_len packet) (length packet))
     ∷ [])
 
--- The error of an IPv4 header, if there is one, or the error for a total length below the header length. A total length of 0 is no error
--- here, since it states no length.
+-- The error of an IPv4 header, or the error for a total length below the header length. A total length of 0 states no length, so it is
+-- accepted here.
 abbrev pub ipv4_refusal : List ℕ → Option IpError
 ipv4_refusal packet = first_of (
     ipv4_header_refusal packet
@@ -52,7 +52,8 @@ payload_len packet = be_number (ipv6_header packet) 4 2
 abbrev pub next_header : List ℕ → ℕ
 next_header packet = slice_index (ipv6_header packet) 6
 
--- the packet has payload length 0 and begins with hop-by-hop options, which must then contain the length (RFC 2675, section 3)
+-- The packet has payload length 0, and hop-by-hop options follow the IPv6 header. Then these options must contain the length (RFC 2675,
+-- section 3).
 abbrev pub has_len_in_options : List ℕ → Bool
 has_len_in_options packet = payload_len packet == 0 && next_header packet == hop_by_hop_options
 
@@ -60,14 +61,15 @@ has_len_in_options packet = payload_len packet == 0 && next_header packet == hop
 abbrev pub options_at : List ℕ → List ℕ
 options_at rest = take (extension_len hop_by_hop_options rest) rest
 
--- the length that these hop-by-hop options contain
+-- the jumbo payload length in the hop-by-hop options at the front of `rest`, if they contain a jumbo payload option
 abbrev pub len_in_options : List ℕ → Option ℕ
 len_in_options rest = jumbo_payload_len (options_at rest)
 
--- the jumbo payload length of a packet, if it has one, which counts the bytes after the IPv6 header; and whether it has one
+-- the jumbo payload length of a packet, if the packet has one; it counts the bytes after the IPv6 header
 abbrev pub jumbo_len : List ℕ → Option ℕ
 jumbo_len packet = if has_len_in_options packet then len_in_options (drop 40 packet) else None
 
+-- the packet has a jumbo payload length
 abbrev pub is_jumbogram : List ℕ → Bool
 is_jumbogram packet = is_some (jumbo_len packet)
 
@@ -79,23 +81,25 @@ options_refusal rest = first_of (
     (HeaderCutOff (40 + extension_len hop_by_hop_options rest) (40 + length rest))
     ∷ [])
 
--- The greatest length that the payload length field can state. A jumbo payload length is refused unless it is greater (RFC 2675, section
--- 2).
+-- The greatest length that the payload length field can state. A jumbo payload length must be greater (RFC 2675, section 2).
 abbrev pub max_payload_len : ℕ
 max_payload_len = 65535
 
+-- the error for a jumbo payload length that is not above `max_payload_len`
 abbrev pub jumbo_len_refusal : Option ℕ → Option IpError
 jumbo_len_refusal None = None
 jumbo_len_refusal (Some len) = refused_if (nat_le len max_payload_len) (JumboPayloadLength len)
 
--- the first error that applies: for hop-by-hop options that are cut off, for a jumbo payload length that is too small
+-- The error of the hop-by-hop options that must contain the length. They are cut off, or else their jumbo payload length is too small.
 abbrev pub len_in_options_refusal : List ℕ → Option IpError
 len_in_options_refusal rest = first_of (options_refusal rest ∷ jumbo_len_refusal (len_in_options rest) ∷ [])
 
+-- the error of the hop-by-hop options of a packet, if they must contain the length
 abbrev pub jumbo_refusal : List ℕ → Option IpError
 jumbo_refusal packet = if has_len_in_options packet then len_in_options_refusal (drop 40 packet) else None
 
--- the first error that applies: for an IPv6 header that is cut off, for hop-by-hop options that must contain the length
+-- The error of an IPv6 header, if it has an error. The header is cut off, or else the hop-by-hop options that must contain the length have
+-- an error.
 abbrev pub ipv6_refusal : List ℕ → Option IpError
 ipv6_refusal packet = first_of (
     refused_if (nat_lt (length packet) 40) (HeaderCutOff 40 (length packet))
@@ -111,7 +115,7 @@ header_refusal packet =
     else if version packet == 6 then ipv6_refusal packet
     else Some (Version (version packet))
 
--- the number of bytes that an IPv4 header states, including the header itself: its total length (RFC 791, section 3.1); 0 states no length
+-- the packet length that an IPv4 header states: its total length (RFC 791, section 3.1); a total length of 0 states no length
 abbrev pub ipv4_stated_len : List ℕ → Option ℕ
 ipv4_stated_len packet = if total_len packet == 0 then None else Some (total_len packet)
 
@@ -119,7 +123,7 @@ ipv4_stated_len packet = if total_len packet == 0 then None else Some (total_len
 abbrev pub no_next_header : ℕ
 no_next_header = 59
 
--- The number of bytes that an IPv6 header states, including the header itself. It is 40 plus the jumbo payload length, if there is one (RFC
+-- The packet length that an IPv6 header states, including the header itself. It is 40 plus the jumbo payload length, if there is one (RFC
 -- 2675, section 2), and otherwise 40 plus the payload length (RFC 8200, section 3). A payload length of 0 states no length, except if the
 -- next header is "no next header". Then the packet ends with its header (RFC 8200, section 4.7).
 abbrev pub ipv6_stated_len : Option ℕ → ℕ → ℕ → Option ℕ
@@ -127,6 +131,7 @@ ipv6_stated_len (Some jumbo_len) payload_len next_header = Some (40 + jumbo_len)
 ipv6_stated_len None payload_len next_header =
     if payload_len == 0 && not (next_header == no_next_header) then None else Some (40 + payload_len)
 
+-- the packet length that the IP header states, if it states a length
 abbrev pub stated_len : List ℕ → Option ℕ
 stated_len packet =
     if version packet == 4 then ipv4_stated_len packet else ipv6_stated_len (jumbo_len packet) (payload_len packet) (next_header packet)
@@ -135,8 +140,8 @@ stated_len packet =
 abbrev pub lacks_len : List ℕ → Bool
 lacks_len packet = is_none (stated_len packet)
 
--- The number of bytes that the header counts, including the header itself. If the length is missing, all bytes are counted. Otherwise it is
--- the stated length, or 40 for an IPv6 header that states no length.
+-- The number of bytes that the header counts, including the header itself. If `is_length_missing` is true, all bytes are counted. Otherwise
+-- the number is the stated length. For an IPv6 header that states no length, it is 40.
 abbrev pub counted_len : Bool → List ℕ → ℕ
 counted_len is_length_missing packet =
     if is_length_missing then length packet
@@ -147,12 +152,12 @@ counted_len is_length_missing packet =
 abbrev pub counted : Bool → List ℕ → List ℕ
 counted is_length_missing packet = take (counted_len is_length_missing packet) packet
 
--- the final destination of an IPv4 packet, by the source route in its header if there is one
+-- the final destination of an IPv4 packet, as its header and the source route in its options state it
 abbrev pub ipv4_destination : List ℕ → List ℕ
 ipv4_destination header = ipv4_destination_by (slice_range header 16 20) (options_of ipv4_option (drop 20 header))
 
 -- An authentication header follows the IPv4 header directly. The protocol of the IPv4 header is 51 (RFC 4302, section 3.1), and the packet
--- is not a later fragment, whose bytes are a later part of a packet.
+-- is not a later fragment. In a later fragment, payload follows the IPv4 header instead.
 abbrev pub has_authentication : List ℕ → Bool
 has_authentication header = slice_index header 9 == authentication && ipv4_fragment_offset header == 0
 
@@ -188,16 +193,18 @@ first_headers packet =
     if version packet == 4 then ipv4_headers (ipv4_header_len packet) (ipv4_header packet)
     else ipv6_headers (is_jumbogram packet) (ipv6_header packet)
 
--- The error of a header that must state a length and does not. The total length of IPv4 counts at least the header (RFC 791, section 3.1).
--- If the payload length of IPv6 is 0 and hop-by-hop options follow the header, they must contain the length (RFC 2675, section 3).
+-- The error of a header that states no length although it must state one. The total length of IPv4 counts at least the header (RFC 791,
+-- section 3.1). If the payload length of IPv6 is 0 and hop-by-hop options follow the header, they must contain the length (RFC 2675,
+-- section 3).
 abbrev pub own_len_refusal : Addresses → ℕ → ℕ → Option IpError
 own_len_refusal (Ipv4 source destination) number len = Some (TotalLength 0 len)
 own_len_refusal (Ipv6 source destination) number len = refused_if (number == hop_by_hop_options) JumboPayloadMissing
 
+-- the error of an IP header with these contents that states no length, if it must state one
 abbrev pub missing_len_refusal : Headers → Option IpError
 missing_len_refusal headers = own_len_refusal headers.addresses headers.protocol.0 headers.len
 
--- the error of an IP header, if there is one, or the error of a header that must state a length and does not
+-- the error of an IP header, or the error of a header that states no length although it must state one
 abbrev pub strict_header_refusal : List ℕ → Option IpError
 strict_header_refusal packet = first_of (
     header_refusal packet
@@ -218,8 +225,8 @@ extension_header headers rest = take (extension_len headers.protocol.0 rest) res
 abbrev pub is_first_options : Headers → Bool
 is_first_options headers = headers.len == 40 && headers.protocol.0 == hop_by_hop_options
 
--- the error if an extension header breaks RFC 2675, section 3: a jumbo payload option in a packet whose payload length is not 0, or a
--- fragment header in a jumbogram
+-- The error of an extension header that breaks RFC 2675, section 3. It contains a jumbo payload option directly after an IPv6 header whose
+-- payload length is not 0. Or it is a fragment header in a jumbogram.
 abbrev pub jumbogram_refusal : Headers → List ℕ → Option IpError
 jumbogram_refusal headers header = first_of (
     refused_if (not (headers.payload_len == 0) && (is_first_options headers && is_some (jumbo_payload_len header)))
@@ -236,17 +243,17 @@ extension_refusal headers rest = first_of (
     ∷ jumbogram_refusal headers (extension_header headers rest)
     ∷ [])
 
--- the addresses after an extension header of this number is added
+-- the addresses, updated by an extension header of this number
 abbrev pub with_header : Addresses → ℕ → List ℕ → Addresses
 with_header (Ipv4 source destination) number header = Ipv4 source destination
 with_header (Ipv6 source destination) number header = Ipv6 (source_after source number header) (destination_after destination number header)
 
--- the addresses after the next extension header is added
+-- the addresses, updated by the next extension header
 abbrev pub addresses_after : Headers → List ℕ → Addresses
 addresses_after headers header = with_header headers.addresses headers.protocol.0 header
 
--- The contents of the headers after the next extension header is added. No header follows the fragment header of a later fragment, since
--- its payload is a later part of a packet. Over IPv4 no second extension header follows.
+-- Adds the next extension header to the contents of the headers. No header follows the fragment header of a later fragment, since its
+-- payload is a later part of a packet. Over IPv4 no second extension header follows.
 abbrev pub headers_after : Headers → List ℕ → Headers
 headers_after headers header = record {
   addresses = addresses_after headers header;
@@ -266,7 +273,7 @@ abbrev pub unless_refused : {T E : Type 0} → Option E → Result T E → Resul
 unless_refused (Some error) result = Err error
 unless_refused None result = result
 
--- the contents of the headers after all extension headers that follow are added; at most this number of headers is read
+-- Adds all extension headers that follow to the contents of these headers. At most this number of extension headers is read.
 unfoldable pub headers_to_transport : ℕ → Headers → List ℕ → Result Headers IpError
 headers_to_transport zero headers bytes = Ok headers
 headers_to_transport (suc more) headers bytes =
@@ -275,13 +282,15 @@ headers_to_transport (suc more) headers bytes =
     (headers_to_transport more (headers_after headers (extension_header headers (drop headers.len bytes))) bytes)
     else Ok headers
 
--- The contents of all headers of a packet up to its transport. Each header has at least one byte, so the bytes limit the number of headers.
+-- The contents of all headers of a packet up to its transport. Each extension header has at least one byte, so the number of bytes limits
+-- the number of headers.
 abbrev pub headers_of : Bool → List ℕ → Result Headers IpError
 headers_of is_length_missing packet =
     headers_to_transport (suc (length (counted is_length_missing packet))) (first_headers packet) (counted is_length_missing packet)
 
 -- ---- the two calls
 
+-- the error of a result, if the result is an error
 abbrev pub error_of : {T E : Type 0} → Result T E → Option E
 error_of (Ok value) = None
 error_of (Err error) = Some error
@@ -290,8 +299,8 @@ error_of (Err error) = Some error
 abbrev pub is_cut_off : Bool → List ℕ → Bool
 is_cut_off is_length_missing packet = nat_lt (length packet) (counted_len is_length_missing packet)
 
--- The error that refuses a packet. The first error that applies counts: an error of the IP header, which is cut off, invalid or without a
--- length; a packet that is cut off; an error of an extension header.
+-- The error that refuses a packet. The call checks the IP header first. Then it checks that the packet is not cut off, and then each
+-- extension header. The first error counts.
 abbrev pub refusal : List ℕ → Option IpError
 refusal packet = first_of (
     strict_header_refusal packet
@@ -303,7 +312,7 @@ refusal packet = first_of (
 abbrev pub lax_refusal : List ℕ → Option IpError
 lax_refusal packet = first_of (header_refusal packet ∷ error_of (headers_of (lacks_len packet) packet) ∷ [])
 
--- the transport of a packet; it consists of the contents of all headers, and of the bytes after them that the IP header counts
+-- This is the transport of the packet. It consists of the contents of all headers, and of the counted bytes after the headers.
 pub record Carries (packet : List ℕ) (transport : TransportInIp) : Type 0 where
   pub headers : Headers
   pub read : headers_of transport.is_length_missing packet ≡ Ok headers
@@ -321,7 +330,7 @@ pub record Carries (packet : List ℕ) (transport : TransportInIp) : Type 0 wher
   pub header_len : transport.header_len ≡ (first_headers packet).len
   pub counted_len : transport.counted_len ≡ counted_len transport.is_length_missing packet
 
--- the bytes after an IPv4 header that it counts, or all bytes after it if its length is missing
+-- the counted bytes after an IPv4 header; if the length is missing, all bytes after the header
 abbrev pub after_ipv4_header : Bool → List ℕ → List ℕ
 after_ipv4_header is_length_missing packet =
     drop (ipv4_header_len packet) (if is_length_missing then packet else take (total_len packet) packet)
@@ -334,7 +343,8 @@ ipv4_protocol header after = if has_authentication header then next_number after
 abbrev pub ipv4_payload : List ℕ → List ℕ → List ℕ
 ipv4_payload header after = if has_authentication header then drop (extension_len authentication after) after else after
 
--- this is the transport of an IPv4 packet, by its header and by the authentication header if there is one
+-- This is the transport of an IPv4 packet, as its header states it. If an authentication header follows the IPv4 header, the authentication
+-- header states the protocol.
 pub record IsOverIpv4 (packet : List ℕ) (transport : TransportInIp) : Type 0 where
   pub options : List (List ℕ)
   pub are_options : AreOptions ipv4_option (drop 20 (ipv4_header packet)) options

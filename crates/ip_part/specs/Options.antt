@@ -8,7 +8,8 @@ use Rattle.net_base.specs.Bytes.{be_number}
 -- ---- sequences of options
 
 -- The option at the front of the options of an IPv4 header. Kind 0 ends the list, and an option of kind 1 has one byte. In any other option
--- the second byte is the length of the option (RFC 791, section 3.1). `None` at the end of the list, or if the length is impossible.
+-- the second byte is the length of the option (RFC 791, section 3.1). `None` at the end of the list, or if the option states a length below
+-- 2 or goes beyond the bytes.
 abbrev pub ipv4_option : List ℕ → Option (List ℕ)
 ipv4_option bytes =
     if length bytes == 0 || slice_index bytes 0 == 0 then None
@@ -25,8 +26,8 @@ ipv6_option bytes =
     else if nat_lt (length bytes) 2 || nat_lt (length bytes) (2 + slice_index bytes 1) then None
     else Some (take (2 + slice_index bytes 1) bytes)
 
--- The bytes consist of these options: the option at the front, and then the options of the rest. If no option is at the front, there are no
--- options.
+-- These are the options in the bytes: the option at the front, and then the options in the rest. The options end before bytes that have no
+-- option at the front.
 abbrev pub AreOptions : (List ℕ → Option (List ℕ)) → List ℕ → List (List ℕ) → Type 0
 AreOptions front bytes [] = front bytes ≡ None
 AreOptions front bytes (option ∷ options) =
@@ -42,7 +43,7 @@ unfoldable pub options_within : (List ℕ → Option (List ℕ)) → ℕ → Lis
 options_within front zero bytes = []
 options_within front (suc more) bytes = with_first (front bytes) (λ option. options_within front more (drop (length option) bytes))
 
--- the options in the bytes; each option has at least one byte, so the bytes limit their number
+-- the options in the bytes; each option has at least one byte, so the number of bytes limits the number of options
 abbrev pub options_of : (List ℕ → Option (List ℕ)) → List ℕ → List (List ℕ)
 options_of front bytes = options_within front (suc (length bytes)) bytes
 
@@ -63,8 +64,8 @@ is_route_left route =
     && (slice_index route 2 % 4 == 0
     && not (nat_lt (length route) (slice_index route 2)))))
 
--- The final destination, for a packet with this source route or without one. If the route has an address left, it is the last address of
--- the route (RFC 1122, section 3.2.1.8). Otherwise it is the destination in the header.
+-- The final destination of a packet with this source route, or without a source route. If the route has an address left, this is the last
+-- address of the route (RFC 1122, section 3.2.1.8). Otherwise it is the destination in the header.
 abbrev pub routed : List ℕ → Option (List ℕ) → List ℕ
 routed destination None = destination
 routed destination (Some route) = if is_route_left route then slice_range route (length route - 4) (length route) else destination
@@ -79,8 +80,8 @@ ipv4_destination_by destination options = routed destination (find is_source_rou
 abbrev pub is_ipv6_option : ℕ → ℕ → List ℕ → Bool
 is_ipv6_option kind len option = slice_index option 0 == kind && length option == 2 + len
 
--- the first option of an extension header that has this type and this length; the options follow the first two bytes (RFC 8200, sections
--- 4.3 and 4.6)
+-- the first option with this type and this number of bytes of data in an extension header; the options follow the first two bytes (RFC
+-- 8200, sections 4.3 and 4.6)
 abbrev pub ipv6_option_of : ℕ → ℕ → List ℕ → Option (List ℕ)
 ipv6_option_of kind len header = find (is_ipv6_option kind len) (options_of ipv6_option (drop 2 header))
 
@@ -96,6 +97,6 @@ home_address_after source header = fold home_address_or source (options_of ipv6_
 
 -- ---- the jumbo payload length
 
--- the jumbo payload length in hop-by-hop options, in their first option 0xC2 with 4 bytes of data (RFC 2675, section 2)
+-- the jumbo payload length that hop-by-hop options contain: the data of their first option 0xC2 with 4 bytes of data (RFC 2675, section 2)
 abbrev pub jumbo_payload_len : List ℕ → Option ℕ
 jumbo_payload_len header = option_map (λ option. be_number option 2 4) (ipv6_option_of 0xC2 4 header)

@@ -26,7 +26,8 @@ const ROUTING_TYPE_MOBILITY: u8 = 2;
 /// The routing type for segment routing (RFC 8754, section 2).
 const ROUTING_TYPE_SEGMENTS: u8 = 4;
 
-/// Reads the headers up to the transport. `counted` are the bytes that the IP header counts.
+/// Reads the extension headers that follow the headers in `first`, up to the transport. `counted` contains the bytes that the IP header
+/// counts.
 #[inline(always)]
 pub(crate) fn read_extension_headers<'a>(
     counted: &'a [u8],
@@ -53,7 +54,7 @@ fn is_extended(headers: &Headers<'_>) -> bool
     headers.may_be_extended && is_extension(headers.protocol)
 }
 
-/// Whether this is the number of an extension header that is skipped.
+/// Whether this is the number of an extension header that `transport_in_ip` skips.
 #[inline(always)]
 fn is_extension(protocol: IpNumber) -> bool
     ensures { result ≡ extensions.is_extension protocol.0 }
@@ -144,7 +145,7 @@ pub(crate) fn extension_len(protocol: IpNumber, rest: &[u8]) -> usize
     }
 }
 
-/// The contents of the headers after this extension header is added.
+/// Adds this extension header to the contents of the headers read so far.
 #[inline(always)]
 fn headers_after<'a>(headers: &Headers<'a>, header: &'a [u8]) -> Headers<'a>
     requires whole { length header.now ≡ extension_len headers.now.protocol.0 header.now }
@@ -195,7 +196,7 @@ fn has_more_fragments(number: IpNumber, header: &[u8]) -> bool
     number == ip_number::IPV6_FRAGMENTATION_HEADER && header[3] & 1 != 0
 }
 
-/// The addresses after this extension header is added.
+/// The addresses, updated by this extension header.
 #[inline(always)]
 fn addresses_after<'a>(headers: &Headers<'a>, header: &'a [u8]) -> IpAddresses<'a>
     requires whole { length header.now ≡ extension_len headers.now.protocol.0 header.now }
@@ -214,7 +215,7 @@ fn addresses_after<'a>(headers: &Headers<'a>, header: &'a [u8]) -> IpAddresses<'
     }
 }
 
-/// The source after this extension header is added.
+/// The source, updated by this extension header.
 #[inline(always)]
 fn source_after<'a>(source: &'a [u8; 16], number: IpNumber, header: &'a [u8]) -> &'a [u8; 16]
     requires { 8 ≤ length header.now }
@@ -226,7 +227,7 @@ fn source_after<'a>(source: &'a [u8; 16], number: IpNumber, header: &'a [u8]) ->
     home_address_after(source, header)
 }
 
-/// The final destination after this extension header is added.
+/// The final destination, updated by this extension header.
 #[inline(always)]
 fn destination_after<'a>(
     destination: Option<&'a [u8; 16]>,
@@ -243,7 +244,7 @@ fn destination_after<'a>(
     final_destination(header)
 }
 
-/// The final destination that a routing header with segments left states.
+/// The final destination in a routing header that has segments left. `None` if its type is unknown, or if it contains no address.
 fn final_destination(header: &[u8]) -> Option<&[u8; 16]>
     requires whole { length header.now ≡ (slice_index header.now 1 + 1) * 8 }
     requires shortest { 8 ≤ length header.now }

@@ -41,8 +41,8 @@ pub enum FixedHeader<'a> {
     Ipv4 {
         /// The address of the sender: bytes 12 to 15.
         source: &'a [u8; 4],
-        /// The address of the receiver: bytes 16 to 19. If a source route has an address left, it differs from the final address, which a
-        /// checksum covers (RFC 1122, section 3.2.1.8).
+        /// The address of the receiver: bytes 16 to 19. If a source route has an address left, it may differ from the final address, which
+        /// a checksum covers (RFC 1122, section 3.2.1.8).
         destination: &'a [u8; 4],
         /// The number of hops that are left: byte 8.
         time_to_live: u8,
@@ -58,14 +58,14 @@ pub enum FixedHeader<'a> {
         destination: &'a [u8; 16],
         /// The number of hops that are left: byte 7.
         hop_limit: u8,
-        /// The kind of header that follows the IPv6 header: byte 6.
+        /// The number of the header or protocol that follows the IPv6 header: byte 6.
         next_header: IpNumber,
     },
 }
 
-/// The fixed part of the IP header at the front of a packet. `None` if the version is neither 4 nor 6, or if the slice is shorter than 20
-/// bytes for version 4, or 40 bytes for version 6. The lengths in the header are not checked, so the fixed part of a refused packet can be
-/// read too.
+/// The fixed part of the IP header at the front of a packet. `None` if the version is neither 4 nor 6. `None` also if the slice is shorter
+/// than 20 bytes for version 4, or than 40 bytes for version 6. The lengths in the header are not checked, so the fixed part of a refused
+/// packet can be read too.
 pub fn fixed_header(packet: &[u8]) -> Option<FixedHeader<'_>>
     ensures { option_map fixed_by_value result ≡ specs.fixed_header packet.now }
 {

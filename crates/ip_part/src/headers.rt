@@ -1,12 +1,12 @@
 use crate::{FixedHeader, IpAddresses};
 use net_base::IpNumber;
 
-/// The contents of the headers of an IP packet that were read so far.
+/// The contents of the headers that were read so far in an IP packet.
 #[derive(Clone, Copy)]
 pub(crate) struct Headers<'a> {
     /// The fixed part of the IP header.
     pub fixed_header: FixedHeader<'a>,
-    /// The addresses after the headers that were read.
+    /// The addresses, as the headers read so far state them.
     pub addresses: IpAddresses<'a>,
     /// The number of the next header, or of the protocol if no extension header follows.
     pub protocol: IpNumber,

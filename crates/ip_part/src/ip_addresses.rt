@@ -1,4 +1,4 @@
-/// The addresses of an IP packet that the checksum of its transport covers, as references to bytes of the packet.
+/// The source and the destination of an IP packet, as a transport checksum covers them. They are references to bytes of the packet.
 ///
 /// ```
 /// use etherparse_transport::ip::{IpAddresses, transport_in_ip};
@@ -14,14 +14,14 @@ pub enum IpAddresses<'a> {
     Ipv4 {
         /// The address of the sender.
         source: &'a [u8; 4],
-        /// The address of the final receiver (RFC 1122, section 3.2.1.8). If a source route has an address left, it is the last address of
-        /// the route, otherwise the address in the header.
+        /// The address of the final receiver (RFC 1122, section 3.2.1.8). If a source route has an address left, this is the last address
+        /// of the route. Otherwise it is the address in the header.
         destination: &'a [u8; 4],
     },
     /// The addresses of an IPv6 packet (RFC 8200, section 3).
     Ipv6 {
-        /// The address of the sender. If the destination options contain the home address of a mobile node, it is the home address (RFC
-        /// 6275, section 9.3.1), otherwise the address in the header.
+        /// The address of the sender. If destination options contain the home address of a mobile node, this is the home address (RFC 6275,
+        /// section 9.3.1). Otherwise it is the address in the header.
         source: &'a [u8; 16],
         /// The address of the final receiver (RFC 8200, section 8.1). `None` if a routing header with segments left has an unknown type or
         /// contains no address.

@@ -25,7 +25,8 @@ pub enum IpError {
     /// 2675, section 3), so that the length is unknown.
     HeaderCutOff {
         /// The least number of bytes that are needed: 1 for an empty slice, 20 or the stated header length for IPv4, and 40 for IPv6. If
-        /// hop-by-hop options must contain the length, it is 48 or the end of these options.
+        /// the slice ends within hop-by-hop options that must contain the packet length, it is 48 or the offset of the end of these
+        /// options.
         required_len: usize,
         /// The length of the slice, in bytes.
         len: usize,
@@ -49,7 +50,7 @@ pub enum IpError {
         header_len: usize,
     },
     /// The payload length of an IPv6 packet is 0, and the hop-by-hop options directly after its header contain no jumbo payload option (RFC
-    /// 2675, section 3). `transport_in_ip_lax` accepts it.
+    /// 2675, section 3). `transport_in_ip_lax` accepts this packet.
     JumboPayloadMissing,
     /// A jumbo payload length is at most 65,535, so the payload length field could state it (RFC 2675, section 3).
     JumboPayloadLength {
@@ -69,12 +70,12 @@ pub enum IpError {
         protocol: IpNumber,
         /// The start of the extension header, in bytes from the start of the packet.
         offset: usize,
-        /// The length of the extension header in bytes, or 8, the least length, if its length byte may be missing.
+        /// The length of the extension header, in bytes. If fewer than 8 bytes are left, it is 8, the least length of an extension header.
         required_len: usize,
-        /// The number of bytes of the packet from this place on.
+        /// The number of bytes that the packet contains from `offset` on, without padding.
         len: usize,
     },
-    /// An IPv6 packet has a jumbo payload option, but its payload length is not 0 (RFC 2675, section 3).
+    /// An IPv6 packet has a jumbo payload option, but the payload length in its header is not 0 (RFC 2675, section 3).
     JumboPayloadUnexpected {
         /// The payload length, in bytes.
         payload_len: usize,

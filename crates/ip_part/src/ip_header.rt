@@ -28,8 +28,8 @@ pub(crate) const IPV6_LEN: usize = Ipv6Header::LEN;
 /// The greatest length that the payload length field of IPv6 can state, in bytes (RFC 2675, section 2).
 const MAX_PAYLOAD_LEN: usize = 65_535;
 
-/// Reads the IP header, and returns the number of bytes that it counts, including the header itself. A header that must state a length and
-/// does not is refused. Any other header without a length counts only its own bytes.
+/// Reads the IP header, and returns the number of bytes that it counts, including the header itself. Refuses a header that states no length
+/// although it must state one. Any other header without a length counts only its own bytes.
 #[inline(always)]
 pub(crate) fn read_ip_header_with_len(packet: &[u8]) -> Result<(Headers<'_>, usize), IpError>
     ensures refused { RefusesExactly result (strict_header_refusal packet.now) }
@@ -48,8 +48,8 @@ pub(crate) fn read_ip_header_with_len(packet: &[u8]) -> Result<(Headers<'_>, usi
     }
 }
 
-/// The number of bytes that an IPv6 header without a stated length counts. It is the length of the header itself. If the header must state
-/// a length, it is refused.
+/// The number of bytes that an IPv6 header counts if it states no length: its own 40 bytes. Refuses a header that hop-by-hop options
+/// follow, since these options must then contain the length (RFC 2675, section 3).
 fn len_of_header(headers: &Headers<'_>) -> Result<usize, IpError>
     requires { is_ipv6 (by_value headers.now.addresses) ≡ true }
     ensures refused { RefusesExactly result (missing_len_refusal (headers_by_value headers.now)) }
@@ -61,8 +61,8 @@ fn len_of_header(headers: &Headers<'_>) -> Result<usize, IpError>
     Ok(headers.len)
 }
 
-/// Reads the IP header, and returns the number of bytes that it states, including the header itself. The number is `None` if it states no
-/// length.
+/// Reads the IP header, and returns the packet length that it states, including the header itself. The length is `None` if the header
+/// states none.
 #[inline(always)]
 pub(crate) fn read_ip_header(packet: &[u8]) -> Result<(Headers<'_>, Option<usize>), IpError>
     ensures refused { RefusesExactly result (header_refusal packet.now) }
@@ -85,8 +85,7 @@ pub(crate) fn read_ip_header(packet: &[u8]) -> Result<(Headers<'_>, Option<usize
     }
 }
 
-/// Reads an IPv4 header, and returns the number of bytes that it counts. A total length of 0 is refused, since it is below the length of
-/// the header.
+/// Reads an IPv4 header, and returns its total length. Refuses a total length of 0 too, since it is below the length of the header.
 #[inline(always)]
 fn read_ipv4_header_with_len(packet: &[u8]) -> Result<(Headers<'_>, usize), IpError>
     requires { version packet.now ≡ 4 }
@@ -116,7 +115,7 @@ fn total_len(header: &[u8]) -> u16
     u16::from_be_bytes([header[2], header[3]])
 }
 
-/// Whether the packet with this IPv4 header is one of several fragments: more fragments follow, or its offset is above 0.
+/// Whether the packet with this IPv4 header is one of several fragments: more fragments follow, or its fragment offset is above 0.
 #[inline(always)]
 fn is_fragment(header: &[u8]) -> bool
     requires { 20 ≤ length header.now }
@@ -134,7 +133,7 @@ fn fragment_offset(header: &[u8]) -> u16
     u16::from_be_bytes([header[6], header[7]]) & 0x1fff
 }
 
-/// Whether an authentication header follows an IPv4 header directly.
+/// Whether an authentication header follows this IPv4 header directly. In a later fragment, payload follows the header instead.
 #[inline(always)]
 fn has_authentication(header: &[u8]) -> bool
     requires { 20 ≤ length header.now }
@@ -166,7 +165,7 @@ fn ipv4_headers(header: &[u8]) -> Headers<'_>
     }
 }
 
-/// Reads an IPv4 header, and returns the number of bytes that it states.
+/// Reads an IPv4 header, and returns its total length. The length is `None` if the field contains 0.
 #[inline(always)]
 fn read_ipv4_header(packet: &[u8]) -> Result<(Headers<'_>, Option<usize>), IpError>
     requires { version packet.now ≡ 4 }
@@ -225,7 +224,8 @@ fn ipv4_header(packet: &[u8]) -> Result<&[u8], IpError>
     Ok(&packet[..header_len])
 }
 
-/// Reads an IPv6 header, and returns the number of bytes that it states.
+/// Reads an IPv6 header, and returns the packet length that it states, including the header itself. The length is `None` if the header
+/// states none.
 #[inline(always)]
 fn read_ipv6_header(packet: &[u8]) -> Result<(Headers<'_>, Option<usize>), IpError>
     requires { version packet.now ≡ 6 }
@@ -262,7 +262,7 @@ fn read_ipv6_header(packet: &[u8]) -> Result<(Headers<'_>, Option<usize>), IpErr
     Ok((headers, stated_len))
 }
 
-/// The jumbo payload length of a packet with an IPv6 header, if the packet has one.
+/// The jumbo payload length of an IPv6 packet. `None` if the packet has no jumbo payload length.
 #[inline(always)]
 fn jumbo_len(
     packet: &[u8],
@@ -282,7 +282,7 @@ fn jumbo_len(
     Ok(None)
 }
 
-/// Whether hop-by-hop options must contain the length of a packet.
+/// Whether the hop-by-hop options after an IPv6 header must contain the length of the packet.
 #[inline(always)]
 fn has_len_in_options(payload_len: usize, next_header: IpNumber) -> bool
     ensures { result ≡ (payload_len == 0 && next_header.0 == 0) }
@@ -290,7 +290,8 @@ fn has_len_in_options(payload_len: usize, next_header: IpNumber) -> bool
     payload_len == 0 && next_header == ip_number::IPV6_HEADER_HOP_BY_HOP
 }
 
-/// The jumbo payload length in the hop-by-hop options at the front of `rest`, the bytes after an IPv6 header.
+/// The jumbo payload length in the hop-by-hop options at the front of `rest`, the bytes after an IPv6 header. `None` if the options contain
+/// no jumbo payload option.
 fn len_in_options(rest: &[u8]) -> Result<Option<usize>, IpError>
     ensures refused { RefusesExactly result (len_in_options_refusal rest.now) }
     ensures len { IfOk result (λ len. len ≡ specs.len_in_options rest.now) }
@@ -327,7 +328,7 @@ fn first_options(rest: &[u8]) -> Result<&[u8], IpError>
     Ok(&rest[..options_len])
 }
 
-/// The number of bytes that an IPv6 header states, including the header itself.
+/// The packet length that an IPv6 header states, including the header itself. `None` if the header states no length.
 #[inline(always)]
 fn ipv6_stated_len(
     jumbo_len: Option<usize>,

@@ -24,8 +24,8 @@ const LOOSE_SOURCE_ROUTE: u8 = 131;
 /// The kind of a strict source route (RFC 791, section 3.1).
 const STRICT_SOURCE_ROUTE: u8 = 137;
 
-/// The final destination of a packet. If its source route has an address left, it is the last address of the route (RFC 1122, section
-/// 3.2.1.8), otherwise the destination in the header.
+/// The final destination of a packet. If its source route has an address left, this is the last address of the route (RFC 1122, section
+/// 3.2.1.8). Otherwise it is the destination in the header.
 pub(crate) fn final_destination(header: &[u8]) -> &[u8; 4]
     requires { 20 ≤ length header.now }
     ensures { result.now ≡ ip.ipv4_destination header.now }
@@ -36,9 +36,9 @@ pub(crate) fn final_destination(header: &[u8]) -> &[u8; 4]
     }
 }
 
-/// Whether the options of an IPv4 header contain a loose or strict source route, option 131 or 137 (RFC 791, section 3.1). A route counts
-/// with or without an address left. Options are read up to the end of their list, or up to an option whose length is below 2 or beyond the
-/// bytes.
+/// Whether the options of an IPv4 header contain a loose or strict source route, option 131 or 137 (RFC 791, section 3.1). It does not
+/// matter whether the route has an address left. Reading stops at the end of the list of options, or at an option that states a length
+/// below 2 or goes beyond the bytes.
 pub fn has_source_route(options: &[u8]) -> bool
     ensures { result ≡ is_some (find specs.is_source_route (specs.options_of specs.ipv4_option options.now)) }
 {
@@ -61,7 +61,7 @@ fn source_route(options: &[u8]) -> Option<&[u8]>
     None
 }
 
-/// The option at the front.
+/// The option at the front of some bytes. `None` at the end of the list, or if the option states a length below 2 or goes beyond the bytes.
 fn first_option(bytes: &[u8]) -> Option<&[u8]>
     ensures front { MatchOption result (specs.ipv4_option bytes.now ≡ None) (λ option. specs.ipv4_option bytes.now ≡ Some option.now) }
     ensures within { IfSome result (λ option. (1 ≤ length option.now) × (length option.now ≤ length bytes.now)) }

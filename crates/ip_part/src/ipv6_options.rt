@@ -16,7 +16,7 @@ const JUMBO_PAYLOAD: u8 = 0xC2;
 /// The length of a home address, in bytes (RFC 6275, section 6.3).
 const HOME_ADDRESS_LEN: usize = 16;
 
-/// The last home address in these destination options, or this source if they contain none.
+/// The last home address in these destination options. If they contain no home address, this is `source`.
 pub(crate) fn home_address_after<'a>(source: &'a [u8; 16], header: &'a [u8]) -> &'a [u8; 16]
     requires { 8 ≤ length header.now }
     ensures { result.now ≡ specs.home_address_after source.now header.now }
@@ -30,7 +30,7 @@ pub(crate) fn home_address_after<'a>(source: &'a [u8; 16], header: &'a [u8]) -> 
     address
 }
 
-/// The home address in this option, or this source if the option contains none.
+/// The home address in this option. If the option contains no home address, this is `source`.
 fn home_address_or<'a>(source: &'a [u8; 16], option: &'a [u8]) -> &'a [u8; 16]
     requires { 1 ≤ length option.now }
     ensures { result.now ≡ specs.home_address_or source.now option.now }
@@ -41,7 +41,7 @@ fn home_address_or<'a>(source: &'a [u8; 16], option: &'a [u8]) -> &'a [u8; 16]
     ipv6_address(option, 2)
 }
 
-/// The jumbo payload length in hop-by-hop options. `None` if they contain none.
+/// The jumbo payload length in hop-by-hop options. `None` if they contain no jumbo payload option.
 pub(crate) fn jumbo_payload_len(header: &[u8]) -> Option<usize>
     requires { 8 ≤ length header.now }
     ensures len { result ≡ specs.jumbo_payload_len header.now }
@@ -74,7 +74,8 @@ fn find_option(options: &[u8], kind: u8, len: usize) -> Option<&[u8]>
     None
 }
 
-/// The option at the front. `None` if the bytes are shorter than `len`, since then they can't contain the option that is looked for.
+/// The option at the front of some bytes. `None` if there is no whole option. `None` also for fewer bytes than `len`, the length of the
+/// option that the caller looks for.
 // perf: most destination options have eight bytes, and a home address needs 18. So the search usually ends at once (25 Nov 2026).
 fn option_with_room(bytes: &[u8], len: usize) -> Option<&[u8]>
     ensures front { MatchOption result ((length bytes.now < len) ⊎ (specs.ipv6_option bytes.now ≡ None))
@@ -97,7 +98,7 @@ fn is_option(option: &[u8], kind: u8, len: usize) -> bool
     option[0] == kind && option.len() == 2 + len
 }
 
-/// The option at the front.
+/// The option at the front of some bytes. `None` at the end of the options, or if the option goes beyond the bytes.
 fn first_option(bytes: &[u8]) -> Option<&[u8]>
     ensures front { MatchOption result (specs.ipv6_option bytes.now ≡ None) (λ option. specs.ipv6_option bytes.now ≡ Some option.now) }
     ensures within { IfSome result (λ option. (1 ≤ length option.now) × (length option.now ≤ length bytes.now)) }

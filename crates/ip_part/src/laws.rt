@@ -20,7 +20,8 @@ pub fn cloned_ip_addresses<'a>(value: &IpAddresses<'a>) -> Result<IpAddresses<'a
     value.clone()
 }
 
-/// `==` holds for two values of `IpAddresses` exactly if their bytes are the same.
+/// `==` holds for two values of `IpAddresses` exactly if they have the same IP version and the same addresses. Addresses are compared by
+/// their bytes.
 pub fn equal_ip_addresses<'a>(a: &IpAddresses<'a>, b: &IpAddresses<'a>) -> bool
     ensures same { IsTrue result ↔ (by_value a.now ≡ by_value b.now) }
 {
@@ -34,7 +35,8 @@ pub fn cloned_fixed_header<'a>(value: &FixedHeader<'a>) -> Result<FixedHeader<'a
     value.clone()
 }
 
-/// `==` holds for two values of `FixedHeader` exactly if their bytes are the same.
+/// `==` holds for two values of `FixedHeader` exactly if they have the same IP version and all their fields are equal. Addresses are
+/// compared by their bytes.
 pub fn equal_fixed_header<'a>(a: &FixedHeader<'a>, b: &FixedHeader<'a>) -> bool
     ensures same { IsTrue result ↔ (fixed_by_value a.now ≡ fixed_by_value b.now) }
 {

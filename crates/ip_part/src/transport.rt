@@ -36,16 +36,16 @@ pub struct TransportInIp<'a> {
     /// The start of the payload, in bytes from the start of the packet: the length of all headers.
     pub payload_offset: usize,
     /// Whether the payload is only a part of the payload of the original packet: more fragments follow, or the fragment offset is above 0.
-    /// Then its checksum can't be checked. If a fragment header states neither, the packet is whole (RFC 6946).
+    /// Then the transport checksum can't be checked. If neither is true for a fragment header, the packet is whole (RFC 6946).
     pub is_fragment: bool,
     /// Whether the packet is a later fragment: its fragment offset is above 0. Then the payload does not begin with a transport header,
     /// since it is a later part of the original payload.
     pub is_later_fragment: bool,
     /// Whether the IP header counts more bytes than the slice contains. It is always false after `transport_in_ip`.
     pub is_cut_off: bool,
-    /// Whether the IP header states no length, so that all bytes of the slice are counted. Then the total length of IPv4 is 0. Or the
-    /// payload length of IPv6 is 0, there is no jumbo payload option, and the next header is not "no next header". It is always false after
-    /// `transport_in_ip`.
+    /// Whether the IP header states no length, so that all bytes of the slice are counted. An IPv4 header states none if the total length
+    /// is 0. An IPv6 header states none if the payload length is 0, there is no jumbo payload option, and the next header is not "no next
+    /// header". This is always false after `transport_in_ip`.
     pub is_length_missing: bool,
     /// The fixed part of the IP header, with its addresses and its hop limit.
     pub fixed_header: FixedHeader<'a>,
@@ -58,7 +58,7 @@ pub struct TransportInIp<'a> {
 }
 
 impl<'a> TransportInIp<'a> {
-    /// The protocol of the payload, as `proto_over` returns it for its number and the addresses. A fragment has a protocol too.
+    /// The protocol of the payload: `proto_over` of the fields `addresses` and `protocol`. A fragment has a protocol too.
     #[inline(always)]
     pub fn proto(&self) -> Option<Proto>
         ensures { result ≡ specs.proto_over (by_value self.now.addresses) self.now.protocol.0 }
@@ -76,14 +76,15 @@ impl<'a> TransportInIp<'a> {
     }
 }
 
-/// Finds the transport in the IP packet at the front of the slice. Bytes after the bytes that the IP header counts are padding, and are
-/// left out. No checksum is checked.
+/// Finds the transport in the IP packet at the front of the slice. Bytes that the IP header does not count are padding, and are left out.
+/// No checksum is checked.
 ///
 /// Over IPv4 the call skips the options and an authentication header directly after them (RFC 4302, section 3.1). A second authentication
-/// header is not skipped: its number is the protocol. In a later fragment no header follows the IPv4 header. If the pointer of a loose or
-/// strict source route, option 131 or 137, is not past its end, its last address is the destination (RFC 791, section 3.1; RFC 1122,
-/// section 3.2.1.8). The first route counts. Options are read up to the end of their list, or up to an option whose length is below 2 or
-/// beyond the header. A route is ignored if it does not contain whole addresses, or if its pointer is not at the first byte of an address.
+/// header is not skipped: its number is the protocol. In a later fragment no header follows the IPv4 header. Option 131 is a loose source
+/// route, and option 137 is a strict one. If the pointer of the first route is not past the end of the route, the last address of the route
+/// is the destination (RFC 791, section 3.1; RFC 1122, section 3.2.1.8). Reading stops at the end of the list of options, or at an option
+/// that states a length below 2 or goes beyond the header. A route is ignored if it does not contain whole addresses, or if its pointer is
+/// not at the first byte of an address.
 ///
 /// Over IPv6 the call skips these extension headers, in any order: hop-by-hop options, routing, fragment, destination options (RFC 8200,
 /// section 4), authentication (RFC 4302, section 2), mobility (RFC 6275, section 6.1), Host Identity Protocol (RFC 7401, section 5.1) and
@@ -91,27 +92,33 @@ impl<'a> TransportInIp<'a> {
 /// experimental numbers, 253 and 254. In a later fragment no header follows the fragment header, which states the protocol. The last
 /// routing header with segments left states the final destination (RFC 8200, sections 4.4 and 8.1). If destination options contain home
 /// addresses, option 0xC9 with 16 bytes of data, the last home address is the source (RFC 6275, sections 6.3 and 9.3.1). An option 0xC9 of
-/// another length is ignored. Nothing is read after an option that goes beyond its header.
+/// another length is ignored. No option is read after an option that goes beyond its header.
 ///
 /// If the payload length is 0, no bytes after the IPv6 header are counted. There is one exception: if hop-by-hop options follow the IPv6
 /// header directly, they must contain the length, as in a jumbogram. The number in their first option 0xC2 with 4 bytes of data counts the
-/// bytes after the IPv6 header (RFC 2675, section 2). This option is read in no other place.
+/// bytes after the IPv6 header (RFC 2675, section 2). The option is only read in hop-by-hop options directly after the IPv6 header.
 ///
 /// # Errors
 ///
 /// The call checks these cases, in this order:
 /// - `HeaderCutOff` with a `required_len` of 1 if the slice is empty.
 /// - `Version` if the version is neither 4 nor 6.
-/// - Over IPv4: `HeaderCutOff` if the slice is shorter than 20 bytes, `HeaderLength` if the stated header length is below 20 bytes,
-///   `HeaderCutOff` if the slice is shorter than that length, and `TotalLength` if the total length is below it.
+/// - Over IPv4:
+///   - `HeaderCutOff` if the slice is shorter than 20 bytes.
+///   - `HeaderLength` if the stated header length is below 20 bytes.
+///   - `HeaderCutOff` if the slice is shorter than the stated header length.
+///   - `TotalLength` if the total length is below the header length.
 /// - Over IPv6: `HeaderCutOff` if the slice is shorter than 40 bytes.
-/// - Over IPv6 with payload length 0 and next header 0: `HeaderCutOff` if the slice ends before the hop-by-hop options do,
-///   `JumboPayloadLength` if the jumbo payload length is at most 65,535, and `JumboPayloadMissing` if the options contain no jumbo payload
-///   option (RFC 2675, section 3).
+/// - Over IPv6 with payload length 0 and next header 0 (RFC 2675, section 3):
+///   - `HeaderCutOff` if the slice ends before the end of the hop-by-hop options.
+///   - `JumboPayloadLength` if the jumbo payload length is at most 65,535.
+///   - `JumboPayloadMissing` if the options contain no jumbo payload option.
 /// - `PacketCutOff` if the slice contains fewer bytes than the header counts.
-/// - For each extension header in turn: `ExtensionHeaderCutOff` if it ends beyond the counted bytes, `JumboPayloadUnexpected` if a jumbo
-///   payload option is in hop-by-hop options directly after an IPv6 header whose payload length is not 0, and `JumboPayloadFragment` if it
-///   is a fragment header in a jumbogram (RFC 2675, section 3).
+/// - For each extension header in turn:
+///   - `ExtensionHeaderCutOff` if the header ends beyond the counted bytes.
+///   - `JumboPayloadUnexpected` if the header is hop-by-hop options with a jumbo payload option, directly after an IPv6 header whose
+///     payload length is not 0 (RFC 2675, section 3).
+///   - `JumboPayloadFragment` if the header is a fragment header in a jumbogram (RFC 2675, section 3).
 #[inline(always)]
 pub fn transport_in_ip(packet: &[u8]) -> Result<TransportInIp<'_>, IpError>
     ensures refused { RefusesExactly result (refusal packet.now) }
@@ -152,14 +159,15 @@ pub fn transport_in_ip(packet: &[u8]) -> Result<TransportInIp<'_>, IpError>
 /// Finds the transport in an IP packet that may be cut off or state no length. Captures often keep only the first bytes of each packet, and
 /// a host may leave the length to its network card. The call differs from `transport_in_ip` only for these packets, which it accepts:
 /// - If the slice contains fewer bytes than the header counts, `payload` contains the bytes that are present, and `is_cut_off` is true.
-/// - For IPv4 with total length 0, and for IPv6 with payload length 0 and no jumbo payload length, all bytes of the slice are counted,
-///   padding too, and `is_length_missing` is true. An IPv6 packet with payload length 0 and "no next header" ends with its header (RFC
-///   8200, section 4.7): no byte after the header is counted, and `is_length_missing` is false.
+/// - An IPv4 packet states no length if its total length is 0. An IPv6 packet states no length if its payload length is 0 and it has no
+///   jumbo payload length. Then all bytes of the slice are counted, including padding, and `is_length_missing` is true. The exception is an
+///   IPv6 packet with payload length 0 and "no next header", which ends with its header (RFC 8200, section 4.7). No byte after this header
+///   is counted, and `is_length_missing` is false.
 ///
 /// # Errors
 ///
 /// The errors of `transport_in_ip`, except `PacketCutOff`, `JumboPayloadMissing`, and `TotalLength` with a total length of 0.
-/// `ExtensionHeaderCutOff` if the slice ends within an extension header.
+/// `ExtensionHeaderCutOff` is also returned if the slice ends within an extension header.
 #[inline(always)]
 pub fn transport_in_ip_lax(packet: &[u8]) -> Result<TransportInIp<'_>, IpError>
     ensures refused { RefusesExactly result (lax_refusal packet.now) }

@@ -11,19 +11,19 @@ use Rattle.ip_translation.specs.declared.prefix64_error.Prefix64Error.TheVariant
 use Rattle.ip_translation.specs.declared.translation_error.TranslationError.{TranslationError}
 use Rattle.ip_translation.specs.declared.translation_error.TranslationError.TheVariants.{Destination, ExtensionHeader, Fragment, HeaderChecksum, IllegalDestination, IllegalSource, PayloadLength, Source, SourceRoute, TimeExceeded, TotalLength}
 
--- why an address has no translation
+-- the text for an address that has no translation
 abbrev pub address_text : AddressError → List ℕ
 address_text NotEmbedded = codes "Address Error: the IPv6 address contains no IPv4 address."
 address_text NotGlobal = codes "Address Error: the well-known prefix allows only global IPv4 addresses."
 
--- why an address and a length do not define a prefix
+-- the text for an address and a length that do not define a prefix
 abbrev pub prefix_text : Prefix64Error → List ℕ
 prefix_text (Len len) = concat (
     codes "Prefix Error: the length is " ∷ decimal len ∷ codes " bits, and only 32, 40, 48, 56, 64 and 96 are allowed." ∷ [])
 prefix_text ReservedOctet = codes "Prefix Error: bits 64 to 71 are not 0."
 prefix_text SuffixBits = codes "Prefix Error: a bit after the prefix is not 0."
 
--- why a header is not translated
+-- the text for a header that is not translated
 abbrev pub translation_text : TranslationError → List ℕ
 translation_text (TotalLength total_len header_len) = concat (
     codes "Translation Error: the total length " ∷ decimal total_len ∷ codes " is below the header length " ∷ decimal header_len ∷ codes "." ∷ [])
@@ -40,7 +40,7 @@ translation_text IllegalDestination = codes "Translation Error: the destination 
 translation_text (Source error) = address_text error
 translation_text (Destination error) = address_text error
 
--- a packet that is not translated
+-- the text for a packet that is not translated
 abbrev pub packet_text : PacketTranslationError → List ℕ
 packet_text NoIpv4Header = codes "Translation Error: the bytes do not begin with an IPv4 header."
 packet_text NoIpv6Header = codes "Translation Error: the bytes do not begin with an IPv6 header."

@@ -43,11 +43,12 @@ destination header = slice_range header 16 20
 
 -- ---- errors
 
--- not the address of a host: of network 0 or 127, multicast, or reserved (RFC 1812, sections 4.2.2.11 and 5.3.7)
+-- this is not the address of a host, but an address of network 0 or 127, a multicast address, or a reserved address (RFC 1812, sections
+-- 4.2.2.11 and 5.3.7)
 abbrev pub is_illegal : List ℕ → Bool
 is_illegal address = slice_index address 0 == 0 || (slice_index address 0 == 127 || nat_lt 223 (slice_index address 0))
 
--- the errors about the addresses, in this order: the source, then the destination, is not the address of a host
+-- the first error about the addresses: the source or the destination is not the address of a host
 abbrev pub addresses_refusal : List ℕ → Option TranslationError
 addresses_refusal header = first_of (
     refused_if (is_illegal (source header)) IllegalSource
@@ -58,7 +59,7 @@ addresses_refusal header = first_of (
 abbrev pub has_source_route : List ℕ → Bool
 has_source_route header = is_some (find is_source_route (options_of ipv4_option (drop 20 header)))
 
--- the errors about the fields of a header, in this order
+-- the first error about the fields of a header
 abbrev pub field_refusal : List ℕ → Option TranslationError
 field_refusal header = first_of (
     refused_if (nat_lt (total_len header) (ipv4_header_len header)) (TotalLength (total_len header) (ipv4_header_len header))
@@ -69,7 +70,7 @@ field_refusal header = first_of (
     ∷ addresses_refusal header
     ∷ [])
 
--- the errors about a header, in this order: those about its fields, and those about addresses without a translation
+-- the first error about a header: about its fields, and then about an address that has no translation
 abbrev pub header_refusal : Prefixes → List ℕ → Option TranslationError
 header_refusal prefixes header = first_of (
     field_refusal header

@@ -115,7 +115,7 @@ with_zero_suffix prefix address =
 
 -- ---- global addresses
 
--- the IPv4 address is in the block: its first `bits` bits are those of the block
+-- the IPv4 address is in the block: its first `bits` bits are equal to the first `bits` bits of the block
 abbrev pub is_in : List ℕ → ℕ → List ℕ → Bool
 is_in block bits ipv4 = from_be_bytes w32 ipv4 / 2 ^ (32 - bits) == from_be_bytes w32 block / 2 ^ (32 - bits)
 

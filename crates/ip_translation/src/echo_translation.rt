@@ -14,20 +14,22 @@ use word_sum::checksum_change::ChecksumChange;
 /// The length of the header of an echo message, in bytes (RFC 792; RFC 4443, section 4).
 const ECHO_LEN: usize = 8;
 
-/// The place of the checksum in ICMP, in bytes (RFC 792; RFC 4443, section 2.1).
+/// The place of the checksum in an ICMP message, in bytes (RFC 792; RFC 4443, section 2.1).
 const ICMP_CHECKSUM_AT: usize = 2;
 
-/// The types of echo request and echo reply over IPv4 (RFC 792).
+/// The type of an echo request over IPv4 (RFC 792).
 const ECHO_REQUEST: u8 = 8;
 
+/// The type of an echo reply over IPv4 (RFC 792).
 const ECHO_REPLY: u8 = 0;
 
-/// The types of echo request and echo reply over IPv6 (RFC 4443, section 4).
+/// The type of an echo request over IPv6 (RFC 4443, section 4.1).
 const IPV6_ECHO_REQUEST: u8 = 128;
 
+/// The type of an echo reply over IPv6 (RFC 4443, section 4.2).
 const IPV6_ECHO_REPLY: u8 = 129;
 
-/// Refuses an ICMP message that is too short for an echo header, or is no echo message.
+/// Refuses an ICMP message that is shorter than an echo header, or is not an echo message.
 pub(crate) fn check_echo(message: &[u8]) -> Result<(), PacketTranslationError>
     ensures refused { RefusesExactly result (specs.echo_refusal specs.type_over_ipv6 message.now) }
     ensures there { IfOk result (λ _. 8 ≤ length message.now) }
@@ -39,7 +41,7 @@ pub(crate) fn check_echo(message: &[u8]) -> Result<(), PacketTranslationError>
     }
 }
 
-/// The type over IPv6 of an echo message over IPv4 (RFC 7915, section 4.2).
+/// The ICMPv6 type for the type of an ICMPv4 echo message (RFC 7915, section 4.2). `None` for any other type.
 pub(crate) fn type_over_ipv6(type_u8: u8) -> Option<u8>
     ensures { result ≡ specs.type_over_ipv6 type_u8 }
 {
@@ -50,7 +52,7 @@ pub(crate) fn type_over_ipv6(type_u8: u8) -> Option<u8>
     }
 }
 
-/// Refuses an ICMPv6 message that is too short for an echo header, or is no echo message.
+/// Refuses an ICMPv6 message that is shorter than an echo header, or is not an echo message.
 pub(crate) fn check_ipv6_echo(message: &[u8]) -> Result<(), PacketTranslationError>
     ensures refused { RefusesExactly result (specs.echo_refusal specs.type_over_ipv4 message.now) }
     ensures there { IfOk result (λ _. 8 ≤ length message.now) }
@@ -62,7 +64,7 @@ pub(crate) fn check_ipv6_echo(message: &[u8]) -> Result<(), PacketTranslationErr
     }
 }
 
-/// The type over IPv4 of an echo message over IPv6 (RFC 7915, section 5.2).
+/// The ICMPv4 type for the type of an ICMPv6 echo message (RFC 7915, section 5.2). `None` for any other type.
 pub(crate) fn type_over_ipv4(type_u8: u8) -> Option<u8>
     ensures { result ≡ specs.type_over_ipv4 type_u8 }
 {
@@ -85,7 +87,7 @@ pub(crate) fn icmpv6_pseudo_header(
     pseudo_header_bytes(source, destination, len)
 }
 
-/// The parts of this pseudo header, one after the other.
+/// The bytes of the pseudo header of an ICMPv6 message.
 fn pseudo_header_bytes(source: [u8; 16], destination: [u8; 16], len: u32) -> ArrayVec<u8, 40>
     ensures { result.items ≡ ipv6_pseudo_header source destination icmpv6_number len }
 {
@@ -99,13 +101,14 @@ fn pseudo_header_bytes(source: [u8; 16], destination: [u8; 16], len: u32) -> Arr
     bytes
 }
 
-/// Writes an echo message with this type, and with its checksum updated by the type and by the pseudo header. ICMPv4 has no pseudo header.
+/// Writes an echo message with this type. Updates the checksum for the new type and for the change from the old to the new pseudo header.
+/// The pseudo header of ICMPv4 is empty.
 pub(crate) fn write_echo(translated: &mut [u8], message: &[u8], type_u8: u8, old: &[u8], new: &[u8])
     requires room { length translated.old ≡ length message.now }
     requires there { 8 ≤ length message.now }
     requires new { (new.now ≡ []) ⊎ (0 < total new.now) }
     ensures written { translated.new ≡ specs.translated_echo type_u8 old.now new.now message.now }
-    // A receiver accepts the message exactly if it accepted the old message, unless that consists of zeros.
+    // A receiver accepts the message exactly if it accepted the old message, unless the old message and its pseudo header consist of zeros.
     ensures alike { total old.now + total message.now ≢ 0 → (Verifies new.now translated.new) ↔ (Verifies old.now message.now) }
 {
     let checksum = echo_checksum(message, type_u8, old, new);
@@ -114,7 +117,7 @@ pub(crate) fn write_echo(translated: &mut [u8], message: &[u8], type_u8: u8, old
     store_checksum(translated, ICMP_CHECKSUM_AT, checksum);
 }
 
-/// The checksum of an echo message with this type and this pseudo header instead of the old ones.
+/// The checksum of an echo message after its type and its pseudo header were replaced. For ICMPv4 it is 65,535 instead of 0.
 fn echo_checksum(message: &[u8], type_u8: u8, old: &[u8], new: &[u8]) -> u16
     requires there { 8 ≤ length message.now }
     ensures checksum { result ≡ specs.new_checksum type_u8 old.now new.now message.now }
@@ -129,7 +132,7 @@ fn echo_checksum(message: &[u8], type_u8: u8, old: &[u8], new: &[u8]) -> u16
     checksum
 }
 
-/// The checksum, updated by the type and by the pseudo header.
+/// The checksum, updated for the new type and for the new pseudo header.
 fn updated_checksum(message: &[u8], type_u8: u8, old: &[u8], new: &[u8]) -> u16
     requires there { 8 ≤ length message.now }
     ensures checksum { result ≡ specs.updated_checksum type_u8 old.now new.now message.now }

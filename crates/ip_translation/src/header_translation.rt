@@ -13,18 +13,18 @@ use ip_part::has_source_route;
 use net_base::{IpNumber, Ipv4HeaderSlice, ip_number};
 use word_sum::checksum_change::ChecksumChange;
 
-/// Translates the header of an IPv4 packet that is not a fragment to an IPv6 header (RFC 7915, section 4.1).
+/// Translates the header of an unfragmented IPv4 packet to an IPv6 header (RFC 7915, section 4.1).
 ///
 /// | Field | Value |
 /// |---|---|
 /// | traffic class | type of service |
 /// | flow label | 0 |
-/// | payload length | total length without the header and its options |
+/// | payload length | total length minus the length of the header with its options |
 /// | next header | protocol, but ICMPv6 for ICMP |
 /// | hop limit | time to live, lowered by 1, since a translator is a router |
-/// | source, destination | the addresses that the prefixes embed, by `Prefix64::to_ipv6` |
+/// | source, destination | the IPv6 addresses that contain the IPv4 addresses, by `Prefix64::to_ipv6` |
 ///
-/// Options are left out. The caller updates the checksum of the transport, if it covers a pseudo header.
+/// Options are left out. If the checksum of the transport covers a pseudo header, the caller updates this checksum.
 ///
 /// # Errors
 ///
@@ -33,8 +33,8 @@ use word_sum::checksum_change::ChecksumChange;
 /// - `Fragment` if more fragments follow, or if the fragment offset is not 0.
 /// - `SourceRoute` if the options contain a source route, even if no address is left in it.
 /// - `TimeExceeded` if the time to live is 0 or 1.
-/// - `IllegalSource` if the first byte of the source is 0, 127, or above 223, and `IllegalDestination` for the destination.
-/// - `Source` and `Destination` if `Prefix64::to_ipv6` refuses the address.
+/// - `IllegalSource` if the first byte of the source is 0, 127, or above 223, and `IllegalDestination` if this is true for the destination.
+/// - `Source` or `Destination` if `Prefix64::to_ipv6` refuses this address.
 pub fn header_to_ipv6(
     header: &Ipv4HeaderSlice<'_>,
     prefixes: &Prefixes,
@@ -68,15 +68,15 @@ pub fn header_to_ipv6(
 /// The change of the pseudo header of UDP and TCP (RFC 7915, section 4.5): the IPv6 addresses replace the IPv4 addresses. The rest of the
 /// pseudo header and of the packet is unchanged.
 ///
-/// `ChecksumChange::apply_udp` updates the checksum of a UDP packet, and `apply` that of a TCP segment. IPv6 requires a checksum, so a UDP
-/// packet with checksum 0 can't be updated. ICMPv4 has no pseudo header.
+/// `ChecksumChange::apply_udp` updates the checksum of a UDP packet, and `apply` updates the checksum of a TCP segment. IPv6 requires a
+/// checksum, so a UDP packet with checksum 0 can't be updated. ICMPv4 has no pseudo header.
 pub fn pseudo_header_change(header: &Ipv4HeaderSlice<'_>, prefixes: &Prefixes) -> ChecksumChange
     ensures removed { removed_value result ≡ removed_addresses header.now }
     ensures added { added_value result ≡ added_addresses prefixes.now header.now }
     // Neither pseudo header sums up to 0.
     ensures some { (protocol len : ℕ) → 0 < protocol → (0 < total (specs.old_pseudo_header header.now protocol len))
         × (0 < total (specs.new_pseudo_header prefixes.now header.now protocol len)) }
-    // So `ChecksumChange` states what a receiver accepts.
+    // The contracts of `ChecksumChange` use this to state what a receiver accepts.
     ensures turns { (protocol len rest : ℕ) → len ≤ max_len_over_ipv4 → TurnsInto result
         (total (specs.old_pseudo_header header.now protocol len) + rest)
         (total (specs.new_pseudo_header prefixes.now header.now protocol len) + rest) }
@@ -93,7 +93,7 @@ pub fn pseudo_header_change(header: &Ipv4HeaderSlice<'_>, prefixes: &Prefixes) -
 /// The place of the type of service, in bytes from the start of an IPv4 header (RFC 791, section 3.1).
 const TYPE_OF_SERVICE_AT: usize = 1;
 
-/// The byte at this place, or 0 if the bytes end before it.
+/// The byte at the offset `place`, or 0 if the bytes end before this offset.
 fn byte_at(bytes: &[u8], place: usize) -> u8
     ensures { result ≡ slice_index bytes.now place }
 {
@@ -103,7 +103,7 @@ fn byte_at(bytes: &[u8], place: usize) -> u8
     bytes[place]
 }
 
-/// Refuses a header with a wrong field, and returns the length of the payload. The prefixes are not checked.
+/// Checks the fields of a header, and returns the length of the payload. It does not check whether the prefixes may embed the addresses.
 fn check_header(header: &Ipv4HeaderSlice<'_>) -> Result<u16, TranslationError>
     ensures refused { RefusesExactly result (specs.field_refusal header.now) }
     ensures payload_len { IfOk result (λ len. len ≡ specs.total_len header.now - ipv4_header_len header.now) }
@@ -146,14 +146,14 @@ fn check_addresses(header: &Ipv4HeaderSlice<'_>) -> Result<(), TranslationError>
     Ok(())
 }
 
-/// Whether this is no address of a host: an address of network 0 or 127, a multicast address, or a reserved address.
+/// Whether this is not the address of a host, but an address of network 0 or 127, a multicast address, or a reserved address.
 pub(crate) fn is_illegal(address: [u8; 4]) -> bool
     ensures { result ≡ specs.is_illegal address }
 {
     address[0] == 0 || address[0] == 127 || address[0] > 223
 }
 
-/// The next header of a translated packet with this protocol.
+/// The next header of the translated packet, if this is the protocol of the IPv4 packet.
 fn next_header(protocol: IpNumber) -> IpNumber
     ensures { result.0 ≡ specs.next_header protocol.0 }
 {
@@ -164,7 +164,7 @@ fn next_header(protocol: IpNumber) -> IpNumber
     }
 }
 
-/// An IPv6 header with these fields. The flow label is 0.
+/// An IPv6 header with these fields. `next` contains the next header and the hop limit. The flow label is 0.
 fn ipv6_header(
     traffic_class: u8,
     payload_len: u16,

@@ -16,21 +16,22 @@ use word_sum::checksum_change::ChecksumChange;
 /// The length of the translated header, in bytes: an IPv4 header without options (RFC 791, section 3.1).
 const IPV4_LEN: u16 = 20;
 
-/// The IPv4 header for the header of an IPv6 packet without extension headers (RFC 7915, section 5.1).
+/// Translates the header of an IPv6 packet without extension headers to an IPv4 header (RFC 7915, section 5.1).
 ///
 /// | Field | Value |
 /// |---|---|
 /// | type of service | traffic class |
-/// | total length | payload length and 20 |
-/// | identification | as passed |
+/// | total length | payload length plus 20 |
+/// | identification | the argument `identification` |
 /// | "don't fragment" | set if the total length is above 1260 |
 /// | time to live | hop limit, lowered by 1, since a translator is a router |
 /// | protocol | next header, but ICMP for ICMPv6 |
 /// | checksum | over this header |
-/// | source, destination | the addresses that the prefixes extract, by `Prefix64::to_ipv4` |
+/// | source, destination | the IPv4 addresses that the IPv6 addresses contain, by `Prefix64::to_ipv4` |
 ///
-/// More fragments and the fragment offset are 0, and there are no options. A packet with a total length of at most 1260 bytes may be fragmented
-/// on its way, so no two of them with the same addresses and protocol may have the same identification at the same time (RFC 6864).
+/// More fragments and the fragment offset are 0, and there are no options. A packet with a total length of at most 1260 bytes may be
+/// fragmented on its way. So two of these packets with the same addresses and protocol must not have the same identification at the same
+/// time (RFC 6864).
 ///
 /// # Errors
 ///
@@ -38,8 +39,9 @@ const IPV4_LEN: u16 = 20;
 /// - `ExtensionHeader` if the next header is an extension header: hop-by-hop options, routing, fragment or destination options.
 /// - `PayloadLength` if the payload length is above 65,515.
 /// - `TimeExceeded` if the hop limit is 0 or 1.
-/// - `Source` and `Destination` if `Prefix64::to_ipv4` refuses the address.
-/// - `IllegalSource` if the first byte of the IPv4 source is 0, 127, or above 223, and `IllegalDestination` for the destination.
+/// - `Source` or `Destination` if `Prefix64::to_ipv4` refuses this address.
+/// - `IllegalSource` if the first byte of the IPv4 source is 0, 127, or above 223, and `IllegalDestination` if this is true for the IPv4
+///   destination.
 pub fn header_to_ipv4(
     header: &Ipv6HeaderSlice<'_>,
     prefixes: &Prefixes,
@@ -70,14 +72,14 @@ pub fn header_to_ipv4(
 }
 
 /// The change of the pseudo header of UDP and TCP (RFC 7915, section 5.5): the IPv4 addresses that the prefixes extract replace the IPv6
-/// addresses. Protocol and length stay, and so does the rest of the packet.
+/// addresses. The protocol, the length and the rest of the packet are unchanged.
 pub fn pseudo_header_change_to_ipv4(
     header: &Ipv6HeaderSlice<'_>,
     prefixes: &Prefixes,
 ) -> ChecksumChange
     ensures removed { removed_value result ≡ specs.removed_addresses header.now }
     ensures added { added_value result ≡ specs.added_addresses prefixes.now header.now }
-    // So `ChecksumChange` states what a receiver accepts.
+    // The contracts of `ChecksumChange` use this to state what a receiver accepts.
     ensures turned { (protocol : ℕ) → 0 < protocol →
         AreTurned result (specs.old_pseudo_header header.now protocol) (specs.new_pseudo_header prefixes.now header.now protocol) }
 {
@@ -91,7 +93,7 @@ pub fn pseudo_header_change_to_ipv4(
         .reversed()
 }
 
-/// Refuses a header with any error but those of its addresses, and returns the total length of the translated packet.
+/// Checks all fields except the addresses, and returns the total length of the translated packet.
 fn check_fields(header: &Ipv6HeaderSlice<'_>) -> Result<u16, TranslationError>
     ensures refused { RefusesExactly result (specs.field_refusal header.now) }
     ensures total_len { IfOk result (λ len. len ≡ specs.payload_len header.now + 20) }
@@ -110,7 +112,7 @@ fn check_fields(header: &Ipv6HeaderSlice<'_>) -> Result<u16, TranslationError>
     Ok(payload_len + IPV4_LEN)
 }
 
-/// Whether this is the number of an extension header that a translator skips or translates.
+/// Whether this is the number of hop-by-hop options, or of a routing, fragment or destination options header.
 fn is_extension(number: IpNumber) -> bool
     ensures { result ≡ specs.is_extension number.0 }
 {
@@ -120,7 +122,8 @@ fn is_extension(number: IpNumber) -> bool
         || number.0 == ip_number::IPV6_DESTINATION_OPTIONS.0
 }
 
-/// The IPv4 source and destination.
+/// The source and the destination of the translated packet. Refuses an address that has no translation, or whose translation is not the
+/// address of a host.
 fn ipv4_addresses(
     header: &Ipv6HeaderSlice<'_>,
     prefixes: &Prefixes,
@@ -163,7 +166,7 @@ fn flags(total_len: u16) -> u8
     }
 }
 
-/// The protocol of the translated packet.
+/// The protocol of the translated packet, if this is the next header of the IPv6 packet.
 fn protocol_of(number: IpNumber) -> u8
     ensures { result ≡ specs.protocol_of number.0 }
 {
@@ -184,7 +187,7 @@ fn ipv4_header(start: [u8; 10], source: [u8; 4], destination: [u8; 4]) -> ArrayV
     with_checksum(start, checksum, source, destination)
 }
 
-/// The same header with this checksum.
+/// An IPv4 header with these first ten bytes, this checksum and these addresses.
 fn with_checksum(
     start: [u8; 10],
     checksum: u16,

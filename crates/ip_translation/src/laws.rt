@@ -9,8 +9,9 @@ ghost use Rattle.ip_translation.specs.ThereAndBack.{tcp_back, udp_back};
 use crate::Prefixes;
 use net_base::Ipv4HeaderSlice;
 
-/// A message that is translated to IPv6 and back with the same prefixes is the same message. A UDP packet has to have a checksum, since it
-/// gets one over IPv6, and the checksum of a TCP segment must not be 65535, which becomes the other zero.
+/// Assume a UDP packet with a checksum, or a TCP segment whose checksum is not 65535. If it is translated to IPv6 and back with the same
+/// prefixes, the result is the same message. A UDP packet without a checksum would get a checksum, and the TCP checksum 65535 would become
+/// 0.
 pub fn message_there_and_back(header: &Ipv4HeaderSlice<'_>, prefixes: &Prefixes)
     ensures udp { (packet : List ℕ) → IsBytes packet → 8 ≤ length packet → udp_checksum packet ≢ 0 →
         udp_back prefixes.now header.now packet ≡ packet }

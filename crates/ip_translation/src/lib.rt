@@ -1,4 +1,4 @@
-//! Translation between IPv4 and IPv6 (RFC 7915), with addresses as in RFC 6052.
+//! Translation between IPv4 and IPv6 (RFC 7915), with IPv4 addresses embedded in IPv6 addresses (RFC 6052).
 //!
 //! A `Prefix64` embeds IPv4 addresses in IPv6 addresses, and extracts them again. `ipv4_to_ipv6` and `ipv6_to_ipv4` translate
 //! packets. No call allocates or has a precondition.

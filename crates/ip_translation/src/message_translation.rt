@@ -27,7 +27,7 @@ pub(crate) const TCP_LEN: usize = 20;
 /// The place of the checksum in a TCP header, in bytes.
 pub(crate) const TCP_CHECKSUM_AT: usize = 16;
 
-/// Refuses a message of this protocol that has no translation.
+/// Refuses a message of this protocol if the message has no translation.
 pub(crate) fn check_message(
     protocol: IpNumber,
     message: &[u8],
@@ -49,7 +49,7 @@ pub(crate) fn check_message(
     Ok(())
 }
 
-/// Refuses a UDP packet that is cut off, or whose checksum is missing and can't be computed.
+/// Refuses a UDP packet that is shorter than its header, or whose checksum is missing and can't be computed.
 fn check_udp(packet: &[u8]) -> Result<(), PacketTranslationError>
     ensures refused { RefusesExactly result (specs.udp_refusal packet.now) }
     ensures whole { IfOk result (λ _. specs.IsWholeUdp packet.now) }
@@ -83,7 +83,8 @@ pub(crate) fn check_header_len(
     Ok(())
 }
 
-/// Writes the translation of a message: the same bytes, with a new checksum for UDP and TCP.
+/// Writes the translation of a message. In UDP and TCP only the checksum changes. An ICMP echo message becomes an ICMPv6 echo message. A
+/// message of any other protocol is unchanged.
 pub(crate) fn write_message(
     translated: &mut [u8],
     message: &[u8],
@@ -113,7 +114,7 @@ pub(crate) fn write_message(
     translated.copy_from_slice(message);
 }
 
-/// Writes an echo message as one of ICMPv6, whose checksum covers a pseudo header.
+/// Writes an ICMP echo message as an ICMPv6 echo message, whose checksum covers a pseudo header.
 fn write_icmp(
     translated: &mut [u8],
     message: &[u8],
@@ -176,7 +177,7 @@ fn write_tcp(
 fn udp_checksum(packet: &[u8], header: &Ipv4HeaderSlice<'_>, prefixes: &Prefixes) -> u16
     requires there { 8 ≤ length packet.now }
     ensures checksum { result ≡ specs.new_udp_checksum prefixes.now header.now packet.now }
-    // A receiver accepts the packet exactly if it accepted the packet with the old addresses.
+    // Assume that the packet has a checksum. Then a receiver accepts the packet exactly if it accepted the packet with the old addresses.
     ensures verifies { specs.udp_checksum packet.now ≢ 0 → (len rest : ℕ) → len ≤ max_len_over_ipv4 →
         (IsAllOnes (total (headers.new_pseudo_header prefixes.now header.now udp_number len) + rest + result))
         ↔ (IsAllOnes (total (headers.old_pseudo_header header.now udp_number len) + rest + specs.udp_checksum packet.now)) }
@@ -188,7 +189,7 @@ fn udp_checksum(packet: &[u8], header: &Ipv4HeaderSlice<'_>, prefixes: &Prefixes
     pseudo_header_change(header, prefixes).apply_udp(checksum)
 }
 
-/// The checksum of a translated UDP packet, over the bytes that its length field counts.
+/// The checksum of a translated UDP packet that had no checksum. It covers the pseudo header and the bytes that the length field counts.
 fn computed_udp_checksum(packet: &[u8], header: &Ipv4HeaderSlice<'_>, prefixes: &Prefixes) -> u16
     requires there { 8 ≤ length packet.now }
     ensures { result ≡ udp_checksum_of (total (headers.new_pseudo_header prefixes.now header.now udp_number (specs.udp_length packet.now))
@@ -215,7 +216,7 @@ fn tcp_checksum(segment: &[u8], header: &Ipv4HeaderSlice<'_>, prefixes: &Prefixe
     pseudo_header_change(header, prefixes).apply(number(segment, TCP_CHECKSUM_AT))
 }
 
-/// The number in the two bytes at this place.
+/// The number in the two bytes that begin at the offset `place`.
 pub(crate) fn number(message: &[u8], place: usize) -> u16
     requires there { place + 2 ≤ length message.now }
     ensures { result ≡ be_number message.now place 2 }
@@ -223,7 +224,7 @@ pub(crate) fn number(message: &[u8], place: usize) -> u16
     u16::from_be_bytes([message[place], message[place + 1]])
 }
 
-/// Writes a checksum to the two bytes at this place.
+/// Writes a checksum to the two bytes that begin at the offset `place`.
 pub(crate) fn store_checksum(message: &mut [u8], place: usize, checksum: u16)
     requires there { place + 2 ≤ length message.old }
     ensures { message.new ≡ with_checksum place message.old checksum }

@@ -22,20 +22,20 @@ const IPV4_LEN: usize = 20;
 /// The length of an IPv6 header, in bytes (RFC 8200, section 3).
 const IPV6_LEN: usize = 40;
 
-/// Writes the IPv4 packet for an IPv6 packet to the front of `buffer`, and returns its length in bytes (RFC 7915, section 5). The rest of the
-/// buffer is unchanged. Bytes after the payload length of the packet are ignored.
+/// Translates an IPv6 packet to IPv4 (RFC 7915, section 5). Writes the IPv4 packet to the front of `buffer`, and returns its length in
+/// bytes. The rest of the buffer is unchanged. Bytes that the payload length does not count are ignored.
 ///
-/// `header_to_ipv4` translates the header, with this identification. The message is kept, except for the checksum of UDP and TCP: their
-/// pseudo header contains the addresses. An echo message of ICMPv6 becomes one of ICMP (section 5.2). A packet of any other protocol keeps its
-/// message.
+/// `header_to_ipv4` translates the header, with this identification. In a message of UDP or TCP only the checksum changes, since the pseudo
+/// header contains the addresses. An ICMPv6 echo message becomes an ICMP echo message (section 5.2). A message of any other protocol is
+/// unchanged.
 ///
 /// # Errors
 ///
-/// The first of these that applies. The buffer is then unchanged:
+/// After an error the buffer is unchanged. The call checks these cases, in this order:
 /// - `NoIpv6Header` if the bytes do not begin with a whole IPv6 header.
 /// - `Header` if `header_to_ipv4` refuses the header.
 /// - `CutOff` if there are fewer bytes than the header and its payload length.
-/// - `TransportHeader` if a UDP packet or an ICMP message is shorter than 8 bytes, or a TCP segment shorter than 20 bytes.
+/// - `TransportHeader` if a UDP packet or an ICMP message is shorter than 8 bytes, or a TCP segment is shorter than 20 bytes.
 /// - `IcmpType` if an ICMP message is neither an echo request nor an echo reply.
 /// - `NoUdpChecksum` if a UDP packet has no checksum.
 /// - `Space` if the buffer is shorter than the translated packet.
@@ -49,7 +49,7 @@ pub fn ipv6_to_ipv4(
     ensures len { IfOk result (λ len. len ≡ 20 + length (specs.message_of packet.now)) }
     ensures written { IfOk result (λ len. buffer.new ≡ specs.translated_packet prefixes.now identification packet.now ++ drop len buffer.old) }
     ensures unchanged { IfErr result (λ _. buffer.new ≡ buffer.old) }
-    // A receiver accepts the message of the translated packet exactly if it accepts the message of the packet.
+    // A receiver accepts the message of the translated packet exactly if it accepts the message of the original packet.
     ensures alike { IfOk result (λ _. specs.IsAcceptedAlike prefixes.now (ipv6_header packet.now) (specs.message_of packet.now)
         (specs.translated_message prefixes.now (ipv6_header packet.now) (specs.message_of packet.now))) }
 {
@@ -97,7 +97,7 @@ fn translate_after(
     Ok(len)
 }
 
-/// The IPv4 header for this header.
+/// The IPv4 header for this IPv6 header.
 fn translated_header(
     header: &Ipv6HeaderSlice<'_>,
     prefixes: &Prefixes,
@@ -113,7 +113,7 @@ fn translated_header(
     }
 }
 
-/// The bytes after this header, as many as its payload length counts.
+/// The message: the bytes after this header that its payload length counts.
 fn message_after<'a>(
     header: &Ipv6HeaderSlice<'_>,
     packet: &'a [u8],
@@ -132,7 +132,7 @@ fn message_after<'a>(
     Ok(&packet[IPV6_LEN..total_len])
 }
 
-/// Refuses a message of this protocol that has no translation.
+/// Refuses a message of this protocol if the message has no translation.
 fn check_message(protocol: IpNumber, message: &[u8]) -> Result<(), PacketTranslationError>
     ensures refused { RefusesExactly result (specs.message_refusal protocol.0 message.now) }
     ensures udp { IfOk result (λ _. protocol.0 ≡ udp_number → 8 ≤ length message.now) }
@@ -151,7 +151,7 @@ fn check_message(protocol: IpNumber, message: &[u8]) -> Result<(), PacketTransla
     Ok(())
 }
 
-/// Refuses a UDP packet that is cut off or has no checksum.
+/// Refuses a UDP packet that is shorter than its header or has no checksum.
 fn check_udp(packet: &[u8]) -> Result<(), PacketTranslationError>
     ensures refused { RefusesExactly result (specs.udp_refusal packet.now) }
     ensures there { IfOk result (λ _. 8 ≤ length packet.now) }
@@ -185,7 +185,8 @@ fn write_parts(
     write_message(&mut rest[..message.len()], message, header, prefixes);
 }
 
-/// Writes the translation of a message: the same bytes, with an updated checksum for UDP and TCP.
+/// Writes the translation of a message. In UDP and TCP only the checksum changes. An ICMPv6 echo message becomes an ICMP echo message. A
+/// message of any other protocol is unchanged.
 fn write_message(
     translated: &mut [u8],
     message: &[u8],
@@ -217,7 +218,7 @@ fn write_message(
     translated.copy_from_slice(message);
 }
 
-/// Writes an echo message of ICMPv6 as one of ICMP, whose checksum covers no pseudo header.
+/// Writes an ICMPv6 echo message as an ICMP echo message, whose checksum covers no pseudo header.
 fn write_icmp(translated: &mut [u8], message: &[u8], header: &Ipv6HeaderSlice<'_>)
     requires room { length translated.old ≡ length message.now }
     requires there { 8 ≤ length message.now }

@@ -17,20 +17,20 @@ use net_base::Ipv4HeaderSlice;
 /// The length of an IPv6 header, in bytes (RFC 8200, section 3).
 const IPV6_LEN: usize = 40;
 
-/// Writes the IPv6 packet for an IPv4 packet to the front of `buffer`, and returns its length in bytes (RFC 7915, section 4). The rest of
-/// the buffer is unchanged. Bytes after the total length of the packet are ignored.
+/// Translates an IPv4 packet to IPv6 (RFC 7915, section 4). Writes the IPv6 packet to the front of `buffer`, and returns its length in
+/// bytes. The rest of the buffer is unchanged. Bytes that the total length does not count are ignored.
 ///
-/// `header_to_ipv6` translates the header. The message is kept, except for the checksum of UDP and TCP: their pseudo header contains the
-/// addresses. A UDP packet without a checksum gets one (section 4.5). An echo message of ICMP becomes one of ICMPv6 (section 4.2). A packet of
-/// any other protocol keeps its message.
+/// `header_to_ipv6` translates the header. In a message of UDP or TCP only the checksum changes, since the pseudo header contains the
+/// addresses. If a UDP packet has no checksum, the checksum is computed (section 4.5). An ICMP echo message becomes an ICMPv6 echo message
+/// (section 4.2). A message of any other protocol is unchanged.
 ///
 /// # Errors
 ///
-/// The first of these that applies. The buffer is then unchanged:
+/// After an error the buffer is unchanged. The call checks these cases, in this order:
 /// - `NoIpv4Header` if the bytes do not begin with a whole IPv4 header.
 /// - `Header` if `header_to_ipv6` refuses the header.
 /// - `CutOff` if there are fewer bytes than the total length.
-/// - `TransportHeader` if a UDP packet or an ICMP message is shorter than 8 bytes, or a TCP segment shorter than 20 bytes.
+/// - `TransportHeader` if a UDP packet or an ICMP message is shorter than 8 bytes, or a TCP segment is shorter than 20 bytes.
 /// - `IcmpType` if an ICMP message is neither an echo request nor an echo reply.
 /// - `UdpLength` if a UDP packet has no checksum, and its length field is below 8 or above the length of the message.
 /// - `Space` if the buffer is shorter than the translated packet.
@@ -43,7 +43,8 @@ pub fn ipv4_to_ipv6(
     ensures len { IfOk result (λ len. len ≡ 40 + length (specs.message_of packet.now)) }
     ensures written { IfOk result (λ len. buffer.new ≡ specs.translated_packet prefixes.now packet.now ++ drop len buffer.old) }
     ensures unchanged { IfErr result (λ _. buffer.new ≡ buffer.old) }
-    // A receiver accepts the message of the translated packet exactly if it accepts the message of the packet.
+    // A receiver accepts the message of the translated packet exactly if it accepts the message of the original packet. `IsAcceptedAlike`
+    // states the exceptions.
     ensures alike { IfOk result (λ _. specs.IsAcceptedAlike prefixes.now (ipv4_header packet.now) (specs.message_of packet.now)
         (specs.translated_message prefixes.now (ipv4_header packet.now) (specs.message_of packet.now))) }
 {
@@ -89,7 +90,7 @@ fn translate_after(
     Ok(len)
 }
 
-/// The IPv6 header for this header.
+/// The IPv6 header for this IPv4 header.
 fn translated_header(
     header: &Ipv4HeaderSlice<'_>,
     prefixes: &Prefixes,
@@ -105,7 +106,7 @@ fn translated_header(
     }
 }
 
-/// The bytes after this header, up to the total length.
+/// The message: the bytes after this header, up to the total length.
 fn message_after<'a>(
     header: &Ipv4HeaderSlice<'_>,
     packet: &'a [u8],

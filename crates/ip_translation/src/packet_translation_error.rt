@@ -11,31 +11,32 @@ use thiserror::Error;
 #[derive(Clone, Debug, PartialEq, Eq, Drop, Error)]
 #[error("{}", self.text())]
 pub enum PacketTranslationError {
-    /// The bytes do not begin with an IPv4 header.
+    /// The bytes do not begin with a whole IPv4 header.
     NoIpv4Header,
-    /// The bytes do not begin with an IPv6 header.
+    /// The bytes do not begin with a whole IPv6 header.
     NoIpv6Header,
     /// The IP header has no translation.
     Header(TranslationError),
-    /// The packet ends before its total length.
+    /// The packet has fewer bytes than its header counts.
     CutOff {
-        /// The total length, in bytes.
+        /// The number of bytes that the header counts, including the header itself.
         total_len: usize,
-        /// The number of bytes.
+        /// The number of bytes that the packet has.
         len: usize,
     },
-    /// The packet contains an ICMP message of this type, which is no echo message.
+    /// The packet contains an ICMP message of this type. Only echo messages are translated.
     IcmpType(u8),
-    /// The message ends before its transport header.
+    /// The message ends within its transport header.
     TransportHeader {
         /// The length of the transport header without options, in bytes.
         required_len: usize,
         /// The length of the message, in bytes.
         len: usize,
     },
-    /// A UDP packet has no checksum, and its length field does not allow to compute one: it is below 8, or above the length of the message.
+    /// A UDP packet over IPv4 has no checksum, and the checksum can't be computed. The length field is below 8, or above the length of the
+    /// message.
     UdpLength {
-        /// The length field.
+        /// The value of the length field, in bytes.
         length: usize,
         /// The length of the message, in bytes.
         len: usize,

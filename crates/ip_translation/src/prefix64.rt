@@ -28,7 +28,7 @@ impl Prefix64 {
     /// The well-known prefix, 64:ff9b::/96 (RFC 6052, section 2.1).
     pub const WELL_KNOWN: Prefix64 = Prefix64::Bits96(WELL_KNOWN_OCTETS);
 
-    /// Returns the prefix with this length in bits. `address` begins with the prefix, and all its other bits are 0.
+    /// Returns the prefix with this length in bits. `address` must begin with the prefix, and all its other bits must be 0.
     ///
     /// # Errors
     ///
@@ -77,14 +77,14 @@ impl Prefix64 {
     /// The IPv6 address that contains an IPv4 address: the prefix, the address, and a suffix of zeros (RFC 6052, section 2.3).
     pub fn embed(&self, ipv4: [u8; 4]) -> [u8; 16]
         ensures embedded { result ≡ specs.embedded self.now ipv4 }
-        // `extract` returns the same IPv4 address.
+        // If `extract` is called with the result, it returns the same IPv4 address.
         ensures is_embedded { specs.is_embedded self.now result ≡ true }
         ensures extracted { specs.extracted self.now result ≡ ipv4 }
     {
         self.join(ipv4)
     }
 
-    /// The IPv6 address that consists of the prefix, this IPv4 address and a suffix of zeros, with the reserved octet.
+    /// The IPv6 address that consists of the prefix, this IPv4 address and a suffix of zeros. The reserved octet is 0.
     fn join(&self, ipv4: [u8; 4]) -> [u8; 16]
         ensures joined { result ≡ specs.embedded self.now ipv4 }
         ensures len { length (specs.octets self.now) ≡ specs.octet_count self.now }
@@ -123,7 +123,7 @@ impl Prefix64 {
     pub fn extract(&self, address: &[u8; 16]) -> Option<[u8; 4]>
         ensures extracted { MatchOption result (specs.is_embedded self.now address.now ≡ false)
             (λ ipv4. (specs.is_embedded self.now address.now ≡ true) × (ipv4 ≡ specs.extracted self.now address.now)) }
-        // `embed` returns the same address, but with a suffix of zeros.
+        // If `embed` is called with the result, it returns the same IPv6 address, but with a suffix of zeros.
         ensures embedded { IfSome result (λ ipv4. specs.embedded self.now ipv4 ≡ specs.with_zero_suffix self.now address.now) }
     {
         let (is_prefix, ipv4) = self.front(address);
@@ -179,7 +179,7 @@ impl Prefix64 {
         }
     }
 
-    /// Whether an address begins with the prefix, and the IPv4 address after it.
+    /// Whether an address begins with the prefix, and the IPv4 address after the prefix. The reserved octet of the address is skipped.
     pub(crate) fn front(&self, address: &[u8; 16]) -> (bool, [u8; 4])
         ensures prefix { result.0 ≡ pointwise nat_eq (take (specs.octet_count self.now) (specs.without_reserved address.now)) (specs.octets self.now) }
         ensures ipv4 { result.1 ≡ specs.extracted self.now address.now }
@@ -240,7 +240,7 @@ fn is_not_global(ipv4: [u8; 4]) -> bool
         || is_in([240, 0, 0, 0], 4, ipv4)
 }
 
-/// Whether an address is in a block: its first `bits` bits are those of the block.
+/// Whether an address is in a block: its first `bits` bits are equal to the first `bits` bits of the block.
 fn is_in(block: [u8; 4], bits: u32, ipv4: [u8; 4]) -> bool
     requires { (1 ≤ bits) × (bits ≤ 32) }
     ensures { result ≡ specs.is_in block bits ipv4 }

@@ -11,7 +11,7 @@ use thiserror::Error;
 #[derive(Clone, Debug, PartialEq, Eq, Drop, Error)]
 #[error("{}", self.text())]
 pub enum TranslationError {
-    /// The total length is below the length of the header.
+    /// The total length of an IPv4 packet is below the length of its header.
     TotalLength {
         /// The total length, in bytes.
         total_len: u16,
@@ -22,13 +22,14 @@ pub enum TranslationError {
     HeaderChecksum,
     /// The packet is a fragment.
     Fragment,
-    /// The options contain a loose or strict source route.
+    /// The IPv4 options contain a loose or strict source route.
     SourceRoute,
     /// The next header of an IPv6 header is this extension header: hop-by-hop options, routing, fragment or destination options.
     ExtensionHeader(u8),
-    /// The payload length of an IPv6 header is above 65,515, so that no IPv4 header can count the packet.
+    /// The payload length of an IPv6 header is above 65,515, so the total length of IPv4 can't count the packet.
     PayloadLength(u16),
-    /// The packet may not pass the translator, since the time to live or the hop limit is 0 or 1. Its sender is told (RFC 7915, section 4.1).
+    /// The time to live or the hop limit is 0 or 1, so the translator must not forward the packet. It reports this to the sender (RFC 7915,
+    /// section 4.1).
     TimeExceeded,
     /// The source is not the address of a host. The packet is dropped silently (RFC 7915, section 4.1; RFC 1812, section 5.3.7).
     IllegalSource,

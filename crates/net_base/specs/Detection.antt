@@ -74,8 +74,8 @@ pub record Detects (Passes : List ℕ → Type 0) (bytes : List ℕ) : Type 0 wh
   pub detects_other_byte : DetectsOtherByte Passes bytes
   pub misses_exchanged_words : MissesExchangedWords Passes bytes
 
--- What the test of these bytes detects, and what it does not detect, if there is no pseudo header. A sum of 0 is treated apart, since only
--- bytes that are all zeros have it.
+-- What the test of these bytes detects, and what it does not detect, if there is no pseudo header. In the first two facts, bytes that are
+-- all zeros also count as passing. Their sum is 0, which is zero in one's complement, like all ones.
 pub record DetectsWithoutPseudoHeader (bytes : List ℕ) : Type 0 where
   pub passes_by_remainder : PassesByRemainder SumsUpToZero bytes
   pub detects_other_word : DetectsOtherWord SumsUpToZero bytes

@@ -18,7 +18,7 @@ use Rattle.net_base.specs.declared.tcp_option_read_error.TcpOptionReadError.TheV
 use Rattle.net_base.specs.declared.tcp_option_write_error.TcpOptionWriteError.{TcpOptionWriteError}
 use Rattle.net_base.specs.declared.tcp_option_write_error.TcpOptionWriteError.TheVariants.{NotEnoughSpace}
 
--- the name of what states a length
+-- the name of the source of a length
 abbrev pub len_source_word : LenSource → List ℕ
 len_source_word Slice = codes "Slice"
 len_source_word UdpHeaderLen = codes "UdpHeaderLen"

@@ -1,9 +1,10 @@
--- Adding an offset to the error of a TCP header: the place at which the part that was read begins.
+-- How an offset is added to an error about a TCP header. The offset is the place in a packet at which the bytes that were read begin.
 use Rattle.std.specs.Prelude.{ℕ, ◌+◌, ◌<◌, ◌^◌}
 use Rattle.net_base.specs.declared.err.tcp.header_slice_error.HeaderSliceError.{HeaderSliceError}
 use Rattle.net_base.specs.declared.err.tcp.header_slice_error.HeaderSliceError.TheVariants.{Len, Content}
 
--- the sum of both offsets fits `usize`; an error about the value of a field contains no offset, so any offset is allowed
+-- The offset can be added: its sum with the offset in the error fits `usize`. An error about the value of a field contains no offset, so
+-- any offset is allowed.
 abbrev pub OffsetFits : HeaderSliceError → ℕ → Type 0
 OffsetFits (Len error) offset = error.layer_start_offset + offset < 2 ^ 64
 OffsetFits (Content error) offset = Unit {0}

@@ -20,7 +20,7 @@ abbrev pub part_by_value : TextPart → Part
 part_by_value (Words words) = WordsOf words.now
 part_by_value (Number number) = NumberOf number
 
--- what a text reads as: the texts of its parts, one after the other
+-- the whole text: the texts of its parts, one after the other
 abbrev pub reads_as : List TextPart → List ℕ
 reads_as parts = flat_map part_text parts
 

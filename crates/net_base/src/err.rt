@@ -1,4 +1,4 @@
-//! The errors of all calls, and the layers, length sources and kinds of values that the errors contain.
+//! Errors that calls return, their texts, and the layers, length sources and kinds of values that these errors contain.
 
 mod error_text;
 mod layer;

@@ -14,8 +14,8 @@ use crate::Ipv4HeaderSlice;
 pub struct Ipv4Header {
     /// The address of the sender.
     pub source: [u8; 4],
-    /// The address of the receiver. If a source route has an address left, it differs from the final address, which a checksum covers (RFC
-    /// 1122, section 3.2.1.8).
+    /// The address of the receiver. If a source route still lists an address to visit, this is not the final address, which a checksum
+    /// covers (RFC 1122, section 3.2.1.8).
     pub destination: [u8; 4],
 }
 

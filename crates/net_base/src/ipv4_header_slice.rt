@@ -43,8 +43,11 @@ impl<'a> Ipv4HeaderSlice<'a> {
     ghost use Rattle.net_base.specs.IpHeaders.{BeginsWithIpv4Header, ipv4_fragment_offset, ipv4_header_len, ipv4_header_of, ipv4_is_fragment, version};
     ghost use Rattle.word_sum.specs.Checksum.{Verifies};
 
-    /// Reads the header at the front of the slice (RFC 791, section 3.1). `None` if the slice is shorter than 20 bytes, if the version is
-    /// not 4, if the header length is below five words, or if the slice is shorter than the header length.
+    /// Reads the header at the front of the slice (RFC 791, section 3.1). The call returns `None` in these cases:
+    /// - The slice is shorter than 20 bytes.
+    /// - The version is not 4.
+    /// - The header length is below five words of four bytes.
+    /// - The slice is shorter than the header length.
     pub fn from_slice(slice: &'a [u8]) -> Option<Ipv4HeaderSlice<'a>>
         ensures found { IsSome result ↔ BeginsWithIpv4Header slice.now }
         ensures kept { IfSome result (λ header. header ≡ take (ipv4_header_len slice.now) slice.now) }
@@ -124,7 +127,8 @@ impl<'a> Ipv4HeaderSlice<'a> {
         self.slice[6] & 0x20 != 0
     }
 
-    /// The offset of the payload in the payload of the whole packet, in units of 8 bytes, 0 to 8,191 (the low 13 bits of bytes 6 and 7).
+    /// The offset of this fragment's payload in the payload of the whole packet, in units of 8 bytes: 0 to 8,191 (the low 13 bits of bytes
+    /// 6 and 7).
     pub fn fragments_offset(&self) -> u16
         ensures { result ≡ ipv4_fragment_offset self.now }
     {
@@ -163,11 +167,11 @@ impl<'a> Ipv4HeaderSlice<'a> {
     /// Whether the checksum of the header is right: the one's complement sum of the header is all ones (RFC 791, section 3.1; RFC 1071,
     /// section 1). The payload is not summed.
     ///
-    /// This check detects each change of one byte of a valid header. It detects each change of one aligned two-byte word, except between
-    /// 0000 and FFFF. It does not detect that two aligned words were exchanged.
+    /// This check detects each change of one byte of a valid header. It also detects each change of one aligned two-byte word, except from
+    /// 0000 to FFFF or from FFFF to 0000. An exchange of two aligned words is not detected.
     pub fn is_checksum_valid(&self) -> bool
         ensures valid { IsTrue result ↔ Verifies [] self.now }
-        // These are the changes that the check detects, and a change that it does not detect.
+        // For a valid header, this states which changes the check detects, and which changes it does not detect.
         ensures detects { IsTrue result → DetectsWithoutPseudoHeader self.now }
     {
         is_valid(self.slice)
@@ -182,8 +186,8 @@ impl<'a> Ipv4HeaderSlice<'a> {
         source
     }
 
-    /// The address of the receiver (bytes 16 to 19). If a source route has an address left, it differs from the final address, which a
-    /// checksum covers (RFC 1122, section 3.2.1.8).
+    /// The address of the receiver (bytes 16 to 19). If a source route still lists an address to visit, this is not the final address,
+    /// which a checksum covers (RFC 1122, section 3.2.1.8).
     pub fn destination(&self) -> [u8; 4]
         ensures { result ≡ slice_range self.now 16 20 }
     {

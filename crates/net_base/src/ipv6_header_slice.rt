@@ -77,8 +77,8 @@ impl<'a> Ipv6HeaderSlice<'a> {
         u32::from_be_bytes([self.slice[0], self.slice[1], self.slice[2], self.slice[3]]) & 0xf_ffff
     }
 
-    /// The length of everything after these 40 bytes, in bytes, as the header states it (bytes 4 and 5). It counts extension headers too.
-    /// In a jumbogram it is 0 (RFC 2675, section 2).
+    /// The length of everything after these 40 bytes, in bytes, as the header states it (bytes 4 and 5). It includes extension headers. In
+    /// a jumbogram it is 0 (RFC 2675, section 2).
     pub fn payload_length(&self) -> u16
         ensures { result ≡ be_number self.now 4 2 }
     {

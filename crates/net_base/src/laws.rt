@@ -1,5 +1,6 @@
 //! Laws of the types: a clone is the same value, `==` holds exactly if two values are the same, and a hash covers every field. The laws
-//! also state the protocol numbers. Each law is the contract of a function, so that it is checked with the calls.
+//! also state the protocol numbers. Each law is the contract of a function. The function makes only the call that the law describes, or no
+//! call.
 //!
 //! # Errors
 //!
@@ -275,56 +276,56 @@ pub fn constants()
     ensures shim6 { SHIM6.0 ≡ 140 }
 {}
 
-/// The hash of a `Layer` covers this input.
+/// The hash of a `Layer` covers the input that `layer_input` defines.
 pub fn hashed_layer<H: Hasher>(value: &Layer, state: &mut H)
     ensures { state.new ≡ fold H.write state.old (layer_input value.now) }
 {
     value.hash(state);
 }
 
-/// The hash of a `LenSource` covers this input.
+/// The hash of a `LenSource` covers the input that `len_source_input` defines.
 pub fn hashed_len_source<H: Hasher>(value: &LenSource, state: &mut H)
     ensures { state.new ≡ fold H.write state.old (len_source_input value.now) }
 {
     value.hash(state);
 }
 
-/// The hash of a `ValueType` covers this input.
+/// The hash of a `ValueType` covers the input that `value_type_input` defines.
 pub fn hashed_value_type<H: Hasher>(value: &ValueType, state: &mut H)
     ensures { state.new ≡ fold H.write state.old (value_type_input value.now) }
 {
     value.hash(state);
 }
 
-/// The hash of a `LenError` covers this input.
+/// The hash of a `LenError` covers the input that `len_error_input` defines.
 pub fn hashed_len_error<H: Hasher>(value: &LenError, state: &mut H)
     ensures { state.new ≡ fold H.write state.old (len_error_input value.now) }
 {
     value.hash(state);
 }
 
-/// The hash of a `ValueTooBigError` covers this input.
+/// The hash of a `ValueTooBigError` covers the input that `value_too_big_error_input` defines.
 pub fn hashed_value_too_big_error<H: Hasher>(value: &ValueTooBigError<usize>, state: &mut H)
     ensures { state.new ≡ fold H.write state.old (value_too_big_error_input value.now) }
 {
     value.hash(state);
 }
 
-/// The hash of a `HeaderError` covers this input.
+/// The hash of a `HeaderError` covers the input that `header_error_input` defines.
 pub fn hashed_header_error<H: Hasher>(value: &HeaderError, state: &mut H)
     ensures { state.new ≡ fold H.write state.old (header_error_input value.now) }
 {
     value.hash(state);
 }
 
-/// The hash of a `HeaderSliceError` covers this input.
+/// The hash of a `HeaderSliceError` covers the input that `header_slice_error_input` defines.
 pub fn hashed_header_slice_error<H: Hasher>(value: &HeaderSliceError, state: &mut H)
     ensures { state.new ≡ fold H.write state.old (header_slice_error_input value.now) }
 {
     value.hash(state);
 }
 
-/// The hash of an `IpNumber` covers this input.
+/// The hash of an `IpNumber` covers its number.
 pub fn hashed_ip_number<H: Hasher>(value: &IpNumber, state: &mut H)
     ensures { state.new ≡ fold H.write state.old (fed.u8 value.now.0) }
 {

@@ -23,8 +23,8 @@ pub enum TcpOptionReadError {
     UnexpectedEndOfSlice {
         /// The kind of the option.
         option_id: u8,
-        /// The number of bytes that the option needs, including kind and length byte. It is the one length of its kind.
-        /// For a selective acknowledgement it is the value of the length byte, or 2 if the length byte is missing.
+        /// The number of bytes that the option needs, including kind and length byte. It is the fixed length of the kind. For a selective
+        /// acknowledgement it is the value of the length byte, or 2 if the length byte is missing.
         expected_len: u8,
         /// The number of bytes that are left, including the kind.
         actual_len: usize,
@@ -36,8 +36,8 @@ pub enum TcpOptionReadError {
         /// The length byte.
         size: u8,
     },
-    /// The kind is unknown. No option after it is read. A host, however, must skip such an option by its length byte
-    /// (RFC 1122, section 4.2.2.5).
+    /// The kind is unknown. `TcpRawOption::element` also returns this error for kind 0, which ends the list. The options after an unknown
+    /// kind are not read. A host, however, must skip an unknown option by its length byte (RFC 1122, section 4.2.2.5).
     UnknownId(u8),
 }
 

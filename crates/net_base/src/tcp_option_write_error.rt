@@ -17,8 +17,8 @@ use thiserror::Error;
 #[derive(Clone, Debug, PartialEq, Eq, Drop, Error)]
 #[error("{}", self.text())]
 pub enum TcpOptionWriteError {
-    /// The length of the options, in bytes. If it is `usize::MAX`, the length may be greater. A header has room for 40
-    /// bytes, since its data offset is at most 15 (RFC 9293, section 3.1).
+    /// The options are too long. The number is their length, in bytes. If it is `usize::MAX`, the length may be greater. A header has room
+    /// for 40 bytes of options, since its data offset is at most 15 (RFC 9293, section 3.1).
     NotEnoughSpace(usize),
 }
 

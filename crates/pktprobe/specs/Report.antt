@@ -17,7 +17,7 @@ use Rattle.etherparse_transport.specs.Proto.TheVariants.{Udp, Tcp, Icmpv4, Icmpv
 abbrev pub bad_input : List ℕ × ℕ
 bad_input = (codes "bad input\n", 2)
 
--- the text `ok`, the header in lower case hex, and the number of bytes after the header
+-- the text for an accepted packet: `ok`, the header in lower case hex, and the number of bytes after the header
 abbrev pub accepted_text : List ℕ → ℕ → List ℕ
 accepted_text header rest_len = codes "ok " ++ encode_lower header ++ codes " " ++ decimal rest_len ++ codes "\n"
 
@@ -28,23 +28,23 @@ refused_text (Len error) =
     codes "refused len " ++ word_of error.layer ++ codes " " ++ decimal error.required_len ++ codes " " ++ decimal error.len ++ codes "\n"
 refused_text (Content (DataOffsetTooSmall data_offset)) = codes "refused offset " ++ decimal data_offset ++ codes "\n"
 
--- the answer to a packet: it is refused with this error, or accepted with its canonical header
+-- the answer to a packet that is refused with this error; without an error, the packet is accepted with its canonical header
 abbrev pub decided : Proto → List ℕ → Option HeaderSliceError → List ℕ × ℕ
 decided protocol bytes (Some error) = (refused_text error, 1)
 decided protocol bytes None =
     let header_len = (layout_of protocol bytes).header_len in
     (accepted_text (take header_len (canonical protocol bytes)) (length bytes - header_len), 0)
 
--- the answer to the bytes of a packet of a protocol
+-- the answer to the bytes of a packet of this protocol
 abbrev pub packet_report : Proto → List ℕ → List ℕ × ℕ
 packet_report protocol bytes = decided protocol bytes (refusal protocol bytes)
 
--- The answer to the decoded digits of a packet. If they are not hex digits, or if their number is odd, the input is bad.
+-- The answer to the result of decoding the digits of a packet. If they are not hex digits, or if their number is odd, the input is bad.
 abbrev pub bytes_report : Proto → Result (List ℕ) FromHexError → List ℕ × ℕ
 bytes_report protocol (Ok bytes) = packet_report protocol bytes
 bytes_report protocol (Err error) = bad_input
 
--- the answer to a line with this protocol and these digits, or to a line without them
+-- the answer to a line with this protocol and these digits; a line that does not begin with a protocol is bad input
 abbrev pub request_report : Option (Proto × List ℕ) → List ℕ × ℕ
 request_report (Some request) = bytes_report request.0 (decode_of request.1)
 request_report None = bad_input

@@ -9,14 +9,14 @@ pub record ReadsInput (left still_left : Option (List ℕ)) (input : List ℕ) :
   pub is_all : IfSome left (λ all. input ≡ all)
   pub consumes : Consumes left still_left (take max_input_len input)
 
--- an input was read; it has this status, and its whole text was written
+-- an input was read, its answer has this status, and the whole text of the answer was written
 pub record WritesReport (left still_left before after : Option (List ℕ)) (status : ℕ) : Type 0 where
   pub input : List ℕ
   pub reads : ReadsInput left still_left input
   pub has_status : status ≡ (report input).1
   pub appends : Appends before after (report input).0
 
--- an input was read, and a beginning of its text was written
+-- an input was read, and a beginning of the text of its answer was written
 pub record WritesBeginningOfReport (left still_left before after : Option (List ℕ)) : Type 0 where
   pub input : List ℕ
   pub reads : ReadsInput left still_left input

@@ -45,8 +45,8 @@ const FAULT: u8 = 3;
 
 /// Reads an input, writes the text of its answer, and returns a status.
 ///
-/// The result is the status of the answer. It is 3 if a read, a write or the flush failed, or if a write accepted no byte. After a failed
-/// read nothing is written.
+/// The result is the status of the answer. If a read, a write or the flush failed, or if a write accepted no byte, the result is 3 instead.
+/// After a failed read nothing is written.
 pub fn run<R: Read, W: Write>(input: &mut R, output: &mut W) -> u8
     ensures written { result ≢ 3 → WritesReport (R.remaining input.old) (R.remaining input.new)
         (W.contents output.old) (W.contents output.new) result }
@@ -94,14 +94,15 @@ pub fn answer(input: &[u8]) -> (ArrayVec<u8, 160>, u8)
     packet_answer(protocol, &bytes[..len])
 }
 
-/// The input, without the line feed if it ends with a line feed.
+/// The input without the line feed at its end, or the whole input if it does not end with a line feed.
 fn line_of(input: &[u8]) -> &[u8]
     ensures { result.now ≡ line_of input.now }
 {
     input.strip_suffix(b"\n").unwrap_or(input)
 }
 
-/// The protocol that a line names, and the digits after the name and one space. `None` if the line does not begin with a name and a space.
+/// The protocol whose name begins a line, and the digits after this name and one space. `None` if the line does not begin with the name of
+/// a protocol and a space.
 fn request_of(line: &[u8]) -> Option<(Proto, &[u8])>
     ensures { option_map (λ request. (request.0, request.1.now)) result ≡ request_of line.now }
 {

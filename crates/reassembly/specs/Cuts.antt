@@ -7,15 +7,16 @@ use Rattle.reassembly.specs.declared.fragment_key.FragmentKey.{FragmentKey}
 
 -- ---- cuts
 
--- A fragment of the packet with this key that is not empty. It is at this place, and states whether more fragments come after it.
+-- This is a fragment of the packet with this key, and it is not empty. It begins at this offset, and `more_fragments` is true if it states
+-- that more fragments follow.
 pub record IsFragmentAt (key : FragmentKey) (offset : ℕ) (more_fragments : Bool) (fragment : FragmentValue) : Type 0 where
   pub key_is : fragment.key ≡ key
   pub offset_is : fragment.offset ≡ offset
   pub more_is : fragment.more_fragments ≡ more_fragments
   pub some : 0 < length fragment.bytes
 
--- These fragments, one after another, contain the payload from this place on. The length of each fragment except the last is a multiple of
--- 8.
+-- One after another, these fragments contain the rest of a payload, which begins at this offset. The length of each fragment except the
+-- last is a multiple of 8.
 abbrev pub IsCutFrom : FragmentKey → ℕ → List ℕ → List FragmentValue → Type 0
 IsCutFrom key offset payload [] = ⊥
 IsCutFrom key offset payload (last ∷ []) = IsFragmentAt key offset false last × (payload ≡ last.bytes)
@@ -29,6 +30,7 @@ IsCut key payload fragments = IsCutFrom key 0 payload fragments
 
 -- ---- adds one after another
 
+-- the fragment is one of these fragments
 abbrev pub IsOneOf : List FragmentValue → FragmentValue → Type 0
 IsOneOf [] fragment = ⊥
 IsOneOf (first ∷ others) fragment = (fragment ≡ first) ⊎ IsOneOf others fragment

@@ -8,14 +8,14 @@ use Rattle.reassembly.specs.declared.fragment_error.FragmentError.TheVariants.{H
 use Rattle.reassembly.specs.declared.reassembly_error.ReassemblyError.{ReassemblyError}
 use Rattle.reassembly.specs.declared.reassembly_error.ReassemblyError.TheVariants.{BehindEnd, BufferTooSmall, Empty, LengthNotMultipleOf8, OtherEnd, OtherKey, Overlap, TooLong, TooManyFragments}
 
--- why the contents of a fragment were not read
+-- the text for a fragment whose contents were not read
 abbrev pub fragment_text : FragmentError → List ℕ
 fragment_text (Ip error) = ip_text error
 fragment_text (HeaderChainCutOff required_len len) = concat (
     codes "Fragment Error: the transport header has at least " ∷ decimal required_len ∷ codes " bytes, and the first fragment has "
     ∷ decimal len ∷ codes "." ∷ [])
 
--- why a fragment was not added
+-- the text for a fragment that was not added
 abbrev pub reassembly_text : ReassemblyError → List ℕ
 reassembly_text OtherKey = codes "Reassembly Error: the fragment is of another packet."
 reassembly_text Empty = codes "Reassembly Error: the fragment has no payload."

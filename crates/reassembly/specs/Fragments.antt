@@ -19,8 +19,9 @@ use Rattle.reassembly.specs.declared.fragment_key.FragmentKey.TheVariants as key
 
 -- ---- a fragment
 
--- a fragment, wherever its bytes are stored: what all fragments of its packet have in common, the place of its first byte in the payload of
--- the packet, whether more fragments come after it, its bytes, and the headers before them
+-- A fragment, wherever its bytes are stored. All fragments of a packet share `key`. `offset` is the place of the first byte in the payload
+-- of the packet, and `more_fragments` is true if more fragments follow. `bytes` are the bytes of the payload, and `header` contains the
+-- headers before them.
 pub record FragmentValue : Type 0 where
   pub key : FragmentKey
   pub offset : ℕ
@@ -85,14 +86,14 @@ fragment_header_bytes packet =
     then option_map (λ found. slice_range packet found.place (found.place + 8)) (fragment_header_in packet)
     else None
 
--- what all fragments of one packet have in common: source, destination and identification (RFC 8200, section 4.5)
+-- the key of the fragments of an IPv6 packet: source, destination and identification (RFC 8200, section 4.5)
 abbrev pub ipv6_key : List ℕ → List ℕ → FragmentKey
 ipv6_key header fragment_header =
     keys.Ipv6 (slice_range header 8 24) (slice_range header 24 40) (be_number fragment_header 4 4)
 
--- The fragment in an IPv6 packet without padding. `header` is the IPv6 header, `headers` are the headers up to the fragment header, and
--- `rest` begins with the fragment header. `None` for an atomic fragment (RFC 6946). The offset in the fragment header counts units of 8 bytes
--- (RFC 8200, section 4.5).
+-- The fragment in an IPv6 packet without padding. `header` is the IPv6 header, `headers` ends with the fragment header, and `rest` begins
+-- with the fragment header. `None` for an atomic fragment (RFC 6946). The offset in the fragment header counts units of 8 bytes (RFC 8200,
+-- section 4.5).
 abbrev pub ipv6_fragment_by : List ℕ → List ℕ → List ℕ → Option FragmentValue
 ipv6_fragment_by header headers rest =
     if is_one_of_fragments fragment rest then Some (record {
@@ -103,7 +104,7 @@ ipv6_fragment_by header headers rest =
       header = headers;
     }) else None
 
--- the fragment with its fragment header at this place, if there is one
+-- the fragment whose fragment header is at this place; `None` without a fragment header, or for an atomic fragment
 abbrev pub ipv6_fragment_at : List ℕ → Option FragmentPlace → Option FragmentValue
 ipv6_fragment_at packet None = None
 ipv6_fragment_at packet (Some found) = ipv6_fragment_by (take 40 packet) (take (found.place + 8) packet) (drop found.place packet)
@@ -119,8 +120,9 @@ abbrev pub fragment_of : List ℕ → Option FragmentValue
 fragment_of packet =
     if version packet == 4 then ipv4_fragment_in (counted false packet) else ipv6_fragment_in (counted false packet)
 
--- the length of the header of UDP (RFC 768), ICMPv6 (RFC 4443, section 2.1) or TCP, whose length is in the high four bits of byte 12, in
--- words of four bytes (RFC 9293, section 3.1); the minimum length of TCP if this byte is missing, and 0 for another protocol
+-- The length of the transport header. It is 8 for UDP (RFC 768) and 4 for ICMPv6 (RFC 4443, section 2.1). For TCP, the high four bits of
+-- byte 12 count it in words of four bytes (RFC 9293, section 3.1). If there are fewer than 20 bytes, it is 20 for TCP. It is 0 for any
+-- other protocol.
 abbrev pub transport_header_len : ℕ → List ℕ → ℕ
 transport_header_len protocol bytes =
     if protocol == udp_number then 8
@@ -145,8 +147,8 @@ abbrev pub transport_refusal : List ℕ → Result Headers IpError → Option Fr
 transport_refusal packet (Err error) = None
 transport_refusal packet (Ok headers) = first_refusal (fragment_of packet) headers.protocol.0 (drop headers.len (counted false packet))
 
--- the errors, in this order: for a packet whose headers can't be read; for a first fragment over IPv6 without its whole header chain (RFC
--- 7112, section 5)
+-- The first error of a packet. `transport_in_ip` refuses the packet, or it is a first fragment over IPv6 that ends within its transport
+-- header (RFC 7112, section 5).
 abbrev pub fragment_refusal : List ℕ → Option FragmentError
 fragment_refusal packet = first_of (
     option_map Ip (ip.refusal packet)

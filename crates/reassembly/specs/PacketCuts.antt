@@ -1,4 +1,5 @@
--- Ways to cut a packet into fragments (RFC 791, section 3.2; RFC 8200, section 4.5), and adds of fragments to a packet one after another.
+-- Ways to cut a packet into fragments (RFC 791, section 3.2; RFC 8200, section 4.5), and packets to which fragments are added one after
+-- another.
 use Rattle.std.specs.Prelude.{◌≡◌, ◌≤◌, ℕ, ◌+◌, ◌-◌, ◌/◌, ◌%◌, bit_and, List, [], ◌∷◌, ◌++◌, length, take, drop, slice_index, slice_set, Some, None, ⊤}
 use Rattle.net_base.specs.IpHeaders.{BeginsWithIpv4Header, BeginsWithIpv6Header, ipv4_header_len}
 use Rattle.reassembly.specs.Cuts.{IsCut}
@@ -23,8 +24,8 @@ after_arrivals state (first ∷ others) = after_arrivals (with_fragment state fi
 
 -- ---- cuts of an IPv4 packet
 
--- The IPv4 header of the first fragment of the packet with this header. Four fields may differ: the total length, more fragments, the
--- fragment offset, and the checksum. All other fields are those of the packet, and the options.
+-- `fragment_header` can be the IPv4 header of the first fragment of a packet with this header. Four fields may differ: the total length,
+-- more fragments, the fragment offset, and the checksum. All other fields and the options are equal.
 pub record IsFirstHeader (header fragment_header : List ℕ) : Type 0 where
   pub begins : BeginsWithIpv4Header fragment_header
   pub is_all : length fragment_header ≡ ipv4_header_len fragment_header
@@ -37,13 +38,13 @@ pub record IsFirstHeader (header fragment_header : List ℕ) : Type 0 where
   pub protocol : slice_index fragment_header 9 ≡ slice_index header 9
   pub addresses_and_options : drop 12 fragment_header ≡ drop 12 header
 
--- the first of these fragments has the header of the first fragment of the packet with this header
+-- the header of the first of these fragments can be the header of the first fragment of a packet with this IPv4 header
 abbrev pub BeginWithHeader : List ℕ → List FragmentValue → Type 0
 BeginWithHeader header [] = ⊥
 BeginWithHeader header (first ∷ others) = IsFirstHeader header first.header
 
--- The fragments are a way to cut this packet, which was never fragmented: its total length is its length, more fragments and the fragment
--- offset are 0, and the checksum is the one that RFC 791 defines.
+-- The fragments are a way to cut this packet, which was never fragmented. Its total length and its checksum are right, and more fragments
+-- and the fragment offset are 0.
 pub record IsIpv4Cut (key : FragmentKey) (packet : List ℕ) (fragments : List FragmentValue) : Type 0 where
   pub header : List ℕ
   pub payload : List ℕ
@@ -56,9 +57,9 @@ pub record IsIpv4Cut (key : FragmentKey) (packet : List ℕ) (fragments : List F
 
 -- ---- cuts of an IPv6 packet
 
--- The headers of the first fragment of the packet with these headers before its payload (RFC 8200, section 4.5). The fragment header is after
--- them, and has the number of the payload. The header before it has the number 44 instead. The payload length, bytes 4 and 5, may differ. All
--- other bytes are those of the packet.
+-- `fragment_header` can be the headers of the first fragment of a packet with the headers `header` (RFC 8200, section 4.5). A fragment
+-- header comes after these headers. It contains the number that the last of these headers contains in the packet. In the fragment, this
+-- last header contains the number 44 instead. The payload length, bytes 4 and 5, may differ. All other bytes are equal.
 pub record IsFirstIpv6Header (header fragment_header : List ℕ) : Type 0 where
   pub begins : BeginsWithIpv6Header fragment_header
   pub found : FragmentPlace
@@ -69,13 +70,13 @@ pub record IsFirstIpv6Header (header fragment_header : List ℕ) : Type 0 where
   pub same : slice_set (slice_set (slice_set (take found.place fragment_header) 4 (slice_index header 4)) 5 (slice_index header 5))
       found.number_at (slice_index header found.number_at) ≡ header
 
--- the first of these fragments has the headers of the first fragment of the packet with these headers before its payload
+-- the headers of the first of these fragments can be the headers of the first fragment of a packet with these IPv6 headers
 abbrev pub BeginWithIpv6Header : List ℕ → List FragmentValue → Type 0
 BeginWithIpv6Header header [] = ⊥
 BeginWithIpv6Header header (first ∷ others) = IsFirstIpv6Header header first.header
 
--- The fragments are a way to cut this packet, whose payload length is the number of its bytes after the IPv6 header. The room for headers is
--- that of an IPv6 packet, and holds the headers and a fragment header.
+-- The fragments are a way to cut this packet. Its payload length is the number of bytes after the IPv6 header. The room for headers has 256
+-- bytes, as for every IPv6 packet, and holds the headers and a fragment header.
 pub record IsIpv6Cut (key : FragmentKey) (packet : List ℕ) (fragments : List FragmentValue) : Type 0 where
   pub header : List ℕ
   pub payload : List ℕ

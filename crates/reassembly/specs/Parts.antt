@@ -22,15 +22,16 @@ abbrev pub AreApart : List Piece → Type 0
 AreApart [] = ⊤
 AreApart (piece ∷ pieces) = (list_any (overlaps piece) pieces ≡ false) × AreApart pieces
 
--- one of the parts ends at this place, or after it
+-- one of the parts ends at or after this place
 abbrev pub part_reaches : ℕ → List Part → Bool
 part_reaches place parts = list_any (λ part. nat_le place (part.offset + part.len)) parts
 
--- the part ends at this place or before it
+-- the part ends at or before the place `limit`
 abbrev pub EndsWithin : ℕ → Part → Type 0
 EndsWithin limit part = part.offset + part.len ≤ limit
 
--- what holds between the buffer, the parts of a reassembly, the number of their bytes, and the known length of the payload
+-- The parts of a reassembly are within the buffer, and their pieces do not overlap. `received` is the number of bytes in all parts. No part
+-- goes beyond the longest payload, or beyond the end of the payload if this end is known.
 pub record AreKept (buffer : List ℕ) (parts : List Part) (received : ℕ) (end : Option ℕ) : Type 0 where
   pub fit : All (Fits buffer) parts
   pub apart : AreApart (pieces_in buffer parts)

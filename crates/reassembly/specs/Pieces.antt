@@ -1,4 +1,4 @@
--- Pieces of a payload, and what they tell about the payload.
+-- Pieces of a payload: the bytes that they contain, and how they overlap.
 use Rattle.std.specs.Prelude.{ℕ, ◌+◌, ◌-◌, ◌==◌, Bool, ◌&&◌, nat_eq, nat_lt, nat_le, if◌then◌else◌, List, [], ◌∷◌, length, slice_index, Option, Some, None}
 use Rattle.std.specs.Cmp.Lexicographic.{pointwise}
 use Rattle.std.specs.List.{list_any}
@@ -16,7 +16,7 @@ end_of piece = piece.offset + length piece.bytes
 abbrev pub covers : ℕ → Piece → Bool
 covers place piece = nat_le piece.offset place && nat_lt place (end_of piece)
 
--- each piece begins before the end of the other; if neither is empty, both contain a byte at the same place
+-- Each piece begins before the end of the other piece. If neither piece is empty, both contain a byte at the same place.
 abbrev pub overlaps : Piece → Piece → Bool
 overlaps a b = nat_lt a.offset (end_of b) && nat_lt b.offset (end_of a)
 

@@ -1,5 +1,5 @@
--- The payload of a packet put together from its fragments (RFC 791, section 3.2; RFC 8200, section 4.5): what is refused, what an accepted
--- fragment changes, and when the payload is complete.
+-- The payload of a packet that is put together from its fragments (RFC 791, section 3.2; RFC 8200, section 4.5): what is refused, what an
+-- accepted fragment changes, and when the payload is complete.
 use Rattle.std.specs.Prelude.{◌≡◌, ℕ, ◌%◌, ◌<◌, ◌==◌, Bool, true, false, not, ◌&&◌, nat_eq, nat_le, nat_lt, if◌then◌else◌, List, [], ◌∷◌, ◌++◌, length, slice_index, Option, Some, None, is_some}
 use Rattle.std.specs.Cmp.Lexicographic.{pointwise}
 use Rattle.std.specs.List.{list_any}
@@ -11,8 +11,8 @@ use Rattle.reassembly.specs.declared.fragment_key.FragmentKey.TheVariants.{Ipv4,
 use Rattle.reassembly.specs.declared.reassembly_error.ReassemblyError.{ReassemblyError}
 use Rattle.reassembly.specs.declared.reassembly_error.ReassemblyError.TheVariants.{BehindEnd, BufferTooSmall, Empty, LengthNotMultipleOf8, OtherEnd, OtherKey, Overlap, TooLong, TooManyFragments}
 
--- what is known about the packet: its key, the length of the lent buffer, the pieces of the payload that arrived, and the length of the
--- payload, or `None` if its last fragment did not arrive yet
+-- What is known about the packet with this key. `room` is the number of bytes for the payload in the lent buffer. `pieces` are the pieces
+-- of the payload that arrived. `end` is the length of the payload, or `None` if the last fragment did not arrive yet.
 pub record State : Type 0 where
   pub key : FragmentKey
   pub room : ℕ
@@ -25,7 +25,8 @@ empty key room = record { key = key; room = room; pieces = []; end = None }
 
 -- ---- what is refused
 
--- the longest payload of a packet: the maximum of the length fields of IPv4 and IPv6 (RFC 791, section 3.1; RFC 8200, section 3)
+-- the length of the longest payload of a packet: the maximum of the length fields of IPv4 and IPv6 (RFC 791, section 3.1; RFC 8200, section
+-- 3)
 abbrev pub max_payload_len : ℕ
 max_payload_len = 65535
 
@@ -51,8 +52,12 @@ is_same_key (Ipv6 source destination identification) (Ipv6 source₂ destination
 is_same_key (Ipv4 source destination protocol identification) (Ipv6 source₂ destination₂ identification₂) = false
 is_same_key (Ipv6 source destination identification) (Ipv4 source₂ destination₂ protocol₂ identification₂) = false
 
--- the errors of a fragment by itself, in this order: it belongs to another packet; it is empty; it is not the last, and its length is no
--- multiple of 8 (RFC 791, section 3.2; RFC 8200, section 4.5); it ends beyond the longest payload; it ends beyond the buffer
+-- The first error of a fragment by itself. The cases are, in this order:
+-- - It belongs to another packet.
+-- - It is empty.
+-- - It is not the last fragment, and its length is not a multiple of 8 (RFC 791, section 3.2; RFC 8200, section 4.5).
+-- - It ends beyond the longest payload.
+-- - It ends beyond the buffer.
 abbrev pub own_refusal : FragmentKey → ℕ → FragmentValue → Option ReassemblyError
 own_refusal key room fragment = first_of (
     refused_if (not (is_same_key fragment.key key)) OtherKey
@@ -62,12 +67,12 @@ own_refusal key room fragment = first_of (
     ∷ refused_if (nat_lt room (end_of_fragment fragment)) (BufferTooSmall (end_of_fragment fragment) room)
     ∷ [])
 
--- one of the pieces ends at this place, or after it
+-- one of the pieces ends at or after this place
 abbrev pub reaches : ℕ → List Piece → Bool
 reaches place pieces = list_any (λ piece. nat_le place (end_of piece)) pieces
 
--- The errors about the end of the payload. The last fragment ends at this end, and any other fragment ends before it. So the last fragment
--- is refused if another last fragment had another end, or if another fragment reaches its end.
+-- The error about the end of the payload, if there is an error. If the end is known, a last fragment must end there, and any other fragment
+-- must end before it. If the end is not known, no fragment that arrived may reach the end of a last fragment.
 abbrev pub end_refusal : Option ℕ → Bool → FragmentValue → Option ReassemblyError
 end_refusal (Some end) is_reached fragment =
     if fragment.more_fragments then refused_if (nat_le end (end_of_fragment fragment)) BehindEnd
@@ -78,14 +83,15 @@ end_refusal None is_reached fragment = if fragment.more_fragments then None else
 abbrev pub conflicts : Piece → Piece → Bool
 conflicts piece other = overlaps piece other && not (is_same piece other)
 
--- the errors about the pieces that arrived, in this order: one of them conflicts with this piece; this piece is one too many
+-- The first error about this piece and the pieces that arrived. It conflicts with one of them, or it is new and the maximum number of
+-- pieces arrived before.
 abbrev pub piece_refusal : List Piece → Piece → Option ReassemblyError
 piece_refusal pieces piece = first_of (
     refused_if (list_any (conflicts piece) pieces) Overlap
     ∷ refused_if (not (is_among pieces piece) && nat_le max_fragments (length pieces)) TooManyFragments
     ∷ [])
 
--- all errors of a fragment, in this order
+-- the first error of a fragment
 abbrev pub refusal : State → FragmentValue → Option ReassemblyError
 refusal state fragment = first_of (
     own_refusal state.key state.room fragment

@@ -23,7 +23,7 @@ const ICMPV6_LEN: usize = 4;
 /// A fragment of an IP packet (RFC 791, section 3.2; RFC 8200, section 4.5).
 #[derive(Clone, Copy, Debug, PartialEq, Eq)]
 pub struct Fragment<'a> {
-    /// What all fragments of the packet have in common.
+    /// The key, which all fragments of the packet share.
     pub key: FragmentKey,
     /// The place of the first byte in the payload of the whole packet, in bytes.
     pub offset: u16,
@@ -36,8 +36,9 @@ pub struct Fragment<'a> {
 }
 
 impl<'a> Fragment<'a> {
-    /// Reads the fragment in an IP packet. `None` if the packet is whole: it has no fragment header, or is an atomic fragment (RFC 6946).
-    /// If an IPv6 packet has several fragment headers, the first is read.
+    /// Reads the fragment in an IP packet. `None` if the packet is whole. A whole IPv4 packet has a fragment offset of 0 and no more
+    /// fragments. A whole IPv6 packet has no fragment header, or is an atomic fragment (RFC 6946). If an IPv6 packet has several fragment
+    /// headers, the first is read.
     ///
     /// # Errors
     ///
@@ -99,7 +100,8 @@ fn fragment_over_ipv6(counted: &[u8]) -> Option<Fragment<'_>>
     )
 }
 
-/// The fragment of an IPv6 packet with this header, by the bytes up to its fragment header, and the bytes from its fragment header on.
+/// The fragment in an IPv6 packet with this header. `headers` ends with the fragment header, and `rest` begins with it. `None` for an
+/// atomic fragment.
 fn fragment_at<'a>(
     header: &Ipv6HeaderSlice<'_>,
     headers: &'a [u8],
@@ -134,7 +136,7 @@ fn fragment_offset(fragment_header: &[u8]) -> u16
     u16::from_be_bytes([fragment_header[2], fragment_header[3]]) / 8 * 8
 }
 
-/// Whether this fragment header states that more fragments come.
+/// Whether this fragment header states that more fragments follow.
 fn has_more_fragments(fragment_header: &[u8]) -> bool
     requires { 8 ≤ length fragment_header.now }
     ensures { result ≡ flag fragment_header.now 3 1 }
@@ -163,7 +165,8 @@ fn check_header_chain(
     Ok(())
 }
 
-/// The length of the transport header at the front of these bytes, or its minimum if the byte with its length is missing.
+/// The length of the transport header at the front of these bytes. For TCP it is 20 if there are fewer than 20 bytes. For a protocol other
+/// than TCP, UDP and ICMPv6 it is 0.
 fn transport_header_len(protocol: IpNumber, bytes: &[u8]) -> usize
     ensures { result ≡ transport_header_len protocol.0 bytes.now }
 {

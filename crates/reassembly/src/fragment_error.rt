@@ -15,7 +15,7 @@ pub enum FragmentError {
     Ip(IpError),
     /// The first fragment over IPv6 ends within the header of its transport (RFC 7112, section 5).
     HeaderChainCutOff {
-        /// The length of the transport header in bytes, or its minimum if the byte with its length is missing.
+        /// The length of the transport header, in bytes. For TCP it is 20 if the fragment contains fewer than 20 bytes of the header.
         required_len: usize,
         /// The number of bytes in the fragment from the start of the transport header on.
         len: usize,

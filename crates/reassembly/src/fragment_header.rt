@@ -4,23 +4,24 @@ ghost use Rattle.reassembly.specs.Fragments.{fragment_header_bytes, fragment_hea
 
 use net_base::{IpNumber, Ipv6Header, ip_number};
 
-/// The length of a fragment header, and the shortest extension header, in bytes (RFC 8200, sections 4 and 4.5).
+/// The length of a fragment header, which is also the length of the shortest extension header, in bytes (RFC 8200, sections 4 and 4.5).
 pub(crate) const FRAGMENT_HEADER_LEN: usize = 8;
 
 /// Where a fragment header is in a packet.
 #[derive(Clone, Copy, Debug, PartialEq, Eq)]
 pub(crate) struct FragmentPlace {
-    /// The place of the byte with its number, which is in the header before it.
+    /// The place of the byte that contains the number of the fragment header. This byte is in the header before the fragment header.
     pub number_at: usize,
-    /// The place of its first byte.
+    /// The place of the first byte of the fragment header.
     pub place: usize,
 }
 
 /// The place of the byte with the number of the first header after the IPv6 header (RFC 8200, section 3).
 const NEXT_HEADER_AT: usize = 6;
 
-/// The first fragment header of an IPv6 packet (RFC 8200, section 4.5). `None` if the packet has none, or if an extension header before it
-/// is cut off. Pass the bytes that the IP header counts. An atomic fragment has a fragment header too (RFC 6946).
+/// The first fragment header of an IPv6 packet (RFC 8200, section 4.5). `None` if the packet is not an IPv6 packet or has no fragment
+/// header. `None` also if the fragment header or an extension header before it is cut off. Pass only the bytes that the IP header counts.
+/// An atomic fragment has a fragment header too (RFC 6946).
 ///
 /// Bytes 2 and 3 of the header contain the fragment offset, in the high 13 bits, and bytes 4 to 7 the identification.
 pub fn ipv6_fragment_header(packet: &[u8]) -> Option<[u8; FRAGMENT_HEADER_LEN]>
@@ -35,7 +36,8 @@ pub fn ipv6_fragment_header(packet: &[u8]) -> Option<[u8; FRAGMENT_HEADER_LEN]>
     Some(header)
 }
 
-/// The first fragment header in the counted bytes of an IPv6 packet (RFC 8200, section 4.5).
+/// The place of the first fragment header in the counted bytes of an IPv6 packet (RFC 8200, section 4.5). `None` if there is no whole
+/// fragment header.
 pub(crate) fn fragment_header_at(counted: &[u8]) -> Option<FragmentPlace>
     requires { 40 ≤ length counted.now }
     ensures found { result ≡ fragment_header_in counted.now }
@@ -62,7 +64,7 @@ pub(crate) fn fragment_header_at(counted: &[u8]) -> Option<FragmentPlace>
     None
 }
 
-/// Whether this is the number of an extension header that is skipped.
+/// Whether this is the number of an extension header that `transport_in_ip` skips.
 fn is_extension(number: IpNumber) -> bool
     ensures { result ≡ extensions.is_extension number.0 }
 {

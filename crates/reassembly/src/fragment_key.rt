@@ -1,7 +1,7 @@
 use crate::{Fragment, FragmentError};
 use net_base::IpNumber;
 
-/// What all fragments of one packet have in common, and fragments of other packets at that time do not.
+/// The fields that identify a packet. All fragments of one packet share them, and fragments of other packets at that time differ in them.
 #[derive(Clone, Copy, Debug, PartialEq, Eq)]
 pub enum FragmentKey {
     /// The key of a fragment over IPv4 (RFC 791, section 3.2).

@@ -9,8 +9,8 @@ ghost use Rattle.reassembly.specs.Packets.{HasPacket, IsPacket, header_room};
 ghost use Rattle.reassembly.specs.Reassembly.{IsPayload, empty};
 ghost use Rattle.reassembly.specs.declared.fragment_key.FragmentKey.{FragmentKey};
 
-/// If fragments that are cut from one payload arrive in any order, and each at least once, all are accepted, and they give the payload
-/// back.
+/// Assume that a payload fits in the buffer, and that it is cut into at most 128 fragments. They arrive in any order, each at least once.
+/// Then all fragments are accepted, and they give the payload back.
 pub fn fragments_give_the_payload_back()
     ensures accepted { (key : FragmentKey) (room : ℕ) (payload : List ℕ) (fragments arrivals : List FragmentValue)
         → IsCut key payload fragments → length payload ≤ 65535 → length payload ≤ room → length fragments ≤ 128
@@ -27,7 +27,8 @@ pub fn fragments_agree_with_the_payload()
         → IsFragmentOf key payload fragment }
 {}
 
-/// Fragments that are cut from one IPv4 packet are accepted in any order and repeatedly, and give the packet back if all of them arrive.
+/// Assume that an IPv4 packet fits in the buffer, and that it is cut into at most 128 fragments. Then the fragments are accepted in any
+/// order and repeatedly. If all of them arrive, they give the packet back.
 pub fn fragments_give_the_ipv4_packet_back()
     ensures accepted { (key : FragmentKey) (len : ℕ) (packet : List ℕ) (fragments arrivals : List FragmentValue)
         → IsIpv4Cut key packet fragments → header_room key + length packet ≤ len → length fragments ≤ 128
@@ -40,7 +41,8 @@ pub fn fragments_give_the_ipv4_packet_back()
         → IsPacket (after_arrivals (packets.empty key len) arrivals) result → result ≡ packet }
 {}
 
-/// Fragments that are cut from one IPv6 packet are accepted in any order and repeatedly, and give the packet back if all of them arrive.
+/// Assume that an IPv6 packet fits in the buffer, and that it is cut into at most 128 fragments. Then the fragments are accepted in any
+/// order and repeatedly. If all of them arrive, they give the packet back.
 pub fn fragments_give_the_ipv6_packet_back()
     ensures accepted { (key : FragmentKey) (len : ℕ) (packet : List ℕ) (fragments arrivals : List FragmentValue)
         → IsIpv6Cut key packet fragments → header_room key + length packet ≤ len → length fragments ≤ 128

@@ -1,8 +1,8 @@
 //! Fragments of IP packets (RFC 791, section 3.2; RFC 8200, section 4.5): the content of a fragment, and how packets are put together.
 //!
-//! `Fragment::of` reads a fragment: the key that all fragments of one packet share, the place in the payload, and the bytes. A `Reassembly`
-//! puts one packet together, in a buffer that the caller lends. Fragments may come in any order and repeatedly. No call allocates or has
-//! a precondition.
+//! `Fragment::of` reads a fragment: the key that all fragments of one packet share, the place of the fragment in the payload, and its
+//! bytes. A `Reassembly` puts one packet together, in a buffer that the caller lends. Fragments may come in any order and repeatedly. No
+//! call allocates or has a precondition.
 //!
 //! ```
 //! if let Some(fragment) = Fragment::of(packet)? {

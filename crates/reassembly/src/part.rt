@@ -7,13 +7,13 @@ ghost use Rattle.reassembly.specs.Reassembly as specs;
 /// A part of the buffer that contains bytes of the payload, at their place in the payload.
 #[derive(Clone, Copy, Debug, Default, PartialEq, Eq)]
 pub(crate) struct Part {
-    /// The place of the first byte.
+    /// The place of the first byte in the payload.
     pub offset: usize,
     /// The number of bytes.
     pub len: usize,
 }
 
-/// Whether one of the parts ends at this place, or after it.
+/// Whether one of the parts ends at or after this place.
 pub(crate) fn is_reached(parts: &[Part], place: usize) -> bool
     requires { All (EndsWithin specs.max_payload_len) parts.now }
     ensures { result ≡ part_reaches place parts.now }

@@ -23,7 +23,7 @@ const MAX_PAYLOAD_LEN: usize = 65_535;
 /// has 119 fragments.
 pub const MAX_FRAGMENTS: usize = 128;
 
-/// The multiple of bytes in each fragment but the last (RFC 791, section 3.2; RFC 8200, section 4.5).
+/// The length of each fragment except the last is a multiple of this number of bytes (RFC 791, section 3.2; RFC 8200, section 4.5).
 const UNIT: usize = 8;
 
 /// Whether the payload is complete.
@@ -76,7 +76,7 @@ impl<'a> Model for Reassembly<'a> {
 }
 
 impl<'a> Reassembly<'a> {
-    /// A reassembly of the packet with this key, to which no fragment was added. The buffer holds the payload after the room for headers.
+    /// Begins the reassembly of the packet with this key. The buffer holds the payload after the room for headers.
     pub fn new(key: FragmentKey, buffer: &'a mut [u8]) -> Reassembly<'a>
         ensures { result ≡ packets.empty key (length buffer.old) }
     {
@@ -91,7 +91,7 @@ impl<'a> Reassembly<'a> {
         }
     }
 
-    /// Gives up the fragments that were added, and begins with the packet with this key, in the same buffer.
+    /// Drops the fragments that were added. Begins the reassembly of the packet with this key in the same buffer.
     pub fn restart(&mut self, key: FragmentKey)
         ensures { self.new ≡ packets.empty key self.old.len }
     {
@@ -118,13 +118,13 @@ impl<'a> Reassembly<'a> {
     /// After an error the reassembly is unchanged. The call checks these cases, in this order:
     /// - `OtherKey` if the fragment belongs to another packet.
     /// - `Empty` if the fragment has no payload.
-    /// - `LengthNotMultipleOf8` if the fragment is not the last, and its length is no multiple of 8.
+    /// - `LengthNotMultipleOf8` if more fragments follow, and the length of the fragment is not a multiple of 8.
     /// - `TooLong` if the fragment ends beyond 65,535 bytes.
     /// - `BufferTooSmall` if the fragment ends beyond the buffer, after its room for headers.
-    /// - `OtherEnd` if the fragment and another are the last, and end at different places.
-    /// - `BehindEnd` if a fragment that is not the last does not end before the last.
-    /// - `Overlap` if the fragment overlaps another, and does not repeat it (RFC 5722, section 3).
-    /// - `TooManyFragments` if 128 other fragments were added.
+    /// - `OtherEnd` if the fragment is the last, but a last fragment with a different end was added before.
+    /// - `BehindEnd` if a fragment that is not the last reaches the end of the last fragment, or goes beyond this end.
+    /// - `Overlap` if the fragment overlaps another fragment, but does not repeat it (RFC 5722, section 3).
+    /// - `TooManyFragments` if the fragment is new, but 128 fragments were added before.
     pub fn add(&mut self, fragment: &Fragment<'_>) -> Result<Progress, ReassemblyError>
         ensures refused { RefusesExactly result (specs.refusal self.old.payload (by_value fragment.now)) }
         ensures added { OnOk result (self.new ≡ packets.with_fragment self.old (by_value fragment.now)) }
@@ -147,7 +147,7 @@ impl<'a> Reassembly<'a> {
         Ok(progress_of(self.end, self.received))
     }
 
-    /// Whether a fragment repeats another fragment. The errors are those of `add`.
+    /// Whether a fragment repeats another fragment. Refuses every fragment that `add` refuses.
     fn is_repetition(&self, fragment: &Fragment<'_>) -> Result<bool, ReassemblyError>
         ensures refused { RefusesExactly result (specs.refusal self.now.payload (by_value fragment.now)) }
         ensures repeated { IfOk result (λ is. is ≡ pieces.is_among self.now.payload.pieces (specs.piece_of (by_value fragment.now))) }
@@ -171,9 +171,9 @@ impl<'a> Reassembly<'a> {
         Some(&after_room(self.buffer, header_room(&self.key))[..len])
     }
 
-    /// The whole packet, if its payload is complete: the headers of the first fragment, as of a packet that was never fragmented, and the
-    /// payload. `None` also if `whole_ipv4_header` or `whole_ipv6_header` is `None` for them, for example because the packet would be longer
-    /// than its length field can count.
+    /// The whole packet, as if it was never fragmented: the headers of the first fragment, and the payload. `None` if the payload is not
+    /// complete. `None` also if `whole_ipv4_header` or `whole_ipv6_header` returns `None` for this packet, for example because the packet
+    /// would be longer than its length field can count.
     pub fn packet(&self) -> Option<&[u8]>
         ensures found { IsSome result ↔ packets.HasPacket self.now }
         ensures bytes { IfSome result (λ packet. packets.IsPacket self.now packet.now) }
@@ -204,7 +204,7 @@ fn after_room(buffer: &[u8], room: usize) -> &[u8]
     &buffer[room..]
 }
 
-/// Refuses a fragment that can't be part of the packet with this key, or that does not fit in a buffer of this length.
+/// Refuses a fragment that can't be part of the packet with this key, or that ends beyond the `room` bytes for the payload.
 fn check_fragment(
     key: &FragmentKey,
     room: usize,
@@ -242,8 +242,8 @@ fn is_same_key(a: &FragmentKey, b: &FragmentKey) -> bool
     a == b
 }
 
-/// Refuses a fragment that does not agree with the known end of the payload, or a last fragment that does not agree with the fragments that
-/// arrived.
+/// Refuses a fragment that does not agree with the known end of the payload. If the end is not known, refuses a last fragment whose end
+/// another fragment reaches.
 fn check_end(
     end: Option<usize>,
     parts: &[Part],
@@ -267,7 +267,8 @@ fn check_end(
     }
 }
 
-/// Whether this piece arrived before. Refuses a piece that overlaps another piece without being equal to it, or that is one too many.
+/// Whether this piece arrived before. Refuses a piece that overlaps another piece without being equal to it. Refuses a new piece if the
+/// maximum number of pieces arrived before.
 fn check_piece(
     buffer: &[u8],
     parts: &[Part],
@@ -291,7 +292,7 @@ fn check_piece(
     Ok(false)
 }
 
-/// Writes bytes at this place of the buffer.
+/// Writes bytes to the buffer, from `offset` on.
 fn write(buffer: &mut [u8], offset: usize, bytes: &[u8])
     requires { offset + length bytes.now ≤ length buffer.old }
     ensures { buffer.new ≡ put_mid offset (length bytes.now) buffer.old bytes.now }
@@ -299,7 +300,7 @@ fn write(buffer: &mut [u8], offset: usize, bytes: &[u8])
     buffer[offset..offset + bytes.len()].copy_from_slice(bytes);
 }
 
-/// Writes bytes at this place of the payload.
+/// Writes bytes of the payload to the buffer, from `offset` on. The payload begins after the first `room` bytes.
 fn write_payload(buffer: &mut [u8], room: usize, offset: usize, bytes: &[u8])
     requires { room + offset + length bytes.now ≤ length buffer.old }
     ensures { drop room buffer.new ≡ put_mid offset (length bytes.now) (drop room buffer.old) bytes.now }
@@ -307,7 +308,7 @@ fn write_payload(buffer: &mut [u8], room: usize, offset: usize, bytes: &[u8])
     write(buffer, room + offset, bytes);
 }
 
-/// Keeps the headers of a fragment if it is the first fragment, and if they are not longer than this room.
+/// Stores the headers of the first fragment. If they are longer than `room`, no headers are stored. Any other fragment changes nothing.
 fn keep_header(header: &mut ArrayVec<u8, MAX_IPV6_HEADER_LEN>, room: usize, fragment: &Fragment<'_>)
     requires { room ≤ 256 }
     ensures { header.new.items ≡ packets.header_of header.old.items room (by_value fragment.now) }
@@ -321,7 +322,8 @@ fn keep_header(header: &mut ArrayVec<u8, MAX_IPV6_HEADER_LEN>, room: usize, frag
     }
 }
 
-/// Writes the headers of the whole packet before its payload, if the payload is complete. Returns the place of the packet.
+/// Writes the headers of the whole packet before its payload, if the payload is complete. Returns the place of the packet in the buffer, or
+/// `None` if nothing was written.
 fn write_front(
     buffer: &mut [u8],
     room: usize,
@@ -340,7 +342,7 @@ fn write_front(
     Some(start)
 }
 
-/// The headers of the whole packet, if the payload is complete.
+/// The headers of the whole packet, if the payload is complete. `None` also if `whole_header` returns `None`.
 #[tactic(auto, using(crate::proofs::WholeHeaderLemmas::payload_short))]
 fn front_of(
     header: &[u8],
@@ -357,7 +359,7 @@ fn front_of(
     whole_header(header, u16::try_from(received).ok()?)
 }
 
-/// The known length of the payload after this fragment.
+/// The length of the payload as it is known after this fragment. Only the last fragment determines it.
 fn end_with(end: Option<usize>, fragment: &Fragment<'_>) -> Option<usize>
     ensures { result ≡ specs.end_with end (by_value fragment.now) }
 {

@@ -14,7 +14,7 @@ pub enum ReassemblyError {
     OtherKey,
     /// The fragment has no payload.
     Empty,
-    /// The length of a fragment that is not the last is no multiple of 8 (RFC 791, section 3.2; RFC 8200, section 4.5).
+    /// More fragments follow, and the length of the fragment is not a multiple of 8 (RFC 791, section 3.2; RFC 8200, section 4.5).
     LengthNotMultipleOf8 {
         /// The length of the payload of this fragment, in bytes.
         len: usize,
@@ -31,13 +31,13 @@ pub enum ReassemblyError {
         /// The length of the buffer after its room for headers, in bytes.
         len: usize,
     },
-    /// The last fragment ends at another place than the last fragment that was added.
+    /// The fragment is the last, but a last fragment with a different end was added before.
     OtherEnd,
-    /// A fragment that is not the last does not end before the end of the last fragment.
+    /// A fragment that is not the last reaches the end of the last fragment, or goes beyond this end.
     BehindEnd,
-    /// The fragment overlaps another fragment: both contain a byte at the same place. It does not repeat the other (RFC 5722, section 3).
+    /// The fragment overlaps another fragment, but does not repeat it (RFC 5722, section 3). Both contain a byte at the same place.
     Overlap,
-    /// The maximum number of fragments was added before.
+    /// The fragment is new, but the maximum number of fragments was added before.
     TooManyFragments,
 }
 

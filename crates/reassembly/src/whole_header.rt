@@ -10,10 +10,11 @@ use arrayvec::ArrayVec;
 use net_base::{Ipv4Header, Ipv4HeaderSlice, Ipv6Header, Ipv6HeaderSlice};
 use word_sum::checksum::Sum16BitWords;
 
-/// The longest IPv4 header, in bytes (RFC 791, section 3.1).
+/// The length of the longest IPv4 header, in bytes (RFC 791, section 3.1).
 pub const MAX_IPV4_HEADER_LEN: usize = 60;
 
-/// The longest headers of an IPv6 packet that is put together, in bytes: the IPv6 header, and 216 bytes of extension headers.
+/// The greatest length of the headers of an IPv6 packet that is put together, in bytes: the IPv6 header, and 216 bytes of extension
+/// headers.
 pub const MAX_IPV6_HEADER_LEN: usize = 256;
 
 /// The place of the payload length in an IPv6 header (RFC 8200, section 3).
@@ -22,7 +23,7 @@ const PAYLOAD_LEN_AT: usize = 4;
 /// The flags that are not cleared: "don't fragment", and the reserved bit (RFC 791, section 3.1).
 const KEPT_FLAGS: u8 = 0xC0;
 
-/// The IPv4 header of a packet that was put together, as if it was never fragmented (RFC 791, section 3.2). The total length is that of the
+/// The IPv4 header of a packet that was put together, as if it was never fragmented (RFC 791, section 3.2). The total length counts the
 /// whole packet, and the checksum is right. More fragments and the fragment offset are 0. All other fields and the options are those of the
 /// first fragment. `None` if the fragment does not begin with an IPv4 header, or if header and payload have more than 65,535 bytes.
 pub fn whole_ipv4_header(
@@ -84,10 +85,11 @@ fn checksum_of(bytes: &[u8]) -> u16
     Sum16BitWords::new().add_slice(bytes).ones_complement()
 }
 
-/// The headers of an IPv6 packet that was never fragmented, by its first fragment and the length of its payload (RFC 8200, section 4.5). The
-/// payload is the fragmentable part of the packet. The headers are those before the fragment header, with the payload length of the whole
-/// packet. The last of them has the number of the header after the fragment header. `None` if the fragment begins with no IPv6 header or has
-/// no fragment header, if the headers have more than 256 bytes, or if extension headers and payload have more than 65,535 bytes.
+/// The headers of an IPv6 packet that was put together, as if it was never fragmented (RFC 8200, section 4.5). They are the headers before
+/// the fragment header of the first fragment. The payload length counts all bytes after the IPv6 header. The last header contains the
+/// number of the header that follows the fragment header. `payload_len` is the length of the payload that the fragments contain. `None` if
+/// the fragment does not begin with an IPv6 header or has no fragment header. `None` also if the headers have more than 256 bytes, or if
+/// extension headers and payload have more than 65,535 bytes.
 #[tactic(auto, using(crate::proofs::WholeHeaderLemmas::has_ipv6, crate::proofs::WholeHeaderLemmas::not_found, crate::proofs::WholeHeaderLemmas::short_place, crate::proofs::WholeHeaderLemmas::ipv6_written))]
 pub fn whole_ipv6_header(
     first_fragment: &[u8],
@@ -117,7 +119,8 @@ fn begins_with_ipv6_header(packet: &[u8]) -> bool
     Ipv6HeaderSlice::from_slice(packet).is_some()
 }
 
-/// The headers before a fragment header, with this payload length.
+/// The headers before a fragment header, with this payload length. The last of them contains the number of the header that follows the
+/// fragment header.
 fn without_fragment_header(
     headers: &[u8],
     found: FragmentPlace,
@@ -141,7 +144,8 @@ fn without_fragment_header(
     bytes
 }
 
-/// The headers of the whole packet, by the headers of its first fragment and the length of its payload.
+/// The headers of the whole packet, given the headers of its first fragment and the length of its payload. `None` if `whole_ipv4_header` or
+/// `whole_ipv6_header` returns `None`.
 #[tactic(auto, using(crate::proofs::WholeHeaderLemmas::only_ipv6, crate::proofs::WholeHeaderLemmas::only_ipv4, crate::proofs::WholeHeaderLemmas::by_ipv6, crate::proofs::WholeHeaderLemmas::by_ipv4))]
 pub(crate) fn whole_header(
     first_fragment: &[u8],

@@ -1,8 +1,8 @@
--- The bytes of a stream: those that its reader has left or its writer holds, before and after a call.
+-- The bytes that a reader has left, or that a writer holds, before and after a call.
 use Rattle.std.specs.Prelude.{◌≡◌, ℕ, ◌+◌, ◌<◌, ◌≤◌, List, ◌++◌, length, take, Option}
 use Rattle.std.specs.Io.KnownBytes.{Appends, Consumes, IsAtEnd}
 
--- the reader returned `len` bytes: `count` bytes, or fewer at the end of input
+-- `len` bytes were read: `count` bytes, or fewer if the input ended
 pub record Skips (left still_left : Option (List ℕ)) (count len : ℕ) : Type 0 where
   pub bytes : List ℕ
   pub has_len : length bytes ≡ len
@@ -10,7 +10,8 @@ pub record Skips (left still_left : Option (List ℕ)) (count len : ℕ) : Type 
   pub within : len ≤ count
   pub end : len < count → IsAtEnd still_left
 
--- the buffer contains the first bytes, and then the bytes read after them, up to the end of the buffer or of the input
+-- The first `len` bytes of the buffer are `first`, and then the bytes that were read. If `len` is less than the length of the buffer, the
+-- input ended.
 pub record FillsAfter (first : List ℕ) (left still_left : Option (List ℕ)) (buffer : List ℕ) (len : ℕ) : Type 0 where
   pub bytes : List ℕ
   pub consumed : Consumes left still_left bytes
@@ -25,7 +26,7 @@ pub record ReadsFewer (left still_left : Option (List ℕ)) (count : ℕ) : Type
   pub consumed : Consumes left still_left bytes
   pub fewer : length bytes < count
 
--- the writer took a beginning of the text
+-- the writer accepted a beginning of the text: none of it, a part of it, or all of it
 pub record AppendsBeginning (before after : Option (List ℕ)) (text : List ℕ) : Type 0 where
   pub written : List ℕ
   pub unwritten : List ℕ

@@ -1,4 +1,4 @@
-//! Reads whole parts from a stream, and writes whole texts, for the programs.
+//! Fills buffers from a stream, skips bytes of a stream, and writes whole texts, for the programs.
 #![tactic(auto)]
 
 ghost use Rattle.std.specs.Prelude.{◌≡◌, ◌<◌, ◌≤◌, ◌-◌, IfOk, IfSome, OnErr, OnOk, length, take};
@@ -44,8 +44,8 @@ pub fn fill<R: Read>(input: &mut R, buffer: &mut [u8]) -> io::Result<usize>
     Ok(filled)
 }
 
-/// Copies `first` to the front of `buffer`, and reads the bytes after it as `fill` does. Returns the number of bytes present, with `first`.
-/// If `first` is longer than the buffer, its last bytes are left out.
+/// Copies `first` to the front of `buffer`, and fills the rest of `buffer` from the input, as `fill` does. Returns the number of bytes in
+/// `buffer`, including `first`. If `first` is longer than `buffer`, only its front is copied, and nothing is read.
 ///
 /// # Errors
 ///
@@ -62,7 +62,7 @@ pub fn fill_after<R: Read>(input: &mut R, first: &[u8], buffer: &mut [u8]) -> io
     }
 }
 
-/// Copies `first`, which fits in the buffer, to the front of `buffer`, and reads the bytes after it.
+/// Does what `fill_after` does, for a `first` that is not longer than `buffer`.
 fn fill_behind<R: Read>(input: &mut R, first: &[u8], buffer: &mut [u8]) -> io::Result<usize>
     requires { length first.now ≤ length buffer.old }
     ensures fills { IfOk result (FillsAfter first.now (R.remaining input.old) (R.remaining input.new) buffer.new) }
@@ -77,8 +77,8 @@ fn fill_behind<R: Read>(input: &mut R, first: &[u8], buffer: &mut [u8]) -> io::R
 /// The maximum number of bytes that `skip` reads at once.
 const PART_LEN: usize = 4096;
 
-/// Reads `count` bytes, or all bytes up to the end of input if there are fewer, and returns the number of bytes read. The bytes are not
-/// kept.
+/// Reads `count` bytes, or all bytes up to the end of input if there are fewer, and returns the number of bytes read. The bytes are
+/// discarded.
 ///
 /// # Errors
 ///
@@ -103,7 +103,7 @@ pub fn skip<R: Read>(input: &mut R, count: usize) -> io::Result<usize>
 ///
 /// # Errors
 ///
-/// The error of the first write that fails, and `WriteZero` if a write takes no byte.
+/// The error of the first write that fails, or `WriteZero` if a write accepts no byte.
 pub fn write_whole<W: Write>(output: &mut W, text: &[u8]) -> io::Result<()>
     ensures written { OnOk result (Appends (W.contents output.old) (W.contents output.new) text.now) }
     ensures begun { AppendsBeginning (W.contents output.old) (W.contents output.new) text.now }

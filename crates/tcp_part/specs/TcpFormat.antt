@@ -29,10 +29,11 @@ min_data_offset = 5
 abbrev pub max_data_offset : ℕ
 max_data_offset = 15
 
--- the least and the greatest length of a header, in bytes
+-- the least length of a header, in bytes
 abbrev pub min_header_len : ℕ
 min_header_len = 20
 
+-- the greatest length of a header, in bytes
 abbrev pub max_header_len : ℕ
 max_header_len = 60
 
@@ -40,8 +41,8 @@ max_header_len = 60
 abbrev pub data_offset : List ℕ → ℕ
 data_offset bytes = slice_index bytes 12 / 16
 
--- The data offset states where the header ends. In byte 12 the data offset and NS are meaningful. In any other byte all bits are
--- meaningful.
+-- The length of the header in these bytes, and the masks of its meaningful bits. In byte 12 only the data offset and NS are meaningful. In
+-- any other byte of the header all bits are meaningful.
 abbrev pub layout_of : List ℕ → HeaderLayout
 layout_of bytes = record {
   header_len = data_offset bytes * 4;
@@ -50,7 +51,8 @@ layout_of bytes = record {
 
 -- ---- accepted bytes
 
--- The first error that applies: fewer bytes than five words; a data offset below five; fewer bytes than the data offset states.
+-- The error for these bytes, if there is one. It is the first that applies: fewer than 20 bytes; a data offset below 5; fewer bytes than
+-- the data offset states.
 abbrev pub refusal : List ℕ → Option HeaderSliceError
 refusal bytes = first_of (
     refused_if (nat_lt (length bytes) min_header_len) (Len (wrong_length layers.TcpHeader min_header_len (length bytes)))
@@ -69,29 +71,35 @@ pub record FlagBit : Type 0 where
 abbrev pub ns_flag : FlagBit
 ns_flag = record { place = 12; bit = 0x01 }
 
--- the flags FIN, SYN, RST, PSH, ACK and URG (RFC 9293, section 3.1)
+-- the flag FIN (RFC 9293, section 3.1)
 abbrev pub fin_flag : FlagBit
 fin_flag = record { place = 13; bit = 0x01 }
 
+-- the flag SYN (RFC 9293, section 3.1)
 abbrev pub syn_flag : FlagBit
 syn_flag = record { place = 13; bit = 0x02 }
 
+-- the flag RST (RFC 9293, section 3.1)
 abbrev pub rst_flag : FlagBit
 rst_flag = record { place = 13; bit = 0x04 }
 
+-- the flag PSH (RFC 9293, section 3.1)
 abbrev pub psh_flag : FlagBit
 psh_flag = record { place = 13; bit = 0x08 }
 
+-- the flag ACK (RFC 9293, section 3.1)
 abbrev pub ack_flag : FlagBit
 ack_flag = record { place = 13; bit = 0x10 }
 
+-- the flag URG (RFC 9293, section 3.1)
 abbrev pub urg_flag : FlagBit
 urg_flag = record { place = 13; bit = 0x20 }
 
--- the flags ECE and CWR (RFC 3168, section 6.1)
+-- the flag ECE (RFC 3168, section 6.1)
 abbrev pub ece_flag : FlagBit
 ece_flag = record { place = 13; bit = 0x40 }
 
+-- the flag CWR (RFC 3168, section 6.1)
 abbrev pub cwr_flag : FlagBit
 cwr_flag = record { place = 13; bit = 0x80 }
 
@@ -99,7 +107,7 @@ cwr_flag = record { place = 13; bit = 0x80 }
 abbrev pub flag_of : List ℕ → FlagBit → Bool
 flag_of bytes at = flag bytes at.place at.bit
 
--- what a flag adds to the byte at this place: its bit, if it is set and belongs to this byte
+-- what a flag adds to the byte at this place: its bit, if the flag is set and is in this byte
 abbrev pub added_at : ℕ → FlagBit → Bool → ℕ
 added_at place at set = if at.place == place then from_bool set * at.bit else 0
 
@@ -140,13 +148,13 @@ header_of bytes = record {
   options = options_of bytes;
 }
 
--- the bytes are accepted, and read as this header and the bytes after it
+-- the bytes are accepted, and read as this header and this rest
 pub record DecodesAs (bytes : List ℕ) (header : TcpHeader) (rest : List ℕ) : Type 0 where
   pub accepted : refusal bytes ≡ None
   pub fields : header ≡ header_of bytes
   pub after_header : rest ≡ drop ((layout_of bytes).header_len) bytes
 
--- accepted bytes with the meaningless bits of the header cleared; the bytes after the header are kept
+-- these bytes with the meaningless bits of the header cleared; the bytes after the header are unchanged
 abbrev pub canonical : List ℕ → List ℕ
 canonical bytes = masked ((layout_of bytes).masks) bytes
 
@@ -209,20 +217,24 @@ without_checksum header = with_checksum tcp_checksum_place header 0
 abbrev pub checksummed : List ℕ → List ℕ → List ℕ → ℕ
 checksummed pseudo_header header payload = total pseudo_header + total (without_checksum header) + total payload
 
--- the sum from which the checksum is computed, over IPv4 and over IPv6; the pseudo header contains the length of header and payload (RFC
--- 9293, section 3.1; RFC 8200, section 8.1)
+-- the sum from which the checksum over IPv4 is computed; the pseudo header contains the length of header and payload together (RFC 9293,
+-- section 3.1)
 abbrev pub checksummed_ipv4 : List ℕ → List ℕ → List ℕ → List ℕ → ℕ
 checksummed_ipv4 source destination header payload =
     checksummed (ipv4_pseudo_header source destination tcp_number (length header + length payload)) header payload
 
+-- the sum from which the checksum over IPv6 is computed; the pseudo header contains the length of header and payload together (RFC 8200,
+-- section 8.1)
 abbrev pub checksummed_ipv6 : List ℕ → List ℕ → List ℕ → List ℕ → ℕ
 checksummed_ipv6 source destination header payload =
     checksummed (ipv6_pseudo_header source destination tcp_number (length header + length payload)) header payload
 
--- The length of the longest payload after this header. The pseudo header counts header and payload in 16 bits over IPv4 (RFC 9293, section
--- 3.1), and in 32 bits over IPv6 (RFC 8200, section 8.1).
+-- the length of the longest payload after this header over IPv4; the pseudo header counts header and payload in 16 bits (RFC 9293, section
+-- 3.1)
 abbrev pub max_payload_len_ipv4 : List ℕ → ℕ
 max_payload_len_ipv4 header = max_len_over_ipv4 - length header
 
+-- the length of the longest payload after this header over IPv6; the pseudo header counts header and payload in 32 bits (RFC 8200, section
+-- 8.1)
 abbrev pub max_payload_len_ipv6 : List ℕ → ℕ
 max_payload_len_ipv6 header = max_len_over_ipv6 - length header

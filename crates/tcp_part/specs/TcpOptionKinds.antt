@@ -1,5 +1,5 @@
--- The kinds of TCP options, and the lengths of the kinds that have only one length. A length is in bytes, and counts the kind and the
--- length byte too.
+-- The kinds of TCP options, and the lengths of the kinds with a fixed length. A length is in bytes. It includes the kind and the length
+-- byte.
 use Rattle.std.specs.Prelude.{ℕ, ◌==◌, List, [], ◌∷◌, Option}
 use Rattle.std.specs.Map.{lookup}
 
@@ -47,12 +47,12 @@ timestamp_kind = 8
 abbrev pub timestamp_len : ℕ
 timestamp_len = 10
 
--- the kinds that have only one length, with this length
+-- the kinds with a fixed length, each with its length
 abbrev pub lengths_of_kinds : List (ℕ × ℕ)
 lengths_of_kinds =
     (maximum_segment_size_kind, maximum_segment_size_len) ∷ (window_scale_kind, window_scale_len)
     ∷ (sack_permitted_kind, sack_permitted_len) ∷ (timestamp_kind, timestamp_len) ∷ []
 
--- the length of an option of this kind, if the kind has only one length
+-- the length of an option of this kind, if the kind has a fixed length
 abbrev pub length_of_kind : ℕ → Option ℕ
 length_of_kind kind = lookup (λ known. kind == known) lengths_of_kinds

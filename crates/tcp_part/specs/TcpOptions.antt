@@ -91,7 +91,8 @@ JoinsOrRefuses elements result =
 
 -- ---- order
 
--- The order of bytes. At the first place where both differ, the smaller byte is first. If one is the beginning of the other, it is first.
+-- `a` is before `b` in the order of bytes: at the first place where they differ, the byte of `a` is smaller. A list is also before every
+-- longer list that begins with it.
 abbrev pub IsBefore : List ℕ → List ℕ → Type 0
 IsBefore a b = (place : ℕ) × (take place a ≡ take place b)
     × (((place < length a) × (place < length b) × (slice_index a place < slice_index b place)) ⊎ ((length a ≡ place) × (place < length b)))

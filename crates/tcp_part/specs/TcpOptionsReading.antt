@@ -1,5 +1,5 @@
--- The reading of bytes as TCP options (RFC 9293, section 3.1): a relation between bytes and items, given by the spelling of each element
--- and a table of faults. How the bytes are divided follows from it.
+-- How bytes are read as TCP options (RFC 9293, section 3.1). A relation between bytes and items is defined by the bytes of each element and
+-- by a table of faults.
 use Rattle.std.specs.Prelude.{ℕ, Bool, ◌%◌, ◌≤◌, ◌<◌, ◌≡◌, ◌⊎◌, ◌↔◌, ◌^◌, ◌==◌, ◌||◌, not, map, nat_lt, if◌then◌else◌, List, [], ◌∷◌, ◌++◌, length, slice_index, Option, Some, None, Result, Ok, Err, IfSome}
 use Rattle.std.specs.List.{AllByRecursion}
 use Rattle.net_base.specs.declared.tcp_option_read_error.TcpOptionReadError.{TcpOptionReadError}
@@ -25,7 +25,7 @@ IsInRange SelectiveAcknowledgementPermitted = Unit {0}
 IsInRange (SelectiveAcknowledgement first more) = IsPair first × (length more ≡ 3) × AllByRecursion (λ block. IfSome block IsPair) more
 IsInRange (Timestamp value echo) = IsPair (value, echo)
 
--- the bytes begin with this element, and the rest follows it
+-- the bytes begin with this element, and this rest follows it; the element has its present blocks first, and its numbers are in range
 pub record BeginsWith (bytes : List ℕ) (element : TcpOptionElement) (rest : List ℕ) : Type 0 where
   pub spelled : bytes ≡ spelling element ++ rest
   pub read_back : front element ≡ element
@@ -35,16 +35,16 @@ pub record BeginsWith (bytes : List ℕ) (element : TcpOptionElement) (rest : Li
 abbrev pub Ends : List ℕ → Type 0
 Ends bytes = (length bytes ≡ 0) ⊎ (slice_index bytes 0 ≡ end_kind)
 
--- ---- faults: why the option at the front can't be read, by its kind, its length byte, and the number of bytes left, kind and length byte
--- included. If no length byte is left, its value does not matter.
+-- ---- faults: why the option at the front can't be read. This depends on its kind, its length byte, and the number of bytes left, which
+-- includes the kind and the length byte. If no length byte is left, its value does not matter.
 --
 --   kind          rules in their order
---   0, 1          none: a kind alone
+--   0, 1          no fault: the option is a single byte
 --   2, 3, 4, 8    fewer bytes are left than the kind requires; the length byte is another length
 --   5             no length byte is left; the length byte is not the length of one to four blocks; fewer bytes are left than it counts
 --   every other   the kind is not known
 
--- the fault of an option whose kind has only one length
+-- the fault of an option whose kind has a fixed length
 abbrev pub fault_of_length : ℕ → ℕ → ℕ → ℕ → Option TcpOptionReadError
 fault_of_length expected kind size left = first_of (
     refused_if (nat_lt left expected) (UnexpectedEndOfSlice kind expected left)
@@ -84,8 +84,8 @@ fault bytes = fault_of_kind (slice_index bytes 0) (slice_index bytes 1) (length 
 abbrev pub Item : Type 0
 Item = Result TcpOptionElement TcpOptionReadError
 
--- The bytes are read as these items. At the end there is no item. Otherwise there is an element at the front, and then the items of the
--- rest; or only one fault.
+-- The bytes are read as these items. If no byte is left, or the list ends here, there is no item. Otherwise the first item is the element
+-- at the front, and the items of the rest follow. Or the only item is a fault.
 abbrev pub Reads : List ℕ → List Item → Type 0
 Reads bytes [] = Ends bytes
 Reads bytes (Ok element ∷ items) = (rest : List ℕ) × BeginsWith bytes element rest × Reads rest items
@@ -119,7 +119,7 @@ pub record AreJoined (options : List ℕ) (elements : List TcpOptionElement) : T
   pub whole : options ≡ join elements ++ rest
   pub end : Ends rest
 
--- the options represent these elements: they are read only as these elements, and a header has room for them
+-- the options represent these elements: they are read as these elements without a fault, and a header can contain them
 pub record StandFor (options : List ℕ) (elements : List TcpOptionElement) : Type 0 where
   pub reads : Reads options (read_back elements)
   pub room : length options ≤ max_options_len
@@ -130,7 +130,8 @@ pub record AreLeastFor (options : List ℕ) (elements : List TcpOptionElement) :
   pub stand : StandFor options elements
   pub first : (others : List ℕ) → StandFor others elements → (others ≡ options) ⊎ IsBefore options others
 
--- if both options are read without a fault, they are read as the same elements exactly if the padded bytes of the elements are the same
+-- Assume that both options are read without a fault. They are read as the same elements exactly if the padded bytes of the elements are the
+-- same.
 abbrev pub ReadAlike : List ℕ → List ℕ → Type 0
 ReadAlike options others = (elements other_elements : List TcpOptionElement)
     → Reads options (as_items elements) → Reads others (as_items other_elements)

@@ -23,17 +23,17 @@ pub record RawOption : Type 0 where
 abbrev pub raw_spelling : RawOption → List ℕ
 raw_spelling option = if option.kind == noop_kind then noop_kind ∷ [] else with_length option.kind option.value
 
--- the bytes begin with this option, and the rest follows it; the end of the list is not an option
+-- the bytes begin with this option, and this rest follows it; the end of the list is not an option
 pub record BeginsWithRaw (bytes : List ℕ) (option : RawOption) (rest : List ℕ) : Type 0 where
   pub spelled : bytes ≡ raw_spelling option ++ rest
   pub is_no_end : option.kind ≢ end_kind
   pub noop_has_no_value : option.kind ≡ noop_kind → option.value ≡ []
 
--- ---- faults: why the option at the front can't be read, by its kind, its length byte, and the number of bytes left, kind and length byte
--- included. If no length byte is left, its value does not matter.
+-- ---- faults: why the option at the front can't be read. This depends on its kind, its length byte, and the number of bytes left, which
+-- includes the kind and the length byte. If no length byte is left, its value does not matter.
 --
 --   kind          rules in their order
---   0, 1          none: a kind alone
+--   0, 1          no fault: the option is a single byte
 --   every other   no length byte is left; the length byte is below 2; fewer bytes are left than it counts
 abbrev pub raw_fault_of : ℕ → ℕ → ℕ → Option TcpRawOptionError
 raw_fault_of kind len available = if kind == end_kind || kind == noop_kind then None else first_of (
@@ -52,8 +52,8 @@ raw_fault bytes = raw_fault_of (slice_index bytes 0) (slice_index bytes 1) (leng
 abbrev pub RawItem : Type 0
 RawItem = Result RawOption TcpRawOptionError
 
--- The bytes are read as these items. At the end there is no item. Otherwise there is an option at the front, and then the items of the
--- rest; or only one fault.
+-- The bytes are read as these items. If no byte is left, or the list ends here, there is no item. Otherwise the first item is the option at
+-- the front, and the items of the rest follow. Or the only item is a fault.
 abbrev pub ReadsRaw : List ℕ → List RawItem → Type 0
 ReadsRaw bytes [] = Ends bytes
 ReadsRaw bytes (Ok option ∷ items) = (rest : List ℕ) × BeginsWithRaw bytes option rest × ReadsRaw rest items
@@ -81,8 +81,8 @@ as_raw_items options = map (λ option. Ok option) options
 abbrev pub raw_join : List RawOption → List ℕ
 raw_join options = flat_map raw_spelling options
 
--- The bytes consist of options and a rest. The items are these options, and the rest is empty or begins with the end of the list. Or the
--- items are these options and one fault, which is the fault of the rest.
+-- The bytes consist of the bytes of options, and then a rest. Either the items are these options, and the rest is empty or begins with the
+-- end of the list. Or the items are these options and then one fault, which is the fault of the rest.
 pub record AreRawJoined (bytes : List ℕ) (items : List RawItem) : Type 0 where
   pub options : List RawOption
   pub rest : List ℕ
@@ -90,7 +90,7 @@ pub record AreRawJoined (bytes : List ℕ) (items : List RawItem) : Type 0 where
   pub end : ((items ≡ as_raw_items options) × Ends rest)
       ⊎ ((error : TcpRawOptionError) × (items ≡ as_raw_items options ++ (Err error ∷ [])) × (raw_fault rest ≡ Some error))
 
--- if the items that were read are written, the result is the bytes that were read, as `AreRawJoined` states
+-- if these bytes are read, the bytes of the options that were read are the bytes at the front, as `AreRawJoined` states
 abbrev pub IsWrittenBack : List ℕ → Type 0
 IsWrittenBack bytes = (items : List RawItem) → ReadsRaw bytes items → AreRawJoined bytes items
 
@@ -100,14 +100,13 @@ IsWrittenBack bytes = (items : List RawItem) → ReadsRaw bytes items → AreRaw
 abbrev pub length_byte : RawOption → ℕ
 length_byte option = min (length option.value + 2) 255
 
--- The error for an option that is not an element. It is the fault of its kind and length byte, if as many bytes follow as a header can
--- contain, so that no byte is missing. The end of the list is not an element.
+-- The error for an option that is not an element. It is the fault that the kind and the length byte cause if 40 bytes are left, so that no
+-- byte is missing. The end of the list is not an element.
 abbrev pub element_refusal : RawOption → Option TcpOptionReadError
 element_refusal option =
     if option.kind == end_kind then Some (UnknownId end_kind) else fault_of_kind option.kind (length_byte option) max_options_len
 
--- Fewer bytes are left than the kind of the option requires, and the length byte states another length. This applies only to a kind with
--- one length.
+-- The kind of the option has a fixed length. Fewer bytes are left than this length, and the length byte is another length.
 abbrev pub IsMissingBytes : ℕ → RawOption → TcpOptionReadError → Option ℕ → Type 0
 IsMissingBytes left option error None = ⊥
 IsMissingBytes left option error (Some len) = (left < len) × (error ≡ UnexpectedEndOfSlice option.kind len left)
@@ -118,8 +117,9 @@ abbrev pub IsFaultOf : ℕ → RawOption → TcpOptionReadError → Type 0
 IsFaultOf left option error =
     (element_refusal option ≡ Some error) ⊎ IsMissingBytes left option error (length_of_kind option.kind)
 
--- The items of both readings of some bytes correspond: each option to its element; an option that is not an element to its fault, which is
--- the last item; or the fault of one reading to the fault of the other.
+-- The items of both readings of these bytes correspond. Each option corresponds to its element. An option that is not an element
+-- corresponds to its fault, which ends the reading as elements. A fault of the reading as options corresponds to a fault of the reading as
+-- elements.
 abbrev pub AreItemsOf : List ℕ → List RawItem → List Item → Type 0
 AreItemsOf bytes [] [] = Unit {0}
 AreItemsOf bytes (Ok option ∷ options) (Ok element ∷ items) =
@@ -129,12 +129,12 @@ AreItemsOf bytes (Err raw_error ∷ options) (Err error ∷ items) =
     (raw_fault bytes ≡ Some raw_error) × (options ≡ []) × (fault bytes ≡ Some error) × (items ≡ [])
 AreItemsOf bytes options items = ⊥
 
--- both readings of some bytes have corresponding items up to the first fault
+-- both readings of these bytes have corresponding items up to the first fault
 abbrev pub ReadsTheSameItems : List ℕ → Type 0
 ReadsTheSameItems bytes = (options : List RawItem) (items : List Item) → ReadsRaw bytes options → Reads bytes items → AreItemsOf bytes options items
 
--- The bytes are read as options with the same bytes as these elements, in the same order, and then as other items. If no item follows the
--- elements, no other item follows the options.
+-- The bytes are read as options, and then as more items. These options have the same bytes as these elements, in the same order. If no item
+-- follows the elements, no item follows the options.
 pub record BeginsAsElements (bytes : List ℕ) (elements : List TcpOptionElement) (others : List Item) : Type 0 where
   pub options : List RawOption
   pub more : List RawItem
@@ -142,7 +142,7 @@ pub record BeginsAsElements (bytes : List ℕ) (elements : List TcpOptionElement
   pub same : map raw_spelling options ≡ map spelling elements
   pub no_more : others ≡ [] → more ≡ []
 
--- up to the first fault, reading some bytes as elements and as options gives the same options
+-- up to the first fault, reading these bytes as elements and as options returns the same options
 abbrev pub ReadsTheSameOptions : List ℕ → Type 0
 ReadsTheSameOptions bytes = (elements : List TcpOptionElement) (others : List Item)
     → Reads bytes (as_items elements ++ others) → BeginsAsElements bytes elements others

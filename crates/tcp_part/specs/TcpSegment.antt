@@ -1,4 +1,4 @@
--- A TCP segment in one list of bytes: its header, whose length is the data offset, and the payload after it (RFC 9293, section 3.1).
+-- A TCP segment in one list of bytes: its header, whose length the data offset states, and the payload after it (RFC 9293, section 3.1).
 use Rattle.std.specs.Prelude.{ℕ, ◌*◌, List, take, drop}
 use Rattle.tcp_part.specs.TcpFormat.{data_offset}
 

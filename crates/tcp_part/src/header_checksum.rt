@@ -138,7 +138,8 @@ pub(crate) fn is_segment_valid_ipv6(source: [u8; 16], destination: [u8; 16], seg
     }
 }
 
-/// The length of header and payload, which the pseudo header over IPv4 counts in 16 bits (RFC 9293, section 3.1).
+/// The length of header and payload together, as the pseudo header over IPv4 contains it (RFC 9293, section 3.1). Returns an error if this
+/// length does not fit 16 bits.
 #[inline]
 pub(crate) fn len_over_ipv4(
     header_len: usize,
@@ -153,7 +154,8 @@ pub(crate) fn len_over_ipv4(
     Ok((header_len + payload_len) as u16)
 }
 
-/// The length of header and payload, which the pseudo header over IPv6 counts in 32 bits (RFC 8200, section 8.1).
+/// The length of header and payload together, as the pseudo header over IPv6 contains it (RFC 8200, section 8.1). Returns an error if this
+/// length does not fit 32 bits.
 #[inline]
 pub(crate) fn len_over_ipv6(
     header_len: usize,
@@ -168,7 +170,8 @@ pub(crate) fn len_over_ipv6(
     Ok((header_len + payload_len) as u32)
 }
 
-/// Computes the checksum from the sum of the pseudo header. The two bytes of the checksum are not added, since a zero word adds nothing.
+/// Computes the checksum from the sum of the pseudo header, the bytes of the header, and the payload. The two bytes of the stored checksum
+/// count as zeros, so they are not added.
 #[inline]
 fn checksum_post_ip(pseudo_header: Sum16BitWords, header: &[u8], payload: &[u8]) -> u16
     requires { min_header_len ≤ length header.now }
@@ -184,7 +187,7 @@ fn checksum_post_ip(pseudo_header: Sum16BitWords, header: &[u8], payload: &[u8])
 }
 
 /// Adds the words of the options. Most headers have no options.
-// perf: adding no bytes is a call of 21 instructions (27 Nov 2026).
+// perf: without the test for no options, adding an empty slice is a call of 21 instructions (27 Nov 2026).
 #[inline(always)]
 pub(crate) fn add_options(sum: Sum16BitWords, options: &[u8]) -> Sum16BitWords
     ensures { sum_value result ≡ folded (sum_value sum + total options.now) }

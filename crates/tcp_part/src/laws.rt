@@ -1,5 +1,5 @@
-//! Laws of the definitions in `specs/` and of the types. Each law is the contract of a function that does nothing, or that calls the
-//! functions that the law is about. So it is checked with the calls.
+//! Laws of the definitions in `specs/` and of the types. Each law is the contract of a function. The function does nothing, or makes only
+//! the call that the law describes.
 //!
 //! # Errors
 //!
@@ -31,33 +31,34 @@ use crate::{
 use std::alloc::AllocError;
 use std::hash::{Hash, Hasher};
 
-/// If no bytes are left, for example after the end of the list or a fault, `next` returns `None`, and no bytes are left.
+/// If no bytes are left, for example after the end of the list or a fault, `next` of `TcpOptionsIterator` returns `None`. Still no bytes
+/// are left.
 pub fn nothing_is_read_after_the_end()
     ensures { (item : Option Item) (rest : List ℕ) → ReadsNext [] item rest → (item ≡ None) × (rest ≡ []) }
 {}
 
-/// If two lists of option bytes are read without a fault, they are read as the same elements exactly if the padded bytes of the elements
-/// are the same.
+/// Assume that two lists of option bytes are read without a fault. They are read as the same elements exactly if the padded bytes of the
+/// elements are the same.
 pub fn options_read_alike()
     ensures { (options others : List ℕ) → ReadAlike options others }
 {}
 
-/// If no bytes are left, for example after the end of the list or a fault, `next` of `TcpRawOptionsIterator` returns
-/// `None`, and no bytes are left.
+/// If no bytes are left, for example after the end of the list or a fault, `next` of `TcpRawOptionsIterator` returns `None`. Still no bytes
+/// are left.
 pub fn no_raw_option_is_read_after_the_end()
     ensures { (item : Option RawItem) (rest : List ℕ) → ReadsRawNext [] item rest → (item ≡ None) × (rest ≡ []) }
 {}
 
-/// `TcpOptionsIterator` returns elements up to a fault. `TcpRawOptionsIterator` returns the same options in their places, with the same
-/// bytes. If the first iterator finds no fault, the second iterator finds no fault either, and returns nothing more.
+/// `TcpOptionsIterator` returns elements up to a fault. `TcpRawOptionsIterator` returns an option with the same bytes in the place of each
+/// element. If the first iterator finds no fault, the second iterator finds no fault either, and returns nothing more.
 pub fn raw_options_are_the_elements()
     ensures { (options : List ℕ) → ReadsTheSameOptions options }
 {}
 
-/// Up to the first fault, `element` of each option that `TcpRawOptionsIterator` returns is the item that `TcpOptionsIterator` returns in
-/// its place. If the length byte counts only bytes that are present, there are two cases. Either the fault is the error of `element`. Or
-/// fewer bytes are left than the length of the kind. Then the iterator's error contains both numbers, and `element` reports a wrong length.
-/// If the length byte counts more bytes, each iterator returns its own error.
+/// For each option that `TcpRawOptionsIterator` returns before the first fault, `TcpOptionsIterator` returns the result of `element` in its
+/// place. Assume that the length byte of the option with the fault counts only bytes that are present. Then the fault is the error of
+/// `element`, except in one case. If fewer bytes are left than the kind requires, the fault contains both numbers, while `element` reports
+/// a wrong length. If the length byte counts more bytes than are present, each iterator returns its own error.
 pub fn elements_of_raw_options()
     ensures { (options : List ℕ) → IsBytes options → ReadsTheSameItems options }
 {}
@@ -224,7 +225,7 @@ pub fn limits()
         × (TCP_MAXIMUM_DATA_OFFSET ≡ max_data_offset) }
 {}
 
-/// The kinds of options, by both their names, and the lengths of the kinds that have only one length.
+/// The constants for the kinds of options, their older names, and the constants for fixed lengths have these values.
 pub fn kinds()
     ensures kinds { (KIND_END ≡ end_kind) × (KIND_NOOP ≡ noop_kind) × (KIND_MAXIMUM_SEGMENT_SIZE ≡ maximum_segment_size_kind)
         × (KIND_WINDOW_SCALE ≡ window_scale_kind) × (KIND_SELECTIVE_ACK_PERMITTED ≡ sack_permitted_kind)

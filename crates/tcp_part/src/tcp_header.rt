@@ -45,9 +45,9 @@ pub struct TcpHeader {
     pub source_port: u16,
     /// The port of the receiver (bytes 2 and 3).
     pub destination_port: u16,
-    /// The sequence number of the first byte of the payload. If `syn` is set, it is the initial sequence number (bytes 4 to 7).
+    /// The sequence number of the first byte of the payload (bytes 4 to 7). If `syn` is set, it is the initial sequence number instead.
     pub sequence_number: u32,
-    /// If `ack` is set, the next sequence number that the sender expects. Otherwise the field has no meaning (bytes 8 to 11).
+    /// The next sequence number that the sender expects (bytes 8 to 11). If `ack` is not set, the field has no meaning.
     pub acknowledgment_number: u32,
     /// ECN nonce sum (RFC 3540, section 9; byte 12, bit 0x01).
     pub ns: bool,
@@ -71,8 +71,7 @@ pub struct TcpHeader {
     pub window_size: u16,
     /// The checksum over pseudo header, header and payload (bytes 16 and 17).
     pub checksum: u16,
-    /// If `urg` is set, the end of the urgent data, in bytes from the sequence number. Otherwise the field has no meaning (bytes 18 and
-    /// 19).
+    /// The end of the urgent data, in bytes from the sequence number (bytes 18 and 19). If `urg` is not set, the field has no meaning.
     pub urgent_pointer: u16,
     /// The options (from byte 20 to the end of the header, which the data offset states).
     pub options: TcpOptions,
@@ -168,7 +167,7 @@ impl TcpHeader {
         TcpHeader::MIN_LEN + self.options_len()
     }
 
-    /// The length of the header, in bytes: 20 plus the length of the options, at most 60.
+    /// The length of the header, in bytes, as a `u16`: 20 plus the length of the options, at most 60.
     pub fn header_len_u16(&self) -> u16
         ensures { result ≡ length (wire self.now) }
     {
@@ -211,8 +210,8 @@ impl TcpHeader {
     ///
     /// # Errors
     ///
-    /// `NotEnoughSpace` if the elements are longer than 40 bytes. It contains their length, or `usize::MAX` if the length is greater. After
-    /// this error the header is unchanged.
+    /// `NotEnoughSpace` if the elements are longer than 40 bytes. It contains their length, or `usize::MAX` if their length is above
+    /// `usize::MAX`. After this error the header is unchanged.
     pub fn set_options(&mut self, elements: &[TcpOptionElement]) -> Result<(), TcpOptionWriteError>
         ensures refused { RefusesExactly result (too_long (saturated (length (join elements.now)))) }
         ensures replaced { IfOk result (λ _. self.new ≡ record self.old { options = pad (join elements.now) }) }
@@ -237,7 +236,7 @@ impl TcpHeader {
     }
 
     /// Reads a header (RFC 9293, section 3.1). Returns the header, and the bytes after it, borrowed from the slice. The meaningless bits
-    /// 0x0E of byte 12 are not kept. The checksum is not checked.
+    /// 0x0E of byte 12 are ignored. The checksum is not checked.
     ///
     /// # Errors
     ///
@@ -272,7 +271,7 @@ impl TcpHeader {
         TcpHeader::from_slice(slice)
     }
 
-    /// The bytes of the header, with each field at its place (RFC 9293, section 3.1). With any payload after them, these bytes are read
+    /// The bytes of the header, with each field at its place (RFC 9293, section 3.1). If any payload follows these bytes, they are read
     /// back as this header.
     #[inline(always)]
     pub fn to_bytes(&self) -> ArrayVec<u8, 60>
@@ -354,7 +353,8 @@ impl TcpHeader {
     }
 
     /// Byte 13 of the header, which contains the other flags. The flags are the eight bytes of one number, with the first flag in the
-    /// lowest byte. The factor moves the flag in byte `i` to bit `i` of the highest byte, by one multiplication instead of eight shifts.
+    /// lowest byte. Multiplying by the factor moves the flag in byte `i` to bit `i` of the highest byte. This is one multiplication instead
+    /// of eight shifts.
     fn flags_byte(&self) -> u8
         ensures { result ≡ flags_byte self.now }
     {
@@ -397,7 +397,7 @@ impl TcpHeader {
     ///
     /// # Errors
     ///
-    /// `ValueTooBigError` of `TcpPayloadLengthIpv4` if the payload is longer than 65,535 bytes minus the header.
+    /// `ValueTooBigError` of `TcpPayloadLengthIpv4` if header and payload together are longer than 65,535 bytes.
     #[inline(always)]
     pub fn calc_checksum_ipv4_raw(
         &self,
@@ -419,7 +419,7 @@ impl TcpHeader {
     }
 
     /// The checksum over IPv6, as `calc_checksum_ipv6_raw` computes it from the addresses of this IP header. If the packet has a routing
-    /// header, pass the final destination (RFC 8200, section 8.1).
+    /// header, `ip_header` must contain the final destination (RFC 8200, section 8.1).
     ///
     /// # Errors
     ///
@@ -446,7 +446,7 @@ impl TcpHeader {
     ///
     /// # Errors
     ///
-    /// `ValueTooBigError` of `TcpPayloadLengthIpv6` if the payload is longer than 4,294,967,295 bytes minus the header.
+    /// `ValueTooBigError` of `TcpPayloadLengthIpv6` if header and payload together are longer than 4,294,967,295 bytes.
     #[inline(always)]
     pub fn calc_checksum_ipv6_raw(
         &self,
@@ -467,7 +467,7 @@ impl TcpHeader {
         Ok(self.checksum_post_ip(pseudo_header, payload))
     }
 
-    /// Computes the checksum from the sum of the pseudo header and the fields, without writing the bytes of the header.
+    /// Computes the checksum from the sum of the pseudo header, the fields and the payload, without writing the bytes of the header.
     #[inline]
     // perf: the sum is computed from the fields. Through `to_bytes`, a header without a payload took two to three times as long (23 Nov
     // 2026).
@@ -475,8 +475,8 @@ impl TcpHeader {
         ensures sum { result ≡ checksum_of (sum_value pseudo_header + (total (without_checksum (wire self.now)) + total payload.now)) }
         ensures whole_words { length (wire self.now) % 4 ≡ 0 }
     {
-        // The sum of the fields of 16 bits has less than 24 bits. A sum keeps its words with their bytes swapped, so the number is shifted
-        // by eight bits.
+        // The sum of the 16-bit fields has less than 24 bits. `Sum16BitWords` stores its words with their bytes swapped, so the number is
+        // shifted by eight bits.
         let offset_and_flags = u16::from_be_bytes([self.offset_byte(), self.flags_byte()]);
         let (window_size, urgent_pointer) = (self.window_size, self.urgent_pointer);
         let words = u32::from(self.source_port)

@@ -46,7 +46,7 @@ impl<'a> TcpHeaderSlice<'a> {
     ghost use Rattle.tcp_part.specs.TcpOptions.{max_options_len};
     ghost use Rattle.tcp_part.specs.TcpValidity.{IsValidTcpIpv4, IsValidTcpIpv6};
 
-    /// Reads the header at the front of the slice. Its data offset states its length (RFC 9293, section 3.1).
+    /// Reads the header at the front of the slice. The data offset states the length of the header (RFC 9293, section 3.1).
     ///
     /// # Errors
     ///
@@ -103,14 +103,14 @@ impl<'a> TcpHeaderSlice<'a> {
         u16::from_be_bytes([self.slice[2], self.slice[3]])
     }
 
-    /// The sequence number of the first byte of the payload. If `syn` is set, it is the initial sequence number (bytes 4 to 7).
+    /// The sequence number of the first byte of the payload (bytes 4 to 7). If `syn` is set, it is the initial sequence number instead.
     pub fn sequence_number(&self) -> u32
         ensures { result ≡ be_number self.now 4 4 }
     {
         u32::from_be_bytes([self.slice[4], self.slice[5], self.slice[6], self.slice[7]])
     }
 
-    /// If `ack` is set, the next sequence number that the sender expects. Otherwise the field has no meaning (bytes 8 to 11).
+    /// The next sequence number that the sender expects (bytes 8 to 11). If `ack` is not set, the field has no meaning.
     pub fn acknowledgment_number(&self) -> u32
         ensures { result ≡ be_number self.now 8 4 }
     {
@@ -201,8 +201,7 @@ impl<'a> TcpHeaderSlice<'a> {
         u16::from_be_bytes([self.slice[16], self.slice[17]])
     }
 
-    /// If `urg` is set, the end of the urgent data, in bytes from the sequence number. Otherwise the field has no meaning (bytes 18 and
-    /// 19).
+    /// The end of the urgent data, in bytes from the sequence number (bytes 18 and 19). If `urg` is not set, the field has no meaning.
     pub fn urgent_pointer(&self) -> u16
         ensures { result ≡ be_number self.now 18 2 }
     {
@@ -233,14 +232,14 @@ impl<'a> TcpHeaderSlice<'a> {
         TcpRawOptionsIterator::from_slice(self.options())
     }
 
-    /// The numbers, flags and options of the header. If they are written, the bytes have the same length, and the meaningless bits 0x0E of
-    /// byte 12 are zero.
+    /// The numbers, flags and options of the header. If the result is written, its bytes have the length of this header. The meaningless
+    /// bits 0x0E of byte 12 are zero in these bytes.
     #[inline(always)]
     pub fn to_header(&self) -> TcpHeader
         ensures value { result ≡ header_of self.now }
         ensures len { length (wire result) ≡ length self.now }
     {
-        // The options are read first, so that the fields, which are read after these branches, stay in registers.
+        // The options are read first, since reading them branches. The fields are read after these branches, so they stay in registers.
         let options = TcpOptions::from_words(self.options());
         TcpHeader {
             source_port: self.source_port(),
@@ -292,7 +291,7 @@ impl<'a> TcpHeaderSlice<'a> {
     ///
     /// # Errors
     ///
-    /// `ValueTooBigError` of `TcpPayloadLengthIpv4` if the payload is longer than 65,535 bytes minus the header.
+    /// `ValueTooBigError` of `TcpPayloadLengthIpv4` if header and payload together are longer than 65,535 bytes.
     #[inline(always)]
     pub fn calc_checksum_ipv4_raw(
         &self,
@@ -315,7 +314,7 @@ impl<'a> TcpHeaderSlice<'a> {
     }
 
     /// The checksum over IPv6, as `calc_checksum_ipv6_raw` computes it from the addresses of this IP header. If the packet has a routing
-    /// header, pass the final destination (RFC 8200, section 8.1).
+    /// header, the IP header may not contain the final destination. Then use `calc_checksum_ipv6_raw` instead (RFC 8200, section 8.1).
     ///
     /// # Errors
     ///
@@ -345,7 +344,7 @@ impl<'a> TcpHeaderSlice<'a> {
     ///
     /// # Errors
     ///
-    /// `ValueTooBigError` of `TcpPayloadLengthIpv6` if the payload is longer than 4,294,967,295 bytes minus the header.
+    /// `ValueTooBigError` of `TcpPayloadLengthIpv6` if header and payload together are longer than 4,294,967,295 bytes.
     #[inline(always)]
     pub fn calc_checksum_ipv6_raw(
         &self,
@@ -371,11 +370,12 @@ impl<'a> TcpHeaderSlice<'a> {
     /// 9293, section 3.1). The meaningless bits of byte 12 are summed too. The payload must be all bytes after the header up to the end of
     /// the IP packet, without padding of the frame.
     ///
-    /// The result is true exactly if the stored checksum is the value of `calc_checksum_ipv4_raw`, or FFFF if this value is 0. 0 and FFFF
-    /// are both zero in one's complement. If header and payload are longer than 65,535 bytes, the result is false.
+    /// If header and payload together are longer than 65,535 bytes, the result is false. Otherwise it is true exactly if the stored
+    /// checksum equals the result of `calc_checksum_ipv4_raw`, or is FFFF while that result is 0. Both 0 and FFFF are zero in one's
+    /// complement.
     ///
-    /// This check detects each change of one byte of a valid segment. It detects each change of one aligned two-byte word, except between
-    /// 0000 and FFFF. It does not detect that two aligned words were exchanged.
+    /// This check detects each change of one byte of a valid segment. It also detects each change of one aligned two-byte word, except from
+    /// 0000 to FFFF or from FFFF to 0000. An exchange of two aligned words is not detected.
     pub fn is_checksum_valid_ipv4(
         &self,
         source: [u8; 4],
@@ -394,11 +394,12 @@ impl<'a> TcpHeaderSlice<'a> {
     /// 9293, section 3.1; RFC 8200, section 8.1). The meaningless bits of byte 12 are summed too. The payload must be all bytes after the
     /// header up to the end of the IP packet, without padding of the frame. If the packet has a routing header, pass the final destination.
     ///
-    /// The result is true exactly if the stored checksum is the value of `calc_checksum_ipv6_raw`, or FFFF if this value is 0. 0 and FFFF
-    /// are both zero in one's complement. If header and payload are longer than 4,294,967,295 bytes, the result is false.
+    /// If header and payload together are longer than 4,294,967,295 bytes, the result is false. Otherwise it is true exactly if the stored
+    /// checksum equals the result of `calc_checksum_ipv6_raw`, or is FFFF while that result is 0. Both 0 and FFFF are zero in one's
+    /// complement.
     ///
-    /// This check detects each change of one byte of a valid segment. It detects each change of one aligned two-byte word, except between
-    /// 0000 and FFFF. It does not detect that two aligned words were exchanged.
+    /// This check detects each change of one byte of a valid segment. It also detects each change of one aligned two-byte word, except from
+    /// 0000 to FFFF or from FFFF to 0000. An exchange of two aligned words is not detected.
     pub fn is_checksum_valid_ipv6(
         &self,
         source: [u8; 16],

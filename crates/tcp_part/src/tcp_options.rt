@@ -13,7 +13,7 @@ use std::marker::Model;
 
 /// The options of a TCP header (RFC 9293, section 3.1): their bytes, at most 40 and a multiple of 4.
 ///
-/// The bytes may be any bytes, and `elements_iter` reads them as elements. Comparisons and hashes use the bytes. So options with the same
+/// The bytes may have any values. `elements_iter` reads them as elements. Comparisons and hashes use the bytes. So options with the same
 /// elements need not be equal.
 ///
 /// ```
@@ -53,7 +53,7 @@ impl TcpOptions {
     /// options (RFC 9293, section 3.1).
     pub const MAX_LEN: usize = 40;
 
-    /// Options without a byte.
+    /// Empty options.
     pub fn new() -> TcpOptions
         ensures { result ≡ [] }
     {
@@ -78,13 +78,13 @@ impl TcpOptions {
     }
 
     /// The options with these elements (RFC 9293, section 3.2; RFC 7323; RFC 2018), padded with zeros to a multiple of 4 bytes. Other
-    /// options may be read as these elements too. The result is the first of them in the order of bytes. The present blocks of a selective
-    /// acknowledgement are read back before the absent blocks.
+    /// options may be read as these elements too. The result is the first of all these options in the order of bytes. The present blocks of
+    /// a selective acknowledgement are read back before the absent blocks.
     ///
     /// # Errors
     ///
-    /// `NotEnoughSpace` if the elements are longer than 40 bytes. It contains their length, or `usize::MAX` if the length is greater. Then
-    /// no options are read as these elements.
+    /// `NotEnoughSpace` if the elements are longer than 40 bytes. It contains their length, or `usize::MAX` if their length is above
+    /// `usize::MAX`. If the call returns this error, no options that fit a header are read as these elements.
     pub fn try_from_elements(
         elements: &[TcpOptionElement],
     ) -> Result<TcpOptions, TcpOptionWriteError>
@@ -93,8 +93,8 @@ impl TcpOptions {
         ensures least { IfOk result (λ options. AreLeastFor options elements.now) }
         ensures none { IfErr result (λ _. (options : List ℕ) → StandFor options elements.now → ⊥) }
 
-        // If options are read as these elements without a fault, they are the bytes of the elements, and then nothing or the end of the
-        // list.
+        // Assume that options of at most 40 bytes are read as these elements without a fault. Then the options consist of the bytes of the
+        // elements, and then nothing or the end of the list. This call then returns the padded bytes of the elements.
         ensures converse { (options : List ℕ) → length options ≤ max_options_len → Reads options (as_items elements.now)
             → AreJoined options elements.now × (result ≡ Ok (pad (join elements.now))) }
     {
@@ -112,8 +112,8 @@ impl TcpOptions {
         Ok(TcpOptions { bytes })
     }
 
-    /// The options with at most 40 bytes, padded with zeros to a multiple of 4 bytes.
-    // perf: whole words have constant lengths in each arm. A copy of another length is a call (27 Nov 2026).
+    /// The options with these bytes, of which there are at most 40, padded with zeros to a multiple of 4 bytes.
+    // perf: `from_words` copies a constant length in each arm. A copy of another length is a call (27 Nov 2026).
     fn padded(slice: &[u8]) -> TcpOptions
         requires { length slice.now ≤ max_options_len }
         ensures { result ≡ pad slice.now }
@@ -127,7 +127,7 @@ impl TcpOptions {
         TcpOptions { bytes }
     }
 
-    /// The options with at most 40 bytes, whose number is a multiple of 4.
+    /// The options with these bytes. Their number is at most 40, and a multiple of 4.
     #[inline(always)]
     pub(crate) fn from_words(slice: &[u8]) -> TcpOptions
         requires room { length slice.now ≤ max_options_len }
@@ -185,7 +185,7 @@ impl TcpOptions {
     ///
     /// # Errors
     ///
-    /// `LenError` of the layer `TcpHeader` if the slice is shorter than the options. Nothing is written then.
+    /// `LenError` of the layer `TcpHeader` if the slice is shorter than the options. After this error the slice is unchanged.
     pub fn write_to_slice(&self, slice: &mut [u8]) -> Result<usize, LenError>
         ensures refused { RefusesExactly result (no_room Layer.TcpHeader self.now (length slice.old)) }
         ensures len { IfOk result (λ len. len ≡ length self.now) }
@@ -200,7 +200,7 @@ impl TcpOptions {
         Ok(bytes.len())
     }
 
-    /// The bytes of the options, lent for writing. What is written becomes part of the options. Their length stays the same.
+    /// The bytes of the options, for writing. What is written becomes part of the options. Their length cannot change.
     pub fn as_mut_slice(&mut self) -> &mut [u8]
         ensures* writes_back { sem 𝓛 (LendsBytes self.entry result) }
         ensures value { result.now ≡ self.old }
@@ -212,7 +212,7 @@ impl TcpOptions {
     pub fn elements_iter(&self) -> TcpOptionsIterator<'_>
         ensures begins { result ≡ self.now }
 
-        // If the options are read without a fault, they are the bytes of the elements, and then nothing or the end of the list.
+        // If the options are read without a fault, they consist of the bytes of the elements, and then nothing or the end of the list.
         ensures joined { (elements : List TcpOptionElement) → Reads self.now (as_items elements)
             → AreJoined self.now elements × (length (join elements) ≤ max_options_len) }
     {

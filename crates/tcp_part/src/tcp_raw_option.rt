@@ -37,16 +37,17 @@ impl<'a> Model for TcpRawOption<'a> {
 impl<'a> TcpRawOption<'a> {
     ghost use Rattle.tcp_part.specs.TcpRawOptions.{element_refusal, length_byte, raw_spelling};
 
-    /// The element that `TcpOptionsIterator` returns in the place of this option (RFC 9293, section 3.2; RFC 7323; RFC 2018). Kind 1 is no
-    /// operation, whatever its value is.
+    /// The element that `TcpOptionsIterator` returns in the place of this option (RFC 9293, section 3.2; RFC 7323; RFC 2018). An option of
+    /// kind 1 is `Noop`, even if its value is not empty.
     ///
     /// # Errors
     ///
-    /// - `UnknownId` if the kind is unknown, or is 0, the end of the list.
-    /// - `UnexpectedSize` if the length is wrong for the kind.
+    /// - `UnknownId` if the kind is unknown, or is 0, which ends the list.
+    /// - `UnexpectedSize` if the length is wrong for the kind. It contains the length byte, or 255 if the value is too long for a length
+    ///   byte.
     ///
-    /// `TcpOptionsIterator` returns the same errors, with one exception. If fewer bytes are left than the length of the kind, it returns
-    /// `UnexpectedEndOfSlice`. The option does not contain the number of bytes left.
+    /// `TcpOptionsIterator` returns the same errors, with one exception. If fewer bytes are left than the kind requires, the iterator
+    /// returns `UnexpectedEndOfSlice`. A `TcpRawOption` does not contain the number of bytes left.
     #[inline(always)]
     pub fn element(&self) -> Result<TcpOptionElement, TcpOptionReadError>
         ensures refused { RefusesExactly result (element_refusal self.now) }
@@ -94,8 +95,8 @@ impl<'a> TcpRawOption<'a> {
     }
 
     /// The error if the length is wrong for the kind.
-    // perf: only the number is a call. If the error is returned by a call, it goes through memory, which is filled with
-    // zeros at every option (27 Nov 2026).
+    // perf: only the length byte comes from a call. An error that a call returns goes through memory, which is filled with zeros at every
+    // option (27 Nov 2026).
     #[inline(always)]
     fn unexpected_size(&self) -> TcpOptionReadError
         ensures { result ≡ UnexpectedSize self.now.kind (length_byte self.now) }

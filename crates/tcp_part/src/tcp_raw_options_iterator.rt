@@ -7,9 +7,9 @@ use std::marker::Model;
 /// Reads option bytes as kinds and values, one option after the other, up to the end of the list or the first fault
 /// (RFC 9293, section 3.1).
 ///
-/// The length byte states where an option of any kind ends (RFC 1122, section 4.2.2.5). No kind is refused, and the
-/// length that a kind requires is not checked. `element` of the option checks both. After `None` or an error no bytes
-/// are left, and `next` returns `None`. There are at most as many items as bytes.
+/// The length byte states where an option of any kind ends (RFC 1122, section 4.2.2.5). No kind is refused, and the length that a kind
+/// requires is not checked. To check both, call `element` of the option. After `None` or an error no bytes are left, and `next` returns
+/// `None`. There are at most as many items as bytes.
 ///
 /// ```
 /// use etherparse_transport::TcpRawOptionsIterator;
@@ -40,8 +40,8 @@ impl<'a> TcpRawOptionsIterator<'a> {
     ghost use Rattle.std.specs.Iterator.Runs.{EachRunFrom};
     ghost use Rattle.tcp_part.specs.TcpRawOptions.{HasOneRawReading, IsWrittenBack, ReadsRaw, ReadsRawNext};
 
-    /// An iterator that begins at the first of these bytes. The bytes have exactly one reading: the items up to the first `None`. The bytes
-    /// of the options, one after the other, are these bytes up to the end of the list or the fault.
+    /// An iterator that begins at the first of these bytes. The bytes have exactly one reading: the items that `next` returns before its
+    /// first `None`. The bytes of these options, one after the other, are the bytes up to the end of the list or the fault.
     pub fn from_slice(options: &'a [u8]) -> TcpRawOptionsIterator<'a>
         ensures begins { result ≡ options.now }
         ensures reads { EachRunFrom ReadsRawNext result (λ run. run.whole ≡ true → ReadsRaw options.now run.items) }
@@ -51,7 +51,7 @@ impl<'a> TcpRawOptionsIterator<'a> {
         TcpRawOptionsIterator { options }
     }
 
-    /// The bytes that are not read yet. After the end of the list or a fault there are none.
+    /// The bytes that are not read yet. After the end of the list or a fault, no bytes are left.
     pub fn rest(&self) -> &'a [u8]
         ensures { result.now ≡ self.now }
     {
@@ -102,7 +102,7 @@ impl<'a> Iterator for TcpRawOptionsIterator<'a> {
         Some(Ok(TcpRawOption { kind, value }))
     }
 
-    /// The least and the greatest possible number of items. The exact number is not known before they are read.
+    /// Returns `(0, None)`, since the number of items is not known before they are read.
     fn size_hint(&self) -> (usize, Option<usize>)
         ensures lower { IsWithinCount result.0 (at_most (length self.now)) }
         ensures upper { IfSome result.1 (UpTo (at_most (length self.now))) }

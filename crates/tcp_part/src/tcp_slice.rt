@@ -109,7 +109,7 @@ impl<'a> TcpSlice<'a> {
         self.header.destination_port()
     }
 
-    /// The sequence number of the first byte of the payload. If `syn` is set, it is the initial sequence number (bytes 4 to 7).
+    /// The sequence number of the first byte of the payload (bytes 4 to 7). If `syn` is set, it is the initial sequence number instead.
     #[tactic(auto, using(crate::proofs::TcpSliceLemmas::header_reads))]
     pub fn sequence_number(&self) -> u32
         ensures { result ≡ be_number self.now 4 4 }
@@ -117,7 +117,7 @@ impl<'a> TcpSlice<'a> {
         self.header.sequence_number()
     }
 
-    /// If `ack` is set, the next sequence number that the sender expects. Otherwise the field has no meaning (bytes 8 to 11).
+    /// The next sequence number that the sender expects (bytes 8 to 11). If `ack` is not set, the field has no meaning.
     #[tactic(auto, using(crate::proofs::TcpSliceLemmas::header_reads))]
     pub fn acknowledgment_number(&self) -> u32
         ensures { result ≡ be_number self.now 8 4 }
@@ -221,8 +221,7 @@ impl<'a> TcpSlice<'a> {
         self.header.checksum()
     }
 
-    /// If `urg` is set, the end of the urgent data, in bytes from the sequence number. Otherwise the field has no meaning (bytes 18 and
-    /// 19).
+    /// The end of the urgent data, in bytes from the sequence number (bytes 18 and 19). If `urg` is not set, the field has no meaning.
     #[tactic(auto, using(crate::proofs::TcpSliceLemmas::header_reads))]
     pub fn urgent_pointer(&self) -> u16
         ensures { result ≡ be_number self.now 18 2 }
@@ -257,8 +256,8 @@ impl<'a> TcpSlice<'a> {
         self.header.raw_options_iterator()
     }
 
-    /// The numbers, flags and options of the header. If they are written, the bytes have the same length, and the meaningless bits 0x0E of
-    /// byte 12 are zero.
+    /// The numbers, flags and options of the header. If the result is written, its bytes have the length of this header. The meaningless
+    /// bits 0x0E of byte 12 are zero in these bytes.
     #[tactic(auto, using(crate::proofs::TcpSliceLemmas::header_reads, crate::proofs::TcpSliceLemmas::length_header))]
     pub fn to_header(&self) -> TcpHeader
         ensures value { result ≡ header_of self.now }
@@ -272,7 +271,7 @@ impl<'a> TcpSlice<'a> {
     ///
     /// # Errors
     ///
-    /// `ValueTooBigError` of `TcpPayloadLengthIpv4` if the payload is longer than 65,535 bytes minus the header.
+    /// `ValueTooBigError` of `TcpPayloadLengthIpv4` if header and payload together are longer than 65,535 bytes.
     pub fn calc_checksum_ipv4(
         &self,
         source: [u8; 4],
@@ -298,7 +297,7 @@ impl<'a> TcpSlice<'a> {
     ///
     /// # Errors
     ///
-    /// `ValueTooBigError` of `TcpPayloadLengthIpv6` if the payload is longer than 4,294,967,295 bytes minus the header.
+    /// `ValueTooBigError` of `TcpPayloadLengthIpv6` if header and payload together are longer than 4,294,967,295 bytes.
     pub fn calc_checksum_ipv6(
         &self,
         source: [u8; 16],
@@ -321,11 +320,11 @@ impl<'a> TcpSlice<'a> {
     /// Whether the checksum over IPv4 is right: the one's complement sum of pseudo header and segment is all ones (RFC 9293, section 3.1).
     /// The slice must end at the end of the IP packet, without padding of the frame.
     ///
-    /// The result is true exactly if the stored checksum is the value of `calc_checksum_ipv4`, or FFFF if this value is 0. 0 and FFFF are
-    /// both zero in one's complement. If the segment is longer than 65,535 bytes, the result is false.
+    /// If the segment is longer than 65,535 bytes, the result is false. Otherwise it is true exactly if the stored checksum equals the
+    /// result of `calc_checksum_ipv4`, or is FFFF while that result is 0. Both 0 and FFFF are zero in one's complement.
     ///
-    /// This check detects each change of one byte of a valid segment. It detects each change of one aligned two-byte word, except between
-    /// 0000 and FFFF. It does not detect that two aligned words were exchanged.
+    /// This check detects each change of one byte of a valid segment. It also detects each change of one aligned two-byte word, except from
+    /// 0000 to FFFF or from FFFF to 0000. An exchange of two aligned words is not detected.
     pub fn is_checksum_valid_ipv4(&self, source: [u8; 4], destination: [u8; 4]) -> bool
         ensures valid { IsTrue result ↔ IsValidTcpIpv4 source destination self.now }
         ensures agrees { length (payload_bytes self.now) ≤ max_payload_len_ipv4 (header_bytes self.now) → (IsTrue result
@@ -339,11 +338,11 @@ impl<'a> TcpSlice<'a> {
     /// RFC 8200, section 8.1). The slice must end at the end of the IP packet, without padding of the frame. If the packet has a routing
     /// header, pass the final destination.
     ///
-    /// The result is true exactly if the stored checksum is the value of `calc_checksum_ipv6`, or FFFF if this value is 0. 0 and FFFF are
-    /// both zero in one's complement. If the segment is longer than 4,294,967,295 bytes, the result is false.
+    /// If the segment is longer than 4,294,967,295 bytes, the result is false. Otherwise it is true exactly if the stored checksum equals
+    /// the result of `calc_checksum_ipv6`, or is FFFF while that result is 0. Both 0 and FFFF are zero in one's complement.
     ///
-    /// This check detects each change of one byte of a valid segment. It detects each change of one aligned two-byte word, except between
-    /// 0000 and FFFF. It does not detect that two aligned words were exchanged.
+    /// This check detects each change of one byte of a valid segment. It also detects each change of one aligned two-byte word, except from
+    /// 0000 to FFFF or from FFFF to 0000. An exchange of two aligned words is not detected.
     pub fn is_checksum_valid_ipv6(&self, source: [u8; 16], destination: [u8; 16]) -> bool
         ensures valid { IsTrue result ↔ IsValidTcpIpv6 source destination self.now }
         ensures agrees { length (payload_bytes self.now) ≤ max_payload_len_ipv6 (header_bytes self.now) → (IsTrue result

@@ -11,11 +11,11 @@ impl TcpHeader {
     ghost use Rattle.tcp_part.specs.TcpFormat.{checksummed_ipv4, checksummed_ipv6, wire};
     ghost use Rattle.tcp_part.specs.TcpTranslation.{checksummed_by};
 
-    /// Replaces the source of a packet over IPv4. The call stores this port. It updates the checksum, since the port changes and the
-    /// address `old` becomes `new`. The IP header, which contains the address and its own checksum, is not changed.
+    /// Replaces the source port of a packet over IPv4 whose source address changes from `old` to `new`. The checksum is updated for the new
+    /// port and for the new address. The call does not change the IP header, which contains the address and a checksum of its own.
     ///
-    /// The checksum of a packet covers the unused bits of its header. If they may be set, change the bytes of the packet, and its checksum
-    /// by `ChecksumChange`, since a header that was read does not keep them.
+    /// The checksum of a packet covers the unused bits of its header, but a `TcpHeader` does not contain these bits. If they may be set,
+    /// change the bytes of the packet instead of the header. Update the checksum in these bytes with `ChecksumChange`.
     ///
     /// In a fragmented packet only the first fragment contains the header, and its checksum covers all fragments (RFC 791).
     pub fn translate_source_ipv4(&mut self, old: [u8; 4], new: [u8; 4], port: u16)
@@ -32,7 +32,8 @@ impl TcpHeader {
         self.replace_source_port(ChecksumChange::new().replace_4bytes(old, new), port);
     }
 
-    /// Replaces the destination of a packet over IPv4, as `translate_source_ipv4` replaces the source.
+    /// Replaces the destination port of a packet over IPv4 whose destination address changes from `old` to `new`. Otherwise the call is
+    /// like `translate_source_ipv4`.
     ///
     /// In a fragmented packet only the first fragment contains the header, and its checksum covers all fragments (RFC 791).
     pub fn translate_destination_ipv4(&mut self, old: [u8; 4], new: [u8; 4], port: u16)
@@ -49,7 +50,8 @@ impl TcpHeader {
         self.replace_destination_port(ChecksumChange::new().replace_4bytes(old, new), port);
     }
 
-    /// Replaces the source of a packet over IPv6, as `translate_source_ipv4` replaces the source over IPv4.
+    /// Replaces the source port of a packet over IPv6 whose source address changes from `old` to `new`. Otherwise the call is like
+    /// `translate_source_ipv4`.
     ///
     /// In a fragmented packet only the first fragment contains the header, and its checksum covers all fragments (RFC 8200, section 4.5).
     pub fn translate_source_ipv6(&mut self, old: [u8; 16], new: [u8; 16], port: u16)
@@ -66,8 +68,9 @@ impl TcpHeader {
         self.replace_source_port(ChecksumChange::new().replace_16bytes(old, new), port);
     }
 
-    /// Replaces the destination of a packet over IPv6, as `translate_source_ipv4` replaces the source over IPv4. If the packet has a
-    /// routing header, the checksum covers the final destination (RFC 8200, section 8.1).
+    /// Replaces the destination port of a packet over IPv6 whose destination address changes from `old` to `new`. Otherwise the call is
+    /// like `translate_source_ipv4`. If the packet has a routing header, pass final destinations, since the checksum covers the final
+    /// destination (RFC 8200, section 8.1).
     ///
     /// In a fragmented packet only the first fragment contains the header, and its checksum covers all fragments (RFC 8200, section 4.5).
     pub fn translate_destination_ipv6(&mut self, old: [u8; 16], new: [u8; 16], port: u16)
@@ -84,10 +87,11 @@ impl TcpHeader {
         self.replace_destination_port(ChecksumChange::new().replace_16bytes(old, new), port);
     }
 
-    /// Replaces the source port. Updates the checksum by the port and by this change of the pseudo header.
+    /// Replaces the source port. Updates the checksum for the new port and for this change of the pseudo header.
     fn replace_source_port(&mut self, pseudo_header: ChecksumChange, port: u16)
         ensures unchanged { self.new ≡ record self.old { source_port = port; checksum = self.new.checksum } }
-        // The pseudo header may depend on the length of the header, and must not be all zeros.
+        // A right checksum becomes the right checksum of the new header if the new sum is not 0. `old` and `new` are functions that return
+        // the pseudo header for the length of the TCP header.
         ensures updated { (old new : ℕ → List ℕ) (payload : List ℕ) →
             TurnsInto pseudo_header (checksummed_by old self.old payload) (checksummed_by new self.old payload) →
             checksummed_by new self.new payload ≢ 0 →
@@ -107,10 +111,11 @@ impl TcpHeader {
         self.checksum = change.apply(self.checksum);
     }
 
-    /// Replaces the destination port. Updates the checksum by the port and by this change of the pseudo header.
+    /// Replaces the destination port. Updates the checksum for the new port and for this change of the pseudo header.
     fn replace_destination_port(&mut self, pseudo_header: ChecksumChange, port: u16)
         ensures unchanged { self.new ≡ record self.old { destination_port = port; checksum = self.new.checksum } }
-        // The pseudo header may depend on the length of the header, and must not be all zeros.
+        // A right checksum becomes the right checksum of the new header if the new sum is not 0. `old` and `new` are functions that return
+        // the pseudo header for the length of the TCP header.
         ensures updated { (old new : ℕ → List ℕ) (payload : List ℕ) →
             TurnsInto pseudo_header (checksummed_by old self.old payload) (checksummed_by new self.old payload) →
             checksummed_by new self.new payload ≢ 0 →

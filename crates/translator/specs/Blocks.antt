@@ -1,5 +1,5 @@
 -- The blocks of a pcapng file as parts (draft-ietf-opsawg-pcapng, section 3.1). The buffer has room for `max_packet_len` bytes. If a block
--- is longer, its other bytes are copied.
+-- is longer, its bytes that do not fit in the buffer are copied.
 use Rattle.std.specs.Prelude.{◌≡◌, ◌≢◌, ◌+◌, ◌-◌, ◌<◌, ◌≤◌, ◌++◌, ◌⊎◌, ◌==◌, ℕ, Bool, if◌then◌else◌, List, [], drop, length, min, slice_range, take, Option, Some, None, Result, Ok, Err}
 use Rattle.std.specs.Io.KnownBytes.{Appends, Consumes}
 use Rattle.capture_file.specs.Packets.{IsWithin}
@@ -32,8 +32,8 @@ use Rattle.translator.specs.declared.table.Table.{Table}
 
 -- ---- the packet in a block
 
--- The captured bytes of this packet were translated, with the link type of its interface. All other bytes of the part were written as they
--- were read.
+-- This packet was translated, with the link type of its interface, or stays as it is. All other bytes of the part were written as they were
+-- read.
 pub record TranslatesWhere (table : Table) (packet : CapturedPacket) (part : Part) : Type 0 where
   pub within : IsWithin (length part.read) packet
   pub after : List ℕ
@@ -43,28 +43,28 @@ pub record TranslatesWhere (table : Table) (packet : CapturedPacket) (part : Par
   pub is_written : part.written ≡ take packet.start part.read ++ (after ++ drop (packet.start + packet.captured_len) part.read)
   pub outcome : part.outcome ≡ Some result
 
--- the packet in a block of this length does not fit in the buffer
+-- this error means that the packet in a block of this length does not fit in the buffer
 abbrev pub IsBeyond : ℕ → PacketError → Type 0
 IsBeyond total_len (errors.Body (body_errors.CutOff required len)) = max_packet_len < total_len
 IsBeyond total_len error = ⊥
 
--- The outcome of a block of this length, by what the section read from it. A block without a packet is copied. So is a packet that does not
--- fit in the buffer.
+-- The outcome of a block of this length, for what the section found in it. The block is copied if it contains no packet, or if its packet
+-- does not fit in the buffer. Otherwise its packet is translated.
 abbrev pub HasTaken : Table → ℕ → Result (Option CapturedPacket) PacketError → Part → Type 0
 HasTaken table total_len (Ok None) part = IsUnchanged part None
 HasTaken table total_len (Ok (Some packet)) part = TranslatesWhere table packet part
 HasTaken table total_len (Err error) part = IsBeyond total_len error × IsUnchanged part (Some (Err TooLong))
 
--- the body of a block, or its bytes that fit in the buffer
+-- the body of a block, or the bytes of the body that fit in the buffer
 abbrev pub kept_body : BlockHeader → List ℕ → List ℕ
 kept_body header bytes = slice_range bytes body_at (min max_packet_len (header.total_len - trailer_len))
 
--- what the section reads from the block that begins with these bytes
+-- `taken` is what the section `before` reads from the block that begins with these bytes; `after` is the section after the block
 abbrev pub TakesKept : Section → List ℕ → Section → Result (Option CapturedPacket) PacketError → Type 0
 TakesKept before bytes after taken =
     let header = block_header before.byte_order bytes in TakesBlock before header (kept_body header bytes) after taken
 
--- if the block that begins with these bytes contains a packet, the packet was translated
+-- The part is a block or its beginning. It was copied, and its packet was translated if the packet fits in the buffer.
 pub record TranslatesBlock (table : Table) (before : Section) (part : Part) (after : Section) : Type 0 where
   pub taken : Result (Option CapturedPacket) PacketError
   pub takes : TakesKept before part.read after taken
@@ -83,11 +83,12 @@ pub record IsBlockPart (table : Table) (before : Section) (part : Part) (after :
 abbrev pub BeginsLongBlock : ByteOrder → List ℕ → Type 0
 BeginsLongBlock section bytes = (block_header_refusal section bytes ≡ None) × (max_packet_len < block_len section bytes)
 
--- these bytes are the beginning of a long block, and fill the buffer
+-- these bytes are a long block or its beginning, and fill the buffer
 abbrev pub IsFilled : ByteOrder → List ℕ → Type 0
 IsFilled section bytes = BeginsLongBlock section bytes × (max_packet_len ≤ length bytes)
 
--- The part is a long block or its beginning. Its packet was translated before its other bytes were copied.
+-- The part is a long block or its beginning, and fills the buffer. It was copied, and its packet was translated if the packet fits in the
+-- buffer.
 abbrev pub IsLongFront : Table → Section → Part → Type 0
 IsLongFront table before part =
     IsFilled before.byte_order part.read × (length part.read ≤ block_len before.byte_order part.read)
@@ -97,11 +98,12 @@ IsLongFront table before part =
 abbrev pub written_at : ℕ → List ℕ → List ℕ
 written_at offset bytes = if offset == 0 then [] else bytes
 
--- a refused block at this offset was copied, unless it is the first block, and no packet was counted
+-- A refused block at this offset was copied, or nothing was written if it is the first block of the file. No packet was counted.
 abbrev pub IsCopiedAt : ℕ → Part → Type 0
 IsCopiedAt offset part = (part.written ≡ written_at offset part.read) × (part.outcome ≡ None)
 
--- The bytes are no block, for the reason in this error. They were copied, except that the packet of a long block may have been translated.
+-- The block is malformed or cut off, and `error` contains the reason. A long block that fills the buffer was copied, and its packet was
+-- translated if the packet fits in the buffer. Any other block was copied, or nothing was written if it is the first block of the file.
 pub record IsNoBlock (table : Table) (blocks : Blocks) (part : Part) (error : PacketError) : Type 0 where
   pub reason : BlockError
   pub is_error : error ≡ errors.Block reason
@@ -109,12 +111,13 @@ pub record IsNoBlock (table : Table) (blocks : Blocks) (part : Part) (error : Pa
   pub refused : block_refusal blocks.section.byte_order part.read ≡ Some reason
   pub front : ((IsFilled blocks.section.byte_order part.read → ⊥) × IsCopiedAt blocks.offset part) ⊎ IsLongFront table blocks.section part
 
--- a whole block that fits in the buffer, or the beginning of a long block, which fills the buffer
+-- a whole block that fits in the buffer, or the first bytes of a long block, which fill the buffer exactly
 abbrev pub IsKept : ByteOrder → List ℕ → Type 0
 IsKept section bytes =
     (IsBlock section bytes × (length bytes ≤ max_packet_len)) ⊎ (BeginsLongBlock section bytes × (length bytes ≡ max_packet_len))
 
--- the section refuses the block that begins with these bytes, and they were copied
+-- The section refuses the block that begins with these bytes. The bytes were copied, or nothing was written if it is the first block of the
+-- file.
 pub record IsRejected (blocks : Blocks) (part : Part) (error : PacketError) : Type 0 where
   pub is_kept : IsKept blocks.section.byte_order part.read
   pub after : Section
@@ -126,11 +129,11 @@ pub record IsRejected (blocks : Blocks) (part : Part) (error : PacketError) : Ty
 abbrev pub IsRefusedBlock : Table → Blocks → Part → PacketError → Type 0
 IsRefusedBlock table blocks part error = IsNoBlock table blocks part error ⊎ IsRejected blocks part error
 
--- no byte of the block was read, or the beginning of a long block was
+-- the part contains no byte, or it is a long block or its beginning
 abbrev pub IsBlockFront : Table → Section → Part → Type 0
 IsBlockFront table before part = ((part.read ≡ []) × IsUnchanged part None) ⊎ IsLongFront table before part
 
--- this error ends the file within a block
+-- this error ended the translation in the block that begins with the bytes of the part
 abbrev pub IsBlockEnd : Table → Blocks → Part → CaptureError → Type 0
 IsBlockEnd table blocks part (capture_errors.Block placed) =
     (placed.offset ≡ blocks.offset) × IsRefusedBlock table blocks part placed.error
@@ -158,7 +161,8 @@ pub record IsFileStart (blocks : Blocks) : Type 0 where
 
 -- ---- results
 
--- The block at the front of the buffer, or the beginning of a long block, was translated, or the section refuses it.
+-- The buffer contained a whole block, or the first bytes of a long block. The result is the outcome of the block. If the section refuses
+-- the block, the result is the error, and the buffer is unchanged.
 abbrev pub TranslatesKept : Table → Section → BlockHeader → List ℕ → List ℕ → Section → Result (Option (Result Bool Reason)) PacketError → Type 0
 TranslatesKept table before header read written after (Ok outcome) =
     (taken : Result (Option CapturedPacket) PacketError) × TakesBlock before header (kept_body header read) after taken
@@ -180,7 +184,7 @@ IsRestEnd total_len place len (capture_errors.RecordCutOff offset required other
 IsRestEnd total_len place len capture_errors.TooManyParts = ⊥
 IsRestEnd total_len place len (capture_errors.Write error) = ⊥
 
--- bytes of the rest were copied until this error occurred
+-- the first `len` bytes of the rest of a long block were copied, and then this error occurred
 pub record StopsRest (total_len place : ℕ) (error : CaptureError) (left still_left held now_held : Option (List ℕ)) : Type 0 where
   pub len : ℕ
   pub within : len < total_len - max_packet_len
@@ -199,15 +203,16 @@ pub record CopiesToEnd (header : BlockHeader) (last_len : ℕ) (left still_left 
   pub consumed : Consumes left still_left (middle ++ last)
   pub appended : Appends held now_held (middle ++ last)
 
--- the rest of a block was copied to its end, and the block is refused since the total length at its end differs
+-- The rest of a block was copied to its end. The block is refused, since the total length at its end differs from the total length in its
+-- header.
 pub record DiffersAtEnd (header : BlockHeader) (place : ℕ) (error : CaptureError) (left still_left held now_held : Option (List ℕ)) : Type 0 where
   pub last_len : ℕ
   pub copies : CopiesToEnd header last_len left still_left held now_held
   pub differs : last_len ≢ header.total_len
   pub is_error : error ≡ capture_errors.Block (record { offset = place; error = errors.Block (block_errors.LastLength header.total_len last_len) })
 
--- The rest of a block was copied, or an error occurred before its end. The total length at the end of the block is the total length in its
--- header. If the block fits in the buffer, there is no rest.
+-- If there is no error, the rest of a block was copied, and the total length at its end is the total length in its header. A block that
+-- fits in the buffer has no rest. After an error, the rest was copied up to the error. If writing failed, nothing is stated.
 abbrev pub CopiesRest : BlockHeader → ℕ → Result (Unit {0}) CaptureError → Option (List ℕ) → Option (List ℕ) → Option (List ℕ) → Option (List ℕ) → Type 0
 CopiesRest header place (Ok done) left still_left held now_held =
     ((header.total_len ≤ max_packet_len) × (still_left ≡ left) × (now_held ≡ held))

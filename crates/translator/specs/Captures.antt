@@ -12,13 +12,13 @@ use Rattle.translator.specs.declared.capture_error.CaptureError.TheVariants.{Blo
 use Rattle.translator.specs.declared.counts.Counts.{Counts}
 use Rattle.translator.specs.declared.table.Table.{Table}
 
--- the translation of a classic capture: its header was written as it was read, and then its records were passed
+-- a classic capture was translated up to this result: its header was copied, and then its records were translated one by one
 abbrev pub TranslatesRecords : Table → Result (Unit {0}) CaptureError → Option (List ℕ) → Option (List ℕ) → Option (List ℕ) → Option (List ℕ)
     → Counts → Counts → Type 0
 TranslatesRecords table result left still_left held now_held counts now_counts =
     PassesCapture (Unit {0}) (records_of table) begins_records result left still_left held now_held counts now_counts
 
--- a pcapng file was translated, block by block
+-- a pcapng file was translated up to this result, block by block
 pub record TranslatesBlocks (table : Table) (result : Result (Unit {0}) CaptureError) (left still_left held now_held : Option (List ℕ))
     (counts now_counts : Counts) : Type 0 where
   pub is_pcapng : IsPcapng left
@@ -27,7 +27,7 @@ pub record TranslatesBlocks (table : Table) (result : Result (Unit {0}) CaptureE
   pub after : Blocks
   pub passes : PassesTo (blocks_of table) result start after left still_left held now_held counts now_counts
 
--- a capture of one of the two formats was translated
+-- a capture of one of the two formats was translated up to this result
 abbrev pub TranslatesEither : Table → Result (Unit {0}) CaptureError → Option (List ℕ) → Option (List ℕ) → Option (List ℕ) → Option (List ℕ) → Counts
     → Counts → Type 0
 TranslatesEither table result left still_left held now_held counts now_counts =
@@ -38,8 +38,8 @@ TranslatesEither table result left still_left held now_held counts now_counts =
 abbrev pub TranslatesNothing : Option (List ℕ) → Option (List ℕ) → Counts → Counts → Type 0
 TranslatesNothing held now_held counts now_counts = (now_held ≡ held) × (now_counts ≡ counts)
 
--- A capture was translated. If the header of a classic capture is refused or can't be read, nothing was written. After a failed write,
--- nothing is stated.
+-- A capture was translated up to this result. Nothing was written if the header of a classic capture is refused, or if the first bytes of
+-- the capture can't be read. If a write failed, nothing is stated.
 abbrev pub TranslatesCapture : Table → Result (Unit {0}) CaptureError → Option (List ℕ) → Option (List ℕ) → Option (List ℕ) → Option (List ℕ) → Counts
     → Counts → Type 0
 TranslatesCapture table (Ok given) left still_left held now_held counts now_counts =

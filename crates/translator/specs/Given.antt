@@ -27,20 +27,20 @@ use Rattle.translator.specs.declared.table.Table.{Table}
 abbrev pub headers_in : List ℕ → Result Headers IpError
 headers_in packet = headers_of (lacks_len packet) packet
 
--- the protocol after these headers
+-- the transport protocol after these headers, or `None` if the program does not read the protocol
 abbrev pub proto_after : Headers → Option Proto
 proto_after headers = proto_over headers.addresses headers.protocol.0
 
--- the counted bytes of a packet after these headers
+-- the bytes of a packet after its headers, up to the end that the length field of its IP header states
 abbrev pub message_after : Headers → List ℕ → List ℕ
 message_after headers packet = drop headers.len (counted (lacks_len packet) packet)
 
--- the ports after the headers of a packet, unless they are refused
+-- the ports of a packet with these headers; a packet whose headers are refused has no ports
 abbrev pub ports_after : List ℕ → Result Headers IpError → Option (ℕ × ℕ)
 ports_after packet (Ok headers) = ports_at headers.is_later_fragment (proto_after headers) (message_after headers packet)
 ports_after packet (Err error) = None
 
--- the ports of a packet
+-- the source port and the destination port of a packet, if it contains ports
 abbrev pub ports_of : List ℕ → Option (ℕ × ℕ)
 ports_of packet = ports_after packet (headers_in packet)
 
@@ -54,7 +54,7 @@ quoted_over (Some protos.Tcp) message = None
 quoted_over (Some protos.Icmpv4) message = if is_some (icmpv4.refusal message) then None else quoted_by_icmpv4 message
 quoted_over (Some protos.Icmpv6) message = if is_some (icmpv6.refusal message) then None else quoted_by_icmpv6 message
 
--- the packet that a fragment with this message quotes; a later fragment contains no whole message
+-- the packet that this message quotes; a later fragment quotes no packet, since it does not begin with an ICMP header
 abbrev pub quoted_at : Bool → Option Proto → List ℕ → Option (List ℕ)
 quoted_at is_later_fragment proto message = if is_later_fragment then None else quoted_over proto message
 
@@ -67,7 +67,7 @@ abbrev pub quoted_after : List ℕ → Result Headers IpError → Option (List �
 quoted_after packet (Ok headers) = quoted_at headers.is_later_fragment (proto_after headers) (message_after headers packet)
 quoted_after packet (Err error) = None
 
--- the packet that an IP packet with these bytes quotes
+-- the packet that an IP packet quotes, if it is an ICMP error whose headers are accepted
 abbrev pub quoted_of : List ℕ → Option (List ℕ)
 quoted_of packet = quoted_after packet (headers_in packet)
 
@@ -81,16 +81,19 @@ ipv4_opposite header = record { source = header.destination; destination = heade
 abbrev pub ipv4_by : Table → List ℕ → Ipv4Translation
 ipv4_by table packet = ipv4_translation table (ipv4_header_of packet) (ports_of packet)
 
--- what the table gives for an ICMP error that quotes this packet, which went in the other direction
+-- what the table gives for an ICMP error that quotes this packet; addresses and ports are exchanged, since the quoted packet went in the
+-- other direction
 abbrev pub ipv4_by_quoted : Table → List ℕ → Ipv4Translation
 ipv4_by_quoted table quoted = ipv4_translation table (ipv4_opposite (ipv4_header_of quoted)) (exchanged (ports_of quoted))
 
--- what the table gives for a packet: if it quotes a packet, the quoted packet decides, and otherwise its own addresses and ports
+-- What the table gives for a packet. If it quotes a packet, the addresses and ports of the quoted packet decide. Otherwise its own
+-- addresses and ports decide.
 abbrev pub ipv4_with : Table → List ℕ → Option (List ℕ) → Ipv4Translation
 ipv4_with table packet None = ipv4_by table packet
 ipv4_with table packet (Some quoted) = ipv4_by_quoted table quoted
 
--- What is replaced in an IPv4 packet. If it is an ICMP error, the packet that it quotes decides, and otherwise its own addresses and ports.
+-- What is replaced in an IPv4 packet. In an ICMP error, the addresses and ports of the quoted packet decide. In any other packet, its own
+-- addresses and ports decide.
 abbrev pub ipv4_given : Table → List ℕ → Ipv4Translation
 ipv4_given table packet = ipv4_with table packet (quoted_of packet)
 
@@ -104,15 +107,18 @@ ipv6_opposite header = record { source = header.destination; destination = heade
 abbrev pub ipv6_by : Table → List ℕ → Ipv6Translation
 ipv6_by table packet = ipv6_translation table (ipv6_header_of packet) (ports_of packet)
 
--- what the table gives for an ICMP error that quotes this packet, which went in the other direction
+-- what the table gives for an ICMP error that quotes this packet; addresses and ports are exchanged, since the quoted packet went in the
+-- other direction
 abbrev pub ipv6_by_quoted : Table → List ℕ → Ipv6Translation
 ipv6_by_quoted table quoted = ipv6_translation table (ipv6_opposite (ipv6_header_of quoted)) (exchanged (ports_of quoted))
 
--- what the table gives for a packet: if it quotes a packet, the quoted packet decides, and otherwise its own addresses and ports
+-- What the table gives for a packet. If it quotes a packet, the addresses and ports of the quoted packet decide. Otherwise its own
+-- addresses and ports decide.
 abbrev pub ipv6_with : Table → List ℕ → Option (List ℕ) → Ipv6Translation
 ipv6_with table packet None = ipv6_by table packet
 ipv6_with table packet (Some quoted) = ipv6_by_quoted table quoted
 
--- What is replaced in an IPv6 packet. If it is an ICMP error, the packet that it quotes decides, and otherwise its own addresses and ports.
+-- What is replaced in an IPv6 packet. In an ICMP error, the addresses and ports of the quoted packet decide. In any other packet, its own
+-- addresses and ports decide.
 abbrev pub ipv6_given : Table → List ℕ → Ipv6Translation
 ipv6_given table packet = ipv6_with table packet (quoted_of packet)

@@ -30,7 +30,7 @@ place reasons.QuotedAddresses = 10
 
 -- ---- counts
 
--- the counts with the outcome of a packet: the count of this outcome grows by one, and the others stay
+-- the counts after a packet with this outcome: only the count of this outcome grows by one, up to 2^64 - 1
 abbrev pub counted : Counts → Result Bool Reason → Counts
 counted counts (Ok true) = record counts { translated = one_more counts.translated }
 counted counts (Ok false) = record counts { unaffected = one_more counts.unaffected }
@@ -63,7 +63,7 @@ all_reasons =
     reasons.TooLong ∷ reasons.LinkType ∷ reasons.LinkHeader ∷ reasons.NotIp ∷ reasons.IpHeaders ∷ reasons.SourceRoute ∷ reasons.Protocol
     ∷ reasons.TransportHeader ∷ reasons.IcmpMessage ∷ reasons.QuotedPacket ∷ reasons.QuotedAddresses ∷ []
 
--- the line for a reason in these words that applies to this number of packets; there is no line if the number is 0
+-- the line for a reason with this text, which applies to `count` packets; there is no line if `count` is 0
 abbrev pub reason_line : List ℕ → ℕ → List ℕ
 reason_line reason count =
     if count == 0 then [] else codes "translator: " ++ (decimal count ++ (codes " not translated: " ++ (reason ++ codes "\n")))
@@ -84,7 +84,8 @@ counts_text counts = packets_line counts ++ flat_map (counted_line counts) all_r
 
 -- ---- the exit status
 
--- the exit status after an error of the header: 2 if the input is no capture, and 1 if it is a capture of a format that is not read
+-- the exit status after an error of the header: 2 if the input does not begin with the whole header of a capture, and 1 if the program does
+-- not read the format in the header
 abbrev pub header_status : CaptureHeaderError → ℕ
 header_status Pcapng = 1
 header_status (CutOff len) = 2
@@ -92,7 +93,7 @@ header_status (Magic magic) = 2
 header_status Modified = 1
 header_status (Version major minor) = 1
 
--- the exit status after an error in the block at this offset: 2 if the input does not begin with a block, and otherwise 1
+-- the exit status after an error in the block at this offset: 2 if the first block of the file is malformed or cut off, and otherwise 1
 abbrev pub block_status : ℕ → PacketError → ℕ
 block_status zero (packet_errors.Block error) = 2
 block_status zero (packet_errors.Body error) = 1

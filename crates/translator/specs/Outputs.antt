@@ -53,11 +53,11 @@ FailsAfter ended flushed result = IfOk ended (λ done. IfErr flushed (λ error. 
 abbrev pub IsErrorLine : List ℕ → Type 0
 IsErrorLine line = (text : List ℕ) × (line ≡ codes "translator: " ++ (text ++ codes "\n"))
 
--- the line for a capture with this name that can't be opened
+-- the line for a capture that has this name and can't be opened
 abbrev pub IsOpenErrorLine : List ℕ → List ℕ → Type 0
 IsOpenErrorLine name line = (text : List ℕ) × (line ≡ codes "translator: " ++ (name ++ (codes ": " ++ (text ++ codes "\n"))))
 
--- the line at the end of a capture: the line of its error, or nothing if it was read to its end or writing failed
+-- the line at the end of a capture: the line of its error, or nothing if the capture was read to its end or if writing failed
 abbrev pub IsEndLine : Result (Unit {0}) CaptureError → List ℕ → Type 0
 IsEndLine (Ok done) line = line ≡ []
 IsEndLine (Err (Write error)) line = line ≡ []
@@ -95,8 +95,8 @@ abbrev pub no_counts : Counts
 no_counts = record { translated = 0; unaffected = 0; by_reason = replicate 11 0 }
 
 -- The packets of a capture were translated by a table, up to the end of the capture or an error. Then the output was flushed. The beginning
--- of the text for standard error was written, and the whole text if the result is no error. The result is the exit status, or an error. If
--- writing the capture failed, the result is the error of that write, and nothing is stated about the output.
+-- of the text for standard error was written, and the whole text if the result is not an error. The result is the exit status, or an error.
+-- If writing the capture failed, the result is the error of that write, and nothing is stated about the output.
 pub record WritesTranslation (table : Table) (left still_left held now_held told now_told : Option (List ℕ)) (result : Result ℕ Error)
     : Type 0 where
   pub ended : Result (Unit {0}) CaptureError

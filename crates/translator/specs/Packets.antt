@@ -51,8 +51,8 @@ TranslatesPacket table packet after (Err reason) = (reason_of table packet ≡ S
 
 -- ---- frames
 
--- The IP packet of a frame is between these places. It starts after the link header. It ends where the link header states, or else at the
--- end of the frame.
+-- The IP packet in a frame begins at `start` and ends before `end`. It begins after the link header. It ends where the link header states,
+-- or else at the end of the frame.
 pub record IsPacketIn (link_type : LinkType) (order : ByteOrder) (frame : List ℕ) (start end : ℕ) : Type 0 where
   pub stated : Option ℕ
   pub header : HasLinkHeader link_type order frame start None stated
@@ -76,7 +76,7 @@ pub record IsNotIp (link_type : LinkType) (order : ByteOrder) (frame : List ℕ)
   pub stated : Option ℕ
   pub header : HasLinkHeader link_type order frame len (Some protocol) stated
 
--- The reason why a frame contains no IP packet. It ends within its link header, or contains another protocol.
+-- The reason why a frame contains no IP packet. The frame ends within its link header, or contains another protocol.
 abbrev pub HasNoPacket : LinkType → ByteOrder → List ℕ → Reason → Type 0
 HasNoPacket link_type order frame reasons.LinkHeader = (required_len : ℕ) × NeedsLinkHeader link_type order frame required_len
 HasNoPacket link_type order frame reasons.NotIp = IsNotIp link_type order frame
@@ -88,7 +88,7 @@ TranslatesFrame table link_type order frame after (Ok applies) = TranslatesWithi
 TranslatesFrame table link_type order frame after (Err reason) = (after ≡ frame)
     × (HasNoPacket link_type order frame reason ⊎ TranslatesWithin table link_type order frame after (Err reason))
 
--- the packet in a frame was translated, or the frame stays as it is; a frame whose link type is not read always stays
+-- the packet in a frame was translated, or the frame stays as it is; a frame whose link type is not read always stays as it is
 abbrev pub TranslatesCaptured : Table → Result LinkType ℕ → ByteOrder → List ℕ → List ℕ → Result Bool Reason → Type 0
 TranslatesCaptured table (Ok link_type) order frame after result = TranslatesFrame table link_type order frame after result
 TranslatesCaptured table (Err number) order frame after result = (after ≡ frame) × (result ≡ Err reasons.LinkType)

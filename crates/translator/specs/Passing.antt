@@ -33,13 +33,14 @@ IsWriteError (Read offset error) = ⊥
 IsWriteError TooManyParts = ⊥
 IsWriteError (Write error) = ⊤
 
--- the statement holds if the error is a block that is cut off
+-- if the error states that a block is cut off, `Statement` holds
 abbrev pub IfBlockCutOff : PacketError → Type 0 → Type 0
 IfBlockCutOff (errors.Block (block_errors.CutOff required_len len)) Statement = Statement
 IfBlockCutOff error Statement = ⊤
 
--- `then_left` is what the input had left after the bytes of the part, and `still_left` is what it has left after this error. They are
--- equal, unless reading failed. A record or block is cut off only at the end of the input.
+-- `then_left` is what the input had left after the bytes of the part, and `still_left` is what it has left after this error. They are equal
+-- if a record is cut off, or if a block is refused or cut off. A record or block is cut off only at the end of the input. Nothing is stated
+-- for other errors.
 abbrev pub LeavesAt : CaptureError → Option (List ℕ) → Option (List ℕ) → Type 0
 LeavesAt (Header error) then_left still_left = ⊤
 LeavesAt (RecordCutOff offset required_len len) then_left still_left = (then_left ≡ still_left) × IsAtEnd still_left
@@ -58,7 +59,7 @@ Part = copier.Part (Result Bool Reason)
 abbrev pub max_parts : ℕ
 max_parts = 18446744073709551615
 
--- the format of a capture that consists of these parts and ends like this
+-- the format of captures whose parts are described by `IsPart`, and whose errors are described by `IsEnd`
 abbrev pub format_of : (State : Type 0) → (State → Part → State → Type 0) → (State → Part → CaptureError → Type 0) → Format
 format_of State IsPart IsEnd = record {
   State = State;
@@ -76,7 +77,8 @@ format_of State IsPart IsEnd = record {
 
 -- ---- bytes that are copied by pieces
 
--- this number of bytes was copied; or after an error in the part at this offset, the first bytes of `count` bytes
+-- The result is the number of bytes that were copied. If reading failed in the part at this offset, fewer than `count` bytes were copied
+-- before. If writing failed, nothing is stated.
 abbrev pub CopiesUpTo : ℕ → ℕ → Result ℕ CaptureError → Option (List ℕ) → Option (List ℕ) → Option (List ℕ) → Option (List ℕ) → Type 0
 CopiesUpTo place count (Ok len) left still_left held now_held = Copies left still_left held now_held len
 CopiesUpTo place count (Err error) left still_left held now_held =

@@ -30,21 +30,22 @@ of_error errors.QuotedPacket = reasons.QuotedPacket
 abbrev pub is_read : ℕ → List ℕ → Bool
 is_read expected packet = is_none (lax_refusal packet) && version packet == expected
 
--- both new addresses are equal, or neither is present
+-- the two new addresses are equal, or both are missing
 abbrev pub is_same : Option (List ℕ) → Option (List ℕ) → Bool
 is_same address other = option_eq (pointwise ◌==◌) address other
 
 -- ---- rules in their order
 
--- The reason why an ICMP error that quotes this packet is not translated. The headers of the quoted packet are refused, or the table gives
--- different addresses for both packets (RFC 5508, section 4).
+-- The reason why an ICMP error that quotes this packet is not translated. The headers of the quoted packet are refused or have the other IP
+-- version, or the table gives different addresses for the error and for the quoted packet (RFC 5508, section 4).
 abbrev pub quoted_reason : ℕ → List ℕ → Bool → Option Reason
 quoted_reason expected quoted are_same = first_of (
     refused_if (not (is_read expected quoted)) reasons.QuotedPacket
     ∷ refused_if (not are_same) reasons.QuotedAddresses
     ∷ [])
 
--- the reason why it is not known what to replace in a packet: its headers are refused, or a reason due to the packet that it quotes
+-- the reason why it is not known what to replace in a packet: its headers are refused or have the other IP version, or the packet that it
+-- quotes is the reason
 abbrev pub unknown_reason : ℕ → List ℕ → Option Reason → Option Reason
 unknown_reason expected packet quoting = first_of (
     refused_if (not (is_read expected packet)) reasons.IpHeaders
@@ -61,15 +62,15 @@ reason_by unknown is_nothing refusal = first_of (
 
 -- ---- IPv4
 
--- the new addresses of both are the same
+-- the two translations have the same new addresses
 abbrev pub is_same_ipv4 : Ipv4Translation → Ipv4Translation → Bool
 is_same_ipv4 new other = is_same new.source other.source && is_same new.destination other.destination
 
--- nothing is replaced
+-- the translation replaces nothing
 abbrev pub is_ipv4_nothing : Ipv4Translation → Bool
 is_ipv4_nothing new = is_none new.source && (is_none new.destination && (is_none new.source_port && is_none new.destination_port))
 
--- the reason due to the packet that an ICMP error quotes; `own` is what the table gives for the error itself
+-- why the packet that an ICMP error quotes prevents the translation of the error; `own` is what the table gives for the error itself
 abbrev pub ipv4_quoting_reason : Table → Ipv4Translation → Option (List ℕ) → Option Reason
 ipv4_quoting_reason table own None = None
 ipv4_quoting_reason table own (Some quoted) = quoted_reason 4 quoted (is_same_ipv4 own (ipv4_by_quoted table quoted))
@@ -85,15 +86,15 @@ ipv4_reason table packet =
 
 -- ---- IPv6
 
--- the new addresses of both are the same
+-- the two translations have the same new addresses
 abbrev pub is_same_ipv6 : Ipv6Translation → Ipv6Translation → Bool
 is_same_ipv6 new other = is_same new.source other.source && is_same new.destination other.destination
 
--- nothing is replaced
+-- the translation replaces nothing
 abbrev pub is_ipv6_nothing : Ipv6Translation → Bool
 is_ipv6_nothing new = is_none new.source && (is_none new.destination && (is_none new.source_port && is_none new.destination_port))
 
--- the reason due to the packet that an ICMP error quotes; `own` is what the table gives for the error itself
+-- why the packet that an ICMP error quotes prevents the translation of the error; `own` is what the table gives for the error itself
 abbrev pub ipv6_quoting_reason : Table → Ipv6Translation → Option (List ℕ) → Option Reason
 ipv6_quoting_reason table own None = None
 ipv6_quoting_reason table own (Some quoted) = quoted_reason 6 quoted (is_same_ipv6 own (ipv6_by_quoted table quoted))

@@ -20,8 +20,8 @@ use Rattle.translator.specs.declared.table.Table.{Table}
 abbrev pub captured_len : CaptureHeader → List ℕ → ℕ
 captured_len capture bytes = (record_header capture.byte_order bytes).captured_len
 
--- The frame of a record was translated: the captured bytes after the header, with the link type of the capture. The header was
--- written as it was read.
+-- The frame of a record was translated, or stays as it is. The frame consists of the captured bytes after the header, and has the link type
+-- of the capture. The header was written as it was read.
 pub record TranslatesRecord (table : Table) (capture : CaptureHeader) (part : Part) : Type 0 where
   pub after : List ℕ
   pub result : Result Bool Reason
@@ -48,7 +48,7 @@ passed records header = record { header = records.header; offset = offset_after_
 abbrev pub records_after : ClassicReader → List ℕ → ClassicReader
 records_after records bytes = passed records (record_header records.header.byte_order bytes)
 
--- at most the bytes of one record, which were copied
+-- the part is a record or its first bytes, and was copied
 abbrev pub IsRecordFront : CaptureHeader → Part → Type 0
 IsRecordFront capture part =
     IsUnchanged part None × ((length part.read < record_header_len) ⊎ (length part.read ≤ record_len capture.byte_order part.read))

@@ -68,7 +68,7 @@ IsNoAddress text = (address : IpAddr) → ¬ (IsIpText text address)
 abbrev pub IsNumberText : List ℕ → Type 0
 IsNumberText text = IsNumeral 10 (without_leading_plus text) × (digits_value 10 (without_leading_plus text) < 2 ^ 32)
 
--- the network that begins at this address and has this number of host bits; or the error if one of these bits is 1
+-- the network that begins at this address and has this number of host bits, or the error if a host bit of the address is 1
 abbrev pub ReadsHostBits : IpAddr → ℕ → Result NetworkText ReplacementError → Type 0
 ReadsHostBits address host_bits (Ok found) =
     HasHostBits (number_of address) host_bits found.network × (found.is_ipv6 ≡ is_ipv6 address) × (found.host_bits ≡ host_bits)
@@ -86,7 +86,7 @@ abbrev pub ReadsPrefixed : List ℕ → List ℕ → Result NetworkText Replacem
 ReadsPrefixed text prefix_len result =
     (IsNoAddress text × (result ≡ Err errors.Address)) ⊎ ((address : IpAddr) × IsIpText text address × ReadsLength address prefix_len result)
 
--- the network that is read from a text without a slash, which is one address, or the error
+-- the network of one address that is read from a text without a slash, or the error
 abbrev pub ReadsSingle : List ℕ → Result NetworkText ReplacementError → Type 0
 ReadsSingle text result =
     (IsNoAddress text × (result ≡ Err errors.Address)) ⊎ ((address : IpAddr) × IsIpText text address × ReadsHostBits address 0 result)
@@ -100,7 +100,7 @@ pub record ReadsNetwork (text : List ℕ) (result : Result NetworkText Replaceme
   pub single : position_or_len is_slash text ≡ length text → ReadsSingle text result
   pub prefixed : position_or_len is_slash text < length text → ReadsPrefixed (before_first is_slash text) (after_first is_slash text) result
 
--- whether two addresses have the same IP version
+-- whether two networks have the same IP version; each argument states whether a network is an IPv6 network
 abbrev pub is_same_version : Bool → Bool → Bool
 is_same_version true other = other
 is_same_version false other = not other

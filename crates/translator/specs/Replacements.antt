@@ -15,7 +15,7 @@ use Rattle.translator.specs.declared.table.Table.{Table}
 
 -- ---- networks
 
--- the number whose last `host_bits` bits are 1 and whose other bits are 0, for at most 128 bits
+-- the number of 128 bits whose last `host_bits` bits are 1 and whose other bits are 0; all bits are 1 if `host_bits` is above 128
 abbrev pub host_mask : ℕ → ℕ
 host_mask host_bits = min (2 ^ host_bits) (2 ^ 128) - 1
 
@@ -40,21 +40,21 @@ abbrev pub new_address : List NetworkReplacement → ℕ → Option ℕ
 new_address replacements address =
     option_map (λ replacement. in_network replacement.new address) (find (λ replacement. is_in replacement.old address) replacements)
 
--- the port that the first replacement of this port gives
+-- the new port that is given by the first replacement whose old port is this port
 abbrev pub new_port : List PortReplacement → ℕ → Option ℕ
 new_port replacements port = option_map (λ replacement. replacement.new) (find (λ replacement. replacement.old == port) replacements)
 
--- the address that replaces this IPv4 address
+-- the address that replaces this IPv4 address, or `None` if no replacement applies
 abbrev pub new_ipv4 : Replacements → List ℕ → Option (List ℕ)
 new_ipv4 replacements address = option_map (to_be_bytes w32) (new_address replacements.ipv4.items (from_be_bytes w32 address))
 
--- the address that replaces this IPv6 address
+-- the address that replaces this IPv6 address, or `None` if no replacement applies
 abbrev pub new_ipv6 : Replacements → List ℕ → Option (List ℕ)
 new_ipv6 replacements address = option_map (to_be_bytes w128) (new_address replacements.ipv6.items (from_be_bytes w128 address))
 
 -- ---- the table
 
--- there is no replacement
+-- the lists contain no replacement
 abbrev pub is_empty : Replacements → Bool
 is_empty replacements =
     length replacements.ipv4.items == 0 && (length replacements.ipv6.items == 0 && length replacements.ports.items == 0)

@@ -54,8 +54,9 @@ pub struct Options<'a> {
 ///
 /// # Errors
 ///
-/// If an argument is unknown or is no replacement, the text of the error names it, and the exit status is 2. A request for help or for the
-/// version is also returned as an error. Its text goes to standard output, and its exit status is 0.
+/// The exit status is 2 if an argument is unknown or wrong, or if no replacement is given. The text of the error names the argument. The
+/// exit status is 3 if no memory is left. A request for help or for the version is also returned as an error. Its text goes to standard
+/// output, and its exit status is 0.
 pub fn requested_options<'a>(alloc: Global, words: &'a [String]) -> Result<Options<'a>, Error>
     ensures some { IfOk result (λ options. is_empty_table options.table ≡ false) }
 {
@@ -145,7 +146,7 @@ fn add_ports(
     Ok(())
 }
 
-/// The error for a text that is no replacement. Its text contains the usage.
+/// The error for a value that is not a replacement. The text of the error contains the usage.
 fn invalid(alloc: Global, id: &str, text: &str, error: ReplacementError) -> Result<Error, Error> {
     let message = format!(in alloc; "invalid value '{text}' for '--{id} <OLD=NEW>': {error}")?;
     error_with_usage(alloc, ErrorKind::ValueValidation, message.as_str())
@@ -192,7 +193,7 @@ fn replacement<'a>(alloc: Global, name: &'a str, help: &'a str) -> Arg<'a> {
         .action(ArgAction::Append)
 }
 
-/// The name of the capture.
+/// The argument that is the name of the capture.
 fn file<'a>(alloc: Global) -> Arg<'a> {
     Arg::new(alloc, "file")
         .value_name("FILE")

@@ -197,7 +197,7 @@ fn kept_len(header: &BlockHeader) -> usize
     (header.total_len as usize).min(MAX_PACKET_LEN)
 }
 
-/// Checks the block in these bytes. A block that does not fit in the buffer is accepted here.
+/// Checks the block in these bytes. A block that does not fit in the buffer is accepted without a check.
 fn check(header: &BlockHeader, bytes: &[u8], order: ByteOrder) -> Result<(), BlockError>
     ensures accepted { OnOk result (header.now.total_len ≤ max_packet_len → block_refusal order bytes.now ≡ None) }
     ensures refused { IfErr result (λ error. (header.now.total_len ≤ max_packet_len) × (block_refusal order bytes.now ≡ Some error)) }
@@ -296,7 +296,7 @@ fn copy_rest<R: Read, W: Write>(
     Ok(())
 }
 
-/// The error for a block with this header after whose first `len` bytes the file ends.
+/// The error if the file ends after the first `len` bytes of a block with this header.
 fn cut_off(offset: u64, header: &BlockHeader, len: usize) -> CaptureError
     ensures { result ≡ cut_at offset header.now.total_len len }
 {
@@ -305,7 +305,7 @@ fn cut_off(offset: u64, header: &BlockHeader, len: usize) -> CaptureError
     refused(offset, PacketError::Block(error))
 }
 
-/// The error for a block at this place in the file.
+/// The error for a refused block at this offset in the file.
 fn refused(offset: u64, error: PacketError) -> CaptureError
     ensures { result ≡ BlockRefused (record { offset = offset; error = error }) }
 {

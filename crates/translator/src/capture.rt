@@ -21,10 +21,10 @@ use std::io::{Read, Write};
 ///
 /// # Errors
 ///
-/// The reason why the capture is not translated to its end. Nothing is written if the header of a classic capture is refused, or the first
-/// block of a pcapng file that fits in the buffer. If the capture ends within a record or another block, or another block is refused, all
-/// bytes that were read are written. If reading fails, the beginning of the capture is written. `TooManyParts` is returned only after 2^64
-/// - 1 records or blocks.
+/// The reason why the capture is not translated to its end. Nothing is written if the header of a classic capture is refused. If the first
+/// block of a pcapng file is refused by its bytes in the buffer, nothing is written either. If another block is refused, or the capture
+/// ends within it or within a record, all bytes that were read are written. If reading fails, the beginning of the capture is written.
+/// `TooManyParts` is returned only after 2^64 - 1 records or blocks.
 pub fn translate_capture<R: Read, W: Write>(
     copier: &mut Copier<'_, R, W>,
     table: &Table,

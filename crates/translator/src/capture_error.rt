@@ -9,7 +9,7 @@ use thiserror::Error;
 /// Why a capture is not translated to its end.
 #[derive(Debug, Error, Drop)]
 pub enum CaptureError {
-    /// The input begins with no header of a capture, or with a header of a format that is not read.
+    /// The input does not begin with the whole header of a capture, or the program does not read its format.
     #[error(transparent)]
     Header(CaptureHeaderError),
     /// The input ends within a record of a classic capture.
@@ -17,12 +17,12 @@ pub enum CaptureError {
     RecordCutOff {
         /// The start of the record, in bytes from the start of the file.
         offset: u64,
-        /// The least length that the record has, in bytes: the length of its header if the header is cut off.
+        /// The length of the record in bytes, or the length of its header if the header is cut off.
         required_len: usize,
         /// The number of bytes of the record that are present.
         len: usize,
     },
-    /// A block of a pcapng file can't be read, or the file ends within it.
+    /// A block of a pcapng file is refused, or the file ends within it.
     #[error(transparent)]
     Block(PlacedPacketError),
     /// Reading failed.
@@ -42,8 +42,8 @@ pub enum CaptureError {
 }
 
 impl CaptureError {
-    /// The exit status of the program: 1 if the capture can't be read to its end, 2 if the input is no capture, and 3 if reading or writing
-    /// failed.
+    /// The exit status of the program: 1 if the capture can't be read to its end, 2 if the input is not a capture, and 3 if reading or
+    /// writing failed.
     pub fn status(&self) -> u8
         ensures { result ≡ specs.status self.now }
     {

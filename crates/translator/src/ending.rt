@@ -16,7 +16,7 @@ use streams::write_whole;
 ///
 /// # Errors
 ///
-/// The error of writing to the output, or the error of writing to `errors`.
+/// The error of writing or flushing the output, or the error of writing to `errors`. It is also an error if no memory is left.
 pub fn finished<E: Write>(
     errors: &mut E,
     alloc: Global,

@@ -45,9 +45,9 @@ fn translation(packet: &[u8], table: &Table) -> Result<Ipv4Translation, Reason>
     }
 }
 
-/// What the table replaces in an ICMP error that quotes this packet. `outer` is what it gives for the addresses of the error itself. The
-/// ports of the quoted packet are exchanged, since it went in the other direction. One translation replaces the addresses of both packets,
-/// so both need the same replacements (RFC 5508, section 4).
+/// What the table replaces in an ICMP error that quotes this packet. `outer` is what the table gives for the addresses of the error itself.
+/// The ports of the quoted packet are exchanged, since it went in the other direction. One translation replaces the addresses of both
+/// packets, so both need the same replacements (RFC 5508, section 4).
 fn quoting_translation(
     quoted: &[u8],
     table: &Table,

@@ -1,4 +1,4 @@
-//! Rewrites addresses and ports in a capture: every packet is translated by a table of replacements, and its checksums are updated.
+//! Rewrites addresses and ports in a capture, as a table of replacements requires, and updates the checksums of the changed packets.
 //!
 //! The capture is read from a file or from standard input, and is written to standard output. The classic format of libpcap and pcapng are
 //! read. The output has the format of the input, and every byte outside of the translated packets stays. A capture is read as a stream, one
@@ -76,7 +76,8 @@ fn failure(rt: &HostRuntime, error: &io::Error) -> u8
     FAILED
 }
 
-/// Writes the error of a write that ends the program, and returns the exit status, as `failure` does.
+/// Writes the error of a failed write, and returns the exit status. Nothing is written if the reader of standard output or standard error
+/// ended first.
 fn write_failure(rt: &HostRuntime, error: io::Error) -> u8
     ensures { result ≡ failure_number (error_kind error) }
 {
@@ -164,7 +165,8 @@ fn translate<R: Read + Drop>(rt: &HostRuntime, table: &Table, input: R) -> io::R
 ///
 /// # Errors
 ///
-/// The error of writing to the output, or the error of writing to `errors`. The output is written and flushed before `errors`.
+/// The error of writing or flushing the output, or the error of writing to `errors`. It is also an error if no memory is left. The output
+/// is written and flushed before `errors`.
 fn write_translation<R: Read, W: Write, E: Write>(
     alloc: Global,
     table: &Table,

@@ -27,7 +27,7 @@ pub enum Reason {
     IcmpMessage,
     /// The packet that an ICMP error quotes can't be translated.
     QuotedPacket,
-    /// The table replaces the addresses of an ICMP error and of the packet that it quotes differently.
+    /// The table gives different new addresses for an ICMP error and for the packet that it quotes.
     QuotedAddresses,
 }
 

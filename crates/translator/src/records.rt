@@ -99,7 +99,7 @@ fn translate_headed<R: Read, W: Write>(
     }
 }
 
-/// Copies the captured bytes of a record, which do not fit in the buffer.
+/// Copies the captured bytes of a record. They do not fit in the buffer, so the packet is not translated.
 fn copy_long<R: Read, W: Write>(
     copier: &mut Copier<'_, R, W>,
     records: &mut ClassicReader,

@@ -1,6 +1,6 @@
 use thiserror::Error;
 
-/// Why a text is no replacement.
+/// Why a text is not a replacement.
 #[derive(Clone, Copy, Debug, PartialEq, Eq, Error)]
 pub enum ReplacementError {
     /// The text contains no `=`.
@@ -12,7 +12,7 @@ pub enum ReplacementError {
     /// A prefix length is not a number, or is above the number of bits of the address.
     #[error("a prefix length is not a number from 0 to 32 for IPv4, or to 128 for IPv6")]
     PrefixLength,
-    /// An address has a bit of 1 after its prefix.
+    /// An address has a bit that is 1 after its prefix.
     #[error("an address has bits other than 0 after its prefix")]
     HostBits,
     /// One network is an IPv4 network, and the other an IPv6 network.

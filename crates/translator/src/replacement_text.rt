@@ -13,17 +13,17 @@ use std::net::IpAddr;
 #[derive(Clone, Copy)]
 struct NetworkText {
     network: Network,
-    /// Whether the address is of IPv6.
+    /// Whether the network is an IPv6 network.
     is_ipv6: bool,
     /// The number of bits after the prefix.
     host_bits: u32,
 }
 
-/// Reads a replacement of a network from its text. Also returns whether it replaces IPv6 networks.
+/// Reads a replacement of a network from its text. Also returns whether the networks are IPv6 networks.
 ///
 /// # Errors
 ///
-/// The reason why the text is no replacement of a network.
+/// The reason why the text is not a replacement of a network.
 pub(crate) fn network_replacement(
     text: &str,
 ) -> Result<(NetworkReplacement, bool), ReplacementError>
@@ -118,7 +118,7 @@ fn network_of(address: IpAddr, host_bits: u32) -> Result<NetworkText, Replacemen
 ///
 /// # Errors
 ///
-/// The reason why the text is no replacement of a port.
+/// The reason why the text is not a replacement of a port.
 pub(crate) fn port_replacement(text: &str) -> Result<PortReplacement, ReplacementError>
     ensures reads { ReadsPortReplacement text.now result }
 {

@@ -47,7 +47,7 @@ impl Replacements {
         }
     }
 
-    /// Whether there is no replacement.
+    /// Whether the lists contain no replacement.
     pub fn is_empty(&self) -> bool
         ensures { result ≡ specs.is_empty self.now }
     {

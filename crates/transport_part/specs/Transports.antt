@@ -20,6 +20,7 @@ use Rattle.transport_part.specs.declared.transport_slice.TransportSlice.TheVaria
 
 -- ---- the contents of a typed slice
 
+-- the protocol of a typed slice
 abbrev pub proto_of : TransportSlice → Proto
 proto_of (Udp packet) = protos.Udp
 proto_of (Tcp segment) = protos.Tcp
@@ -53,7 +54,7 @@ min_len (Icmpv6 message) = 8
 
 -- ---- the transport of an IP packet
 
--- the protocol of the header after the IP headers; a fragment has none, since its payload is only a part of the whole payload
+-- the protocol of the header after the IP headers; `None` for a fragment, whose payload is only a part of the whole payload
 abbrev pub proto_in : TransportInIp → Option Proto
 proto_in found = if found.is_fragment then None else proto_over (by_value found.addresses) found.protocol.0
 
@@ -66,10 +67,12 @@ refusal_by (Some protos.Tcp) is_cut_off payload = tcp.refusal payload
 refusal_by (Some protos.Icmpv4) is_cut_off payload = option_map Len (icmpv4.refusal payload)
 refusal_by (Some protos.Icmpv6) is_cut_off payload = option_map Len (icmpv6.refusal payload)
 
+-- the error for the transport of an IP packet
 abbrev pub refusal : TransportInIp → Option HeaderSliceError
 refusal found = refusal_by (proto_in found) found.is_cut_off found.payload.now
 
--- the payload as a slice: of UDP the bytes that the length field counts, and of any other protocol all bytes
+-- The payload as a typed slice. If the length field of a UDP packet is valid, the slice contains the bytes that the field counts.
+-- Otherwise, and for any other protocol, it contains all bytes.
 abbrev pub kept_by : Option Proto → List ℕ → Option TransportSlice
 kept_by None payload = None
 kept_by (Some protos.Udp) payload = Some (Udp (cut payload))
@@ -77,5 +80,6 @@ kept_by (Some protos.Tcp) payload = Some (Tcp payload)
 kept_by (Some protos.Icmpv4) payload = Some (Icmpv4 payload)
 kept_by (Some protos.Icmpv6) payload = Some (Icmpv6 payload)
 
+-- the transport of an IP packet as a typed slice
 abbrev pub kept : TransportInIp → Option TransportSlice
 kept found = kept_by (proto_in found) found.payload.now

@@ -21,11 +21,12 @@ use Rattle.transport_part.specs.declared.transport_slice.TransportSlice.TheVaria
 
 -- ---- the stored checksum
 
--- The sum of only the pseudo header, which contains source, destination, protocol and length. A host stores it for its network card, which
--- adds the rest and takes the complement.
+-- The sum of only the pseudo header over IPv4, which contains source, destination, protocol and length. A host stores it for its network
+-- card, which adds the rest and takes the complement.
 abbrev pub partial_over_ipv4 : List ℕ → List ℕ → ℕ → List ℕ → ℕ
 partial_over_ipv4 source destination protocol packet = folded (total (ipv4_pseudo_header source destination protocol (length packet)))
 
+-- the sum of only the pseudo header over IPv6
 abbrev pub partial_over_ipv6 : List ℕ → List ℕ → ℕ → List ℕ → ℕ
 partial_over_ipv6 source destination protocol packet = folded (total (ipv6_pseudo_header source destination protocol (length packet)))
 
@@ -33,7 +34,7 @@ partial_over_ipv6 source destination protocol packet = folded (total (ipv6_pseud
 abbrev pub sum_without : ℕ → ℕ → List ℕ → ℕ
 sum_without pseudo_header place packet = folded (pseudo_header + total (with_checksum place packet 0))
 
--- a packet of at most this length is valid with the pseudo header that contains its length
+-- the packet has at most this length, and is valid with the pseudo header that contains its length
 abbrev pub VerifiesUpTo : ℕ → (ℕ → List ℕ) → List ℕ → Type 0
 VerifiesUpTo max_len pseudo_header_of packet = (length packet ≤ max_len) × Verifies (pseudo_header_of (length packet)) packet
 
@@ -45,8 +46,8 @@ abbrev pub IsWrong : (List ℕ → Type 0) → ℕ → List ℕ → ℕ → Type
 IsWrong IsValid place packet expected = (¬ IsValid packet) × IsValid (with_checksum place packet expected)
     × (expected ≡ 65535 → ¬ IsValid (with_checksum place packet 0))
 
--- The verdict by two facts: whether the packet is valid, and the sum of its pseudo header. It is right exactly if the packet is valid. If
--- the packet is not valid, the verdict is partial if that sum is stored, otherwise wrong.
+-- The verdict by two facts: whether the packet is valid, and the sum of its pseudo header. The verdict is `Right` exactly if the packet is
+-- valid. If the packet is not valid, the verdict is `Partial` if that sum is stored, and otherwise `Wrong`.
 abbrev pub JudgesBy : (List ℕ → Type 0) → ℕ → ℕ → List ℕ → ChecksumVerdict → Type 0
 JudgesBy IsValid partial place packet Right = IsValid packet
 JudgesBy IsValid partial place packet (Wrong expected) = (be_number packet place 2 ≢ partial) × IsWrong IsValid place packet expected
@@ -60,6 +61,7 @@ abbrev pub IsWrongUdpIpv4 : List ℕ → List ℕ → List ℕ → ℕ → Type 
 IsWrongUdpIpv4 source destination packet expected = (checksum_field packet ≢ 0) × ((¬ SumsUpOverIpv4 source destination packet)
     × ((expected ≢ 0) × SumsUpOverIpv4 source destination (with_checksum udp_checksum_place packet expected)))
 
+-- the verdict on a UDP packet over IPv4; a stored 0 means that there is no checksum (RFC 768)
 abbrev pub JudgesUdpIpv4 : List ℕ → List ℕ → List ℕ → ChecksumVerdict → Type 0
 JudgesUdpIpv4 source destination packet Right = (checksum_field packet ≢ 0) × SumsUpOverIpv4 source destination packet
 JudgesUdpIpv4 source destination packet (Wrong expected) =
@@ -77,7 +79,7 @@ JudgesIcmpv4 message (Partial expected) = ⊥
 JudgesIcmpv4 message Absent = ⊥
 JudgesIcmpv4 message (Untested why) = ⊥
 
--- the verdict over IPv4, and the verdict over IPv6
+-- the verdict over IPv4
 abbrev pub JudgesOverIpv4 : List ℕ → List ℕ → TransportSlice → ChecksumVerdict → Type 0
 JudgesOverIpv4 source destination (Udp packet) verdict = JudgesUdpIpv4 source destination packet verdict
 JudgesOverIpv4 source destination (Tcp segment) verdict =
@@ -85,6 +87,7 @@ JudgesOverIpv4 source destination (Tcp segment) verdict =
 JudgesOverIpv4 source destination (Icmpv4 message) verdict = JudgesIcmpv4 message verdict
 JudgesOverIpv4 source destination (Icmpv6 message) verdict = verdict ≡ Untested OtherProtocol
 
+-- the verdict over IPv6
 abbrev pub JudgesOverIpv6 : List ℕ → List ℕ → TransportSlice → ChecksumVerdict → Type 0
 JudgesOverIpv6 source destination (Udp packet) verdict =
     JudgesBy (IsValidUdpIpv6 source destination) (partial_over_ipv6 source destination udp_number packet) udp_checksum_place packet verdict
@@ -124,6 +127,7 @@ lacks_length (Tcp segment) = false
 lacks_length (Icmpv4 message) = false
 lacks_length (Icmpv6 message) = false
 
+-- the verdict over these addresses; a UDP packet is not tested if its length field is 0 although it could state the length
 abbrev pub Judges : Addresses → TransportSlice → ChecksumVerdict → Type 0
 Judges addresses transport verdict = MatchBool (lacks_length transport) (verdict ≡ Untested ZeroLength) (JudgesOver addresses transport verdict)
 
@@ -141,9 +145,10 @@ AreOne IsTrueOf = (a b : ChecksumVerdict) → HasChecksum a → HasChecksum b �
 
 -- ---- the verdict on the transport of an IP packet
 
--- The verdict on what was found. A checksum is not tested for the first of these reasons that applies: a fragment, since a checksum covers
--- all fragments; a packet that is cut off, since a checksum covers all bytes; another protocol; a UDP length field of 0 (`Judges`); an
--- unknown destination over IPv6; a packet that is too long (`JudgesOver`). ICMP of the wrong IP version is another protocol.
+-- The verdict on the transport that was found. A checksum is not tested for the first of these reasons that applies: a fragment, since a
+-- checksum covers all fragments; a packet that is cut off, since a checksum covers all bytes; another protocol; a UDP length field of 0
+-- (`Judges`); an unknown destination over IPv6, or a packet that is too long (`JudgesOver`). ICMP of the wrong IP version is another
+-- protocol.
 abbrev pub JudgesFound : TransportInIp → ChecksumVerdict → Type 0
 JudgesFound found verdict = MatchBool found.is_fragment (verdict ≡ Untested Fragment) (
     MatchBool found.is_cut_off (verdict ≡ Untested CutOff) (

@@ -49,16 +49,18 @@ pub enum Untested {
     Fragment,
     /// Some bytes of the packet are missing.
     CutOff,
-    /// A routing header does not state the final destination, which the checksum covers, in a known way (RFC 8200, section 8.1).
+    /// The final destination, which the checksum covers, is unknown: a routing header does not state it in a known way (RFC 8200, section
+    /// 8.1).
     UnknownDestination,
     /// The protocol is not UDP, TCP, ICMPv4 over IPv4, or ICMPv6 over IPv6.
     OtherProtocol,
-    /// The length field of a UDP packet is 0. This is malformed, since the field counts at least 8 bytes (RFC 768). In a jumbogram that is
-    /// too long for the field, it is 0 (RFC 2675, section 4), and the checksum is tested.
+    /// The length field of a UDP packet is 0, although the field could count the packet. This is malformed, since the field counts at least
+    /// 8 bytes (RFC 768). In a jumbogram, which is too long for the field, the field is 0 (RFC 2675, section 4), and the checksum is
+    /// tested.
     ZeroLength,
     /// The packet has more bytes than a pseudo header can count: 65,535 over IPv4, and 4,294,967,295 over IPv6. An ICMPv4 message has no
     /// pseudo header, and is tested at any length. A payload from `transport_in_ip` is never too long, since IPv4 counts at most 65,535
-    /// bytes, and a jumbo payload length at most 4,294,967,295 (RFC 2675, section 2). A payload from `transport_in_ip_lax` without a stated
-    /// length can be too long. So can a slice that the caller made.
+    /// bytes, and a jumbo payload length at most 4,294,967,295 (RFC 2675, section 2). A payload from `transport_in_ip_lax` can be too long
+    /// if its packet states no length. A slice that the caller made can be too long too.
     TooLong,
 }

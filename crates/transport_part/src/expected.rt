@@ -21,8 +21,8 @@ pub(crate) fn sum_but_checksum(message: &[u8]) -> Sum16BitWords
 }
 
 /// The sum of a pseudo header and a packet. The checksum, stored in the two bytes at `place`, counts as zeros. `None` if the stored
-/// checksum is right, so that the sum with it is all ones. All bytes are summed once, and then the stored checksum is subtracted. This
-/// requires a pseudo header whose sum is not 0. The function is inlined, since each caller knows the place.
+/// checksum is right, which means that the sum with it is all ones. All bytes are summed once, and then the stored checksum is subtracted.
+/// This requires a pseudo header whose sum is not 0. The function is inlined, since each caller knows the place.
 #[inline(always)]
 pub(crate) fn sum_unless_right(
     pseudo_header: Sum16BitWords,
@@ -45,7 +45,7 @@ pub(crate) fn sum_unless_right(
     Some(sum.add_2bytes((!stored).to_be_bytes()))
 }
 
-/// Whether a sum without the stored checksum becomes all ones if the stored checksum is added.
+/// Whether the stored checksum is right: it gives all ones together with this sum, which does not include it.
 #[inline(always)]
 pub(crate) fn is_all_ones_with(sum: Sum16BitWords, stored: u16) -> bool
     ensures { IsTrue result ↔ IsAllOnes (sum_value sum + stored) }

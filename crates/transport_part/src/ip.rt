@@ -1,4 +1,4 @@
-//! The protocol of what `transport_in_ip` found, its typed slice, and the verdict on its checksum.
+//! The protocol of the transport that `transport_in_ip` found, its typed slice, and the verdict on its checksum.
 
 mod proto;
 mod slice;

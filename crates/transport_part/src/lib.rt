@@ -1,6 +1,6 @@
 //! The transport of an IP packet as a slice of its protocol, and the verdict on its checksum.
 //!
-//! `ip::transport_slice` reads what `transport_in_ip` found as a `TransportSlice`, which is UDP, TCP, ICMPv4 or ICMPv6.
+//! `ip::transport_slice` reads the transport that `transport_in_ip` found as a `TransportSlice`, which is UDP, TCP, ICMPv4 or ICMPv6.
 //! `ip::checksum_verdict` returns whether the checksum is right, and the right checksum if it is wrong. No call allocates or has a
 //! precondition.
 //!

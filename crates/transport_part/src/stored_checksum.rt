@@ -29,7 +29,8 @@ pub(crate) fn stored_at(bytes: &[u8], place: usize) -> u16
 
 // ---- the pseudo header
 
-/// The sum of the pseudo header of this packet over these addresses. `None` if the packet has no pseudo header over them.
+/// The sum of the pseudo header of this packet over these addresses. `None` if the packet has no pseudo header over these addresses, or is
+/// too long for it.
 pub(crate) fn pseudo_header_over(
     addresses: IpAddresses<'_>,
     transport: &TransportSlice<'_>,
@@ -55,7 +56,7 @@ pub(crate) fn pseudo_header_over(
     }
 }
 
-/// The sum of the pseudo header over IPv4 of a packet of this length.
+/// The sum of the pseudo header over IPv4 of a packet of this length. `None` for ICMP, or if the pseudo header can't count the packet.
 fn pseudo_header_over_ipv4(
     source: [u8; 4],
     destination: [u8; 4],
@@ -73,7 +74,7 @@ fn pseudo_header_over_ipv4(
     }
 }
 
-/// The sum of the pseudo header over IPv6 of a packet of this length.
+/// The sum of the pseudo header over IPv6 of a packet of this length. `None` for ICMPv4, or if the pseudo header can't count the packet.
 fn pseudo_header_over_ipv6(
     source: [u8; 16],
     destination: [u8; 16],
@@ -128,7 +129,7 @@ fn counted_over_ipv6(
 
 // ---- an absent checksum
 
-/// The right checksum of a packet that contains no checksum. This is a UDP packet over IPv4.
+/// The right checksum of a packet that contains no checksum. Such a packet is a UDP packet over IPv4.
 pub(crate) fn absent_checksum(addresses: IpAddresses<'_>, transport: &TransportSlice<'_>) -> u16
     requires absent { Judges (by_value addresses) transport.now verdicts.Absent }
     ensures some { result ≢ 0 }

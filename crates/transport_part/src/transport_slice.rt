@@ -118,7 +118,7 @@ impl<'a> TransportSlice<'a> {
         ensures judged { Judges (by_value addresses.entry) self.now result }
         // In short: if the checksum is tested, a receiver accepts the packet exactly if the verdict is `Right` or `Absent`.
         ensures valid { SaysWhether (IsValidOver (by_value addresses.entry) self.now) result }
-        // This is the only true verdict on the packet.
+        // At most one verdict on the packet is true, and this is it.
         ensures one_verdict { AreOne (Judges (by_value addresses.entry) self.now) }
     {
         if lacks_length(self) {
@@ -152,8 +152,8 @@ impl<'a> TransportSlice<'a> {
     /// the partial checksum, and leaves the rest to its network card (checksum offload). A translation changes a stored checksum as if it
     /// were complete. If the stored checksum was partial, write the partial checksum over the new addresses to `checksum_place` afterwards.
     ///
-    /// `None` if the packet has no pseudo header. It is an ICMPv4 message, ICMP of the wrong IP version, a packet without a final
-    /// destination, or a packet with more bytes than a pseudo header can count.
+    /// `None` if there is no pseudo header: for an ICMPv4 message, ICMP of the wrong IP version, an unknown final destination, or a packet
+    /// that is too long for it.
     pub fn partial_checksum(&self, addresses: IpAddresses<'_>) -> Option<u16>
         ensures sum { result ≡ option_map (λ header. folded (total header)) (specs.pseudo_header_over (by_value addresses.entry) self.now) }
         // With this checksum `is_checksum_partial` is true.
@@ -169,8 +169,8 @@ impl<'a> TransportSlice<'a> {
     /// slice. A host leaves the rest to its network card (checksum offload). The payload is not read, so the call takes the same time for
     /// any length. In rare cases a partial checksum is also right. Then `checksum_verdict` returns `Right`, not `Partial`.
     ///
-    /// The result is `false` if the packet has no pseudo header. It is an ICMPv4 message, ICMP of the wrong IP version, a packet without a
-    /// final destination, or a packet with more bytes than a pseudo header can count.
+    /// The result is `false` if there is no pseudo header: for an ICMPv4 message, ICMP of the wrong IP version, an unknown final
+    /// destination, or a packet that is too long for it.
     #[tactic(auto, using(crate::proofs::RightChecksumLaws::says_partial))]
     pub fn is_checksum_partial(&self, addresses: IpAddresses<'_>) -> bool
         ensures partial { IsTrue result ↔ IsPartial (by_value addresses.entry) self.now }
@@ -184,8 +184,8 @@ impl<'a> TransportSlice<'a> {
         }
     }
 
-    /// The right checksum of the packet over these addresses, whatever checksum the packet contains. If the stored checksum is right, it is
-    /// the result, and otherwise the expected checksum is. For UDP it is never 0.
+    /// The right checksum of the packet over these addresses, whatever checksum the packet contains. If the stored checksum is right, the
+    /// result is the stored checksum. Otherwise the result is the checksum that makes the packet valid. For UDP the result is never 0.
     ///
     /// # Errors
     ///

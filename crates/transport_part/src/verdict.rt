@@ -20,14 +20,16 @@ use net_base::{ip_number, pseudo_header_ipv4, pseudo_header_ipv6};
 use tcp_part::{TcpHeader, TcpSlice};
 use udp_part::{UdpHeader, UdpSlice};
 
-/// The places of the checksum in UDP, TCP and ICMP headers, in bytes (RFC 768; RFC 9293, section 3.1; RFC 792; RFC 4443).
+/// The place of the checksum in a UDP header, in bytes from its start (RFC 768).
 pub(crate) const UDP_CHECKSUM_AT: usize = UdpHeader::CHECKSUM_AT;
 
+/// The place of the checksum in a TCP header (RFC 9293, section 3.1).
 pub(crate) const TCP_CHECKSUM_AT: usize = TcpHeader::CHECKSUM_AT;
 
+/// The place of the checksum in an ICMP header (RFC 792; RFC 4443, section 2.1).
 pub(crate) const ICMP_CHECKSUM_AT: usize = Icmpv6Header::CHECKSUM_AT;
 
-/// Whether the length field of a UDP packet is 0 although it could count the packet.
+/// Whether the length field of a UDP packet is 0, although the field could count the packet.
 #[inline(always)]
 pub(crate) fn lacks_length(transport: &TransportSlice<'_>) -> bool
     ensures lacks { result ≡ specs.lacks_length transport.now }
@@ -40,7 +42,7 @@ pub(crate) fn lacks_length(transport: &TransportSlice<'_>) -> bool
     }
 }
 
-/// The verdict over these addresses. The length field of a UDP packet is not checked.
+/// The verdict on the packet over these addresses. The length field of a UDP packet is not checked.
 #[inline(always)]
 pub(crate) fn verdict_over(
     addresses: IpAddresses<'_>,
@@ -86,7 +88,7 @@ fn is_too_long_over_ipv4(transport: &TransportSlice<'_>) -> bool
     }
 }
 
-/// The verdict over IPv4.
+/// The verdict on the packet over IPv4. ICMPv6 is not tested.
 #[inline(always)]
 fn verdict_over_ipv4(
     source: [u8; 4],
@@ -104,7 +106,7 @@ fn verdict_over_ipv4(
     }
 }
 
-/// The verdict over IPv6.
+/// The verdict on the packet over IPv6. ICMPv4 is not tested.
 #[inline(always)]
 fn verdict_over_ipv6(
     source: [u8; 16],

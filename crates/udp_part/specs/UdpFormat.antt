@@ -35,7 +35,7 @@ header_of bytes = record {
   checksum = be_number bytes 6 2;
 }
 
--- the bytes are accepted, and read as this header and the bytes after it
+-- the bytes are accepted, and read as this header and the rest of the bytes
 pub record DecodesAs (bytes : List ℕ) (header : UdpHeader) (rest : List ℕ) : Type 0 where
   pub accepted : refusal bytes ≡ None
   pub fields : header ≡ header_of bytes
@@ -55,7 +55,7 @@ wire header =
 
 -- ---- the checksum
 
--- the length of the longest payload that the length field can count; it has 16 bits, and counts the header too (RFC 768)
+-- the length of the longest payload that the length field can count; the field has 16 bits, and counts the header too (RFC 768)
 abbrev pub max_payload_len : ℕ
 max_payload_len = 65535 - layout.header_len
 
@@ -69,11 +69,12 @@ abbrev pub checksummed : List ℕ → UdpHeader → List ℕ → ℕ
 checksummed pseudo_header header payload =
     total pseudo_header + total (wire (record header { checksum = 0 })) + total payload
 
--- the sum from which the checksum is computed, over IPv4 and over IPv6; the pseudo header contains the length field of the header
+-- the sum from which the checksum over IPv4 is computed; the pseudo header contains the length field of the header
 abbrev pub checksummed_ipv4 : List ℕ → List ℕ → UdpHeader → List ℕ → ℕ
 checksummed_ipv4 source destination header payload =
     checksummed (ipv4_pseudo_header source destination udp_number header.length) header payload
 
+-- the sum from which the checksum over IPv6 is computed; the pseudo header contains the length field of the header
 abbrev pub checksummed_ipv6 : List ℕ → List ℕ → UdpHeader → List ℕ → ℕ
 checksummed_ipv6 source destination header payload =
     checksummed (ipv6_pseudo_header source destination udp_number header.length) header payload

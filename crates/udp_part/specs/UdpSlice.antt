@@ -12,7 +12,7 @@ use Rattle.udp_part.specs.UdpFormat.{layout, refusal}
 abbrev pub length_field : List ℕ → ℕ
 length_field bytes = be_number bytes 4 2
 
--- the length field is valid: it counts at least a header, and at most the bytes of the slice
+-- the length field is valid: it counts at least the bytes of a header, and at most the bytes of the slice
 abbrev pub length_counts : List ℕ → Bool
 length_counts bytes = not (nat_lt (length_field bytes) layout.header_len) && not (nat_lt (length bytes) (length_field bytes))
 
@@ -43,6 +43,6 @@ strict_refusal bytes = first_of (
 abbrev pub cut : List ℕ → List ℕ
 cut bytes = if length_counts bytes then take (length_field bytes) bytes else bytes
 
--- what states the length of this packet
+-- what states the length of this packet: its length field, or the slice
 abbrev pub len_source_of : List ℕ → LenSource
 len_source_of kept = if length_field kept == length kept then UdpHeaderLen else Slice

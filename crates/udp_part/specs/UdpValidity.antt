@@ -9,11 +9,13 @@ use Rattle.net_base.specs.StoredChecksum.{udp_checksum_place}
 abbrev pub checksum_field : List ℕ → ℕ
 checksum_field bytes = be_number bytes udp_checksum_place 2
 
--- the one's complement sum of pseudo header and packet is all ones; the pseudo header contains the number of bytes of the packet, not its
--- length field
+-- the one's complement sum of the pseudo header over IPv4 and the packet is all ones; the pseudo header contains the number of bytes of the
+-- packet, not its length field
 abbrev pub SumsUpOverIpv4 : List ℕ → List ℕ → List ℕ → Type 0
 SumsUpOverIpv4 source destination bytes = VerifiesOverIpv4 source destination udp_number bytes
 
+-- the one's complement sum of the pseudo header over IPv6 and the packet is all ones; the pseudo header contains the number of bytes of the
+-- packet, not its length field
 abbrev pub SumsUpOverIpv6 : List ℕ → List ℕ → List ℕ → Type 0
 SumsUpOverIpv6 source destination bytes = VerifiesOverIpv6 source destination udp_number bytes
 

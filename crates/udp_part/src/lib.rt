@@ -4,9 +4,9 @@
 //! packet, which the length field counts. A slice returns bytes borrowed from its input. This crate re-exports the
 //! errors and the IP headers of `net_base`, and the sum of `word_sum`.
 //!
-//! Over IPv4, a checksum of 0 means that a received packet has no checksum. Over IPv6, 0 is wrong. A `UdpSlice`
-//! excludes bytes after the packet, such as Ethernet padding, unless the length field is 0. `UdpHeader::from_slice`
-//! returns them with the bytes after the header.
+//! Over IPv4, a checksum of 0 means that a received packet has no checksum. Over IPv6, 0 is wrong. A `UdpSlice` excludes bytes after the
+//! packet, such as Ethernet padding, unless the length field is 0. `UdpHeader::from_slice` does not exclude them: it returns all bytes
+//! after the header.
 //!
 //! ```
 //! let packet = UdpSlice::from_slice(bytes)?;

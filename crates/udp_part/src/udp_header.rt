@@ -81,7 +81,7 @@ impl UdpHeader {
     /// The length of the longest payload that 32 bits can count, in bytes: 4,294,967,295 minus the length of the header.
     const MAX_PAYLOAD_LEN_32_BITS: usize = u32::MAX as usize - UdpHeader::LEN;
 
-    /// A header with the checksum 0. Over IPv4, 0 means that there is no checksum (RFC 768).
+    /// A header for a payload of this length, with the checksum 0. Over IPv4, 0 means that there is no checksum (RFC 768).
     ///
     /// # Errors
     ///
@@ -315,7 +315,7 @@ impl UdpHeader {
             (checksummed_ipv4 ip_header.now.source ip_header.now.destination self.now payload.now)) }
         ensures verifies { IfOk result (λ checksum. IsAllOnes
             (checksummed_ipv4 ip_header.now.source ip_header.now.destination self.now payload.now + checksum)) }
-        // A packet of the header with this checksum, and of this payload, is valid.
+        // If the length field is right, a packet of the header with this checksum and of this payload is valid.
         ensures sums_up { self.now.length ≡ 8 + length payload.now → IfOk result (λ checksum. SumsUpOverIpv4
             ip_header.now.source ip_header.now.destination (wire (record self.now { checksum = checksum }) ++ payload.now)) }
         ensures valid { self.now.length ≡ 8 + length payload.now → IfOk result (λ checksum. IsValidUdpIpv4
@@ -342,7 +342,7 @@ impl UdpHeader {
             (checksummed_ipv4 source destination self.now payload.now)) }
         ensures verifies { IfOk result (λ checksum. IsAllOnes
             (checksummed_ipv4 source destination self.now payload.now + checksum)) }
-        // A packet of the header with this checksum, and of this payload, is valid.
+        // If the length field is right, a packet of the header with this checksum and of this payload is valid.
         ensures sums_up { self.now.length ≡ 8 + length payload.now → IfOk result (λ checksum. SumsUpOverIpv4
             source destination (wire (record self.now { checksum = checksum }) ++ payload.now)) }
         ensures valid { self.now.length ≡ 8 + length payload.now → IfOk result (λ checksum. IsValidUdpIpv4
@@ -444,8 +444,8 @@ impl UdpHeader {
     }
 
     /// The sum of the header without its checksum, and of the protocol and the length in the pseudo header (RFC 768). Over IPv6 these two
-    /// fields have 4 bytes each (RFC 8200, section 8.1), but only the last 2 bytes of the length and the last byte of the protocol are not
-    /// 0.
+    /// fields have 4 bytes each (RFC 8200, section 8.1). Only the last 2 bytes of the length and the last byte of the protocol can be other
+    /// than 0.
     // perf: the addresses are added after these fields, since numbers this small have no carry. Over IPv6 a packet of 8 bytes went from
     // 1.26 to 1.48 of the speed of `etherparse` (25 Nov 2026). The fields are added as numbers, with one shift instead of a swap for each
     // field, which saves three to four instructions of 67 (27 Nov 2026).

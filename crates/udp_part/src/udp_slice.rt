@@ -115,8 +115,8 @@ impl<'a> UdpSlice<'a> {
         &self.slice[UdpHeader::LEN..]
     }
 
-    /// What states the length of the payload. It is the length field if this equals the length of header and payload, otherwise the length
-    /// of the slice that was passed in.
+    /// The source of the payload length. It is the length field if the field equals the length of header and payload. Otherwise it is the
+    /// length of the slice that was passed in.
     pub fn payload_len_source(&self) -> LenSource
         ensures { result ≡ len_source_of self.now }
     {
@@ -141,8 +141,8 @@ impl<'a> UdpSlice<'a> {
         u16::from_be_bytes([self.slice[2], self.slice[3]])
     }
 
-    /// The length of header and payload that the header states, in bytes (bytes 4 and 5). It is 0 or the length of the slice. After
-    /// `from_slice_lax` it can be any number.
+    /// The length of header and payload that the header states, in bytes (bytes 4 and 5). After `from_slice` it is 0 or the length of the
+    /// slice. After `from_slice_lax` it can be any number.
     pub fn length(&self) -> u16
         ensures { result ≡ be_number self.now 4 2 }
     {
@@ -157,7 +157,7 @@ impl<'a> UdpSlice<'a> {
         u16::from_be_bytes([self.slice[6], self.slice[7]])
     }
 
-    /// Whether the checksum over IPv4 is right. It is right if it is 0, which means that there is no checksum (RFC 768). It is also right
+    /// Whether the checksum over IPv4 is right. It is right if it is 0, since 0 means that there is no checksum (RFC 768). It is also right
     /// if the one's complement sum of pseudo header and packet is all ones (RFC 1071, section 1).
     ///
     /// The sum covers all bytes of the slice, and the pseudo header contains their number, whatever the length field is. So a truncated
@@ -165,18 +165,19 @@ impl<'a> UdpSlice<'a> {
     /// bytes, the result is false.
     ///
     /// This check detects each change of one byte of a packet with a right checksum. It detects each change of one aligned two-byte word,
-    /// except between 0000 and FFFF. It does not detect that two aligned words were exchanged. If the checksum becomes 0, it detects no
-    /// change.
+    /// except between 0000 and FFFF. It does not detect that two aligned words were exchanged. If the checksum becomes 0, the check detects
+    /// no change.
     pub fn is_checksum_valid_ipv4(&self, source: [u8; 4], destination: [u8; 4]) -> bool
         ensures valid { IsTrue result ↔ IsValidUdpIpv4 source destination self.now }
-        // The stored checksum is right exactly if the sender of the packet would store it.
+        // Assume that there is a checksum, and that the length field is right. Then the stored checksum is right exactly if the sender of
+        // the packet would store it.
         ensures agrees { checksum_field self.now ≢ 0 → length_field self.now ≡ length self.now →
             (IsTrue result ↔ (checksum_field self.now ≡ udp_checksum_of
             (checksummed_ipv4 source destination (header_of self.now) (drop 8 self.now)))) }
-        // These are the changes of a packet with a checksum that the check detects, and the changes that it does not detect.
+        // This states which changes of a packet with a checksum the check detects, and which changes it does not detect.
         ensures detects { IsTrue result → checksum_field self.now ≢ 0
             → Detects (SumsUpOverIpv4 source destination) self.now }
-        // So exactly these packets of the same length are valid.
+        // So another packet of the same length is valid exactly if it has no checksum, or has the same sum modulo 65535.
         ensures valid_others { IsTrue result → checksum_field self.now ≢ 0 → (other : List ℕ) → length other ≡ length self.now →
             (IsValidUdpIpv4 source destination other
             ↔ ((checksum_field other ≡ 0) ⊎ (total other % all_ones ≡ total self.now % all_ones))) }
@@ -205,13 +206,14 @@ impl<'a> UdpSlice<'a> {
     /// becomes 0.
     pub fn is_checksum_valid_ipv6(&self, source: [u8; 16], destination: [u8; 16]) -> bool
         ensures valid { IsTrue result ↔ IsValidUdpIpv6 source destination self.now }
-        // The stored checksum is right exactly if the sender of the packet would store it.
+        // Assume that there is a checksum, and that the length field is right. Then the stored checksum is right exactly if the sender of
+        // the packet would store it.
         ensures agrees { checksum_field self.now ≢ 0 → length_field self.now ≡ length self.now →
             (IsTrue result ↔ (checksum_field self.now ≡ udp_checksum_of
             (checksummed_ipv6 source destination (header_of self.now) (drop 8 self.now)))) }
-        // These are the changes that the check detects, and the changes that it does not detect.
+        // This states which changes the check detects, and which changes it does not detect.
         ensures detects { IsTrue result → Detects (SumsUpOverIpv6 source destination) self.now }
-        // So exactly these packets of the same length are valid.
+        // So another packet of the same length is valid exactly if its checksum is not 0, and it has the same sum modulo 65535.
         ensures valid_others { IsTrue result → (other : List ℕ) → length other ≡ length self.now →
             (IsValidUdpIpv6 source destination other
             ↔ ((checksum_field other ≢ 0) × (total other % all_ones ≡ total self.now % all_ones))) }

@@ -8,8 +8,8 @@ total [] = 0
 total (high ∷ []) = high * 256
 total (high ∷ (low ∷ rest)) = high * 256 + low + total rest
 
--- The one's complement sum: each carry out of the 16 bits is added back at the low end. This changes n by a multiple of 65535. The result
--- is 1 to 65535, or 0 if n is 0 (RFC 1071, section 1).
+-- The one's complement sum of a total: each carry out of the 16 bits is added back at the low end. This changes the total by a multiple of
+-- 65535. The result is 1 to 65535, or 0 if the total is 0 (RFC 1071, section 1).
 unfoldable pub folded : ℕ → ℕ
 folded zero = 0
 folded (suc n) = 1 + n % 65535
@@ -47,7 +47,7 @@ Verifies pseudo_header packet = IsAllOnes (total pseudo_header + total packet)
 abbrev pub AcceptsChecksum : ℕ → ℕ → Type 0
 AcceptsChecksum n stored = (stored ≡ checksum_of n) ⊎ ((checksum_of n ≡ 0) × (stored ≡ all_ones))
 
--- the value of a running sum that has this value before the pieces are added to it, one after the other
+-- the value of a running sum after these pieces are added to it, one after the other; the sum has this value before
 abbrev pub sum_of_pieces : ℕ → List (List ℕ) → ℕ
 sum_of_pieces value [] = value
 sum_of_pieces value (piece ∷ pieces) = sum_of_pieces (folded (value + total piece)) pieces

@@ -17,8 +17,8 @@ added_value change = sum_value change.added
 abbrev pub TurnsInto : ChecksumChange → ℕ → ℕ → Type 0
 TurnsInto change packet changed = TurnsIntoBy (removed_value change) (added_value change) packet changed
 
--- The change is extended by one replacement. If the change turns a packet into `between`, and replacing the old bytes by the new bytes
--- turns `between` into `changed`, the extended change turns the packet into `changed`.
+-- `extended` is the change with one more replacement. Assume that the change turns a packet into `between`, and that `between` with the new
+-- bytes instead of the old bytes is `changed`. Then `extended` turns the packet into `changed`.
 abbrev pub IsExtendedBy : ChecksumChange → List ℕ → List ℕ → ChecksumChange → Type 0
 IsExtendedBy change old new extended = (packet between changed : ℕ) → changed + total old ≡ between + total new
     → TurnsInto change packet between → TurnsInto extended packet changed

@@ -2,8 +2,8 @@
 use Rattle.std.specs.Prelude.{◌≡◌, ℕ, ◌+◌, ◌%◌, ◌==◌, if◌then◌else◌, List, ◌++◌, length}
 use Rattle.word_sum.specs.Checksum.{checksum_of, complement, folded, zero_as_all_ones}
 
--- the new checksum after some bytes were replaced, from the old checksum and the one's complement sums of the removed and of the added
--- bytes: ~(~HC + ~m + m') (RFC 1624, section 3, equation 3)
+-- the new checksum after some bytes were replaced; it is computed from the old checksum, and from the one's complement sums of the removed
+-- bytes and of the added bytes: ~(~HC + ~m + m') (RFC 1624, section 3, equation 3)
 abbrev pub updated_checksum_of : ℕ → ℕ → ℕ → ℕ
 updated_checksum_of checksum removed added = checksum_of (complement checksum + complement removed + added)
 
@@ -12,8 +12,8 @@ abbrev pub updated_udp_checksum_of : ℕ → ℕ → ℕ → ℕ
 updated_udp_checksum_of checksum removed added =
     if checksum == 0 then 0 else zero_as_all_ones (updated_checksum_of checksum removed added)
 
--- These two sums can belong to a change that turns a packet with the first total into a packet with the second total. The packet plus the
--- added bytes has the same sum as the changed packet plus the removed bytes.
+-- A change with these sums of removed and added bytes can turn a packet with the first total into a packet with the second total. The
+-- packet plus the added bytes has the same sum as the changed packet plus the removed bytes.
 abbrev pub TurnsIntoBy : ℕ → ℕ → ℕ → ℕ → Type 0
 TurnsIntoBy removed added packet changed = folded (packet + added) ≡ folded (changed + removed)
 

@@ -9,9 +9,9 @@ ghost use Rattle.word_sum.specs.Checksum.{folded, total};
 
 /// A running one's complement sum of 16 bit big-endian words (RFC 1071, section 1).
 ///
-/// The sum is kept in 64 bits, and only the two complements fold it to 16 bits. 2^16 is 1 modulo 65535, so a number of any width
-/// is equivalent to the sum of its words, and bytes can be added eight at a time (RFC 1071, section 2 (C)). The numbers are
-/// little-endian, as most machines read them, so the two bytes of the folded sum are swapped once (RFC 1071, section 2 (B)).
+/// The sum is stored in 64 bits, and is folded to 16 bits only when a checksum is computed. 2^16 is 1 modulo 65535, so a number of any
+/// width is equivalent to the sum of its words. Hence bytes can be added eight at a time (RFC 1071, section 2 (C)). The numbers are
+/// little-endian, as most machines read them. So the two bytes of the folded sum are swapped once (RFC 1071, section 2 (B)).
 ///
 /// ```
 /// use etherparse_transport::checksum::Sum16BitWords;
@@ -28,7 +28,7 @@ pub struct Sum16BitWords {
     word: u64,
 }
 
-/// The length in bytes of a block, whose numbers are added with one chain of carries.
+/// The length of a block, in bytes. The numbers of a block are added with one chain of carries.
 // perf: a chain adds eight bytes by one instruction. In Rust, compiled by rustc 1.95 for x86-64-v2, the sum of 64, 200
 // and 256 bytes executes 58, 84 and 94 instructions. With a carry for each number up to 192 bytes, and above that two
 // sums without a carry, it executed 70, 161 and 174. With blocks of 64 bytes, 9,000 bytes take a seventh longer (27
@@ -72,13 +72,13 @@ impl Sum16BitWords {
     }
 
     /// Adds the words of a slice. If the length is odd, the last byte is the high half of a word whose low half is zero. So only the last
-    /// of several slices may have an odd length. Where the data is cut into slices does not matter otherwise (RFC 1071, section 2 (A)).
+    /// of several slices may have an odd length. Otherwise it does not matter where the data is cut into slices (RFC 1071, section 2 (A)).
     pub fn add_slice(self, slice: &[u8]) -> Sum16BitWords
         ensures sum { sum_value result ≡ folded (sum_value self + total slice.now) }
-        // Adding the front and then the back gives the same sum as adding the slice.
+        // If the length of the front is even, adding the front and then the back gives the same sum as adding the slice.
         ensures cuts { (front : List ℕ) → (back : List ℕ) → slice.now ≡ front ++ back → length front % 2 ≡ 0 →
             sum_value result ≡ folded (folded (sum_value self + total front) + total back) }
-        // Adding any number of pieces gives the same sum as adding the slice.
+        // If all pieces except the last have an even length, adding them one after the other gives the same sum as adding the slice.
         ensures pieces { (pieces : List (List ℕ)) → slice.now ≡ concat pieces → AllEvenButLast pieces →
             sum_value result ≡ sum_of_pieces (sum_value self) pieces }
     {
@@ -110,18 +110,18 @@ impl Sum16BitWords {
         self.add_number(u64::from_le_bytes(value))
     }
 
-    /// Adds a little-endian number, which is equivalent to the sum of its four words with their bytes swapped.
+    /// Adds a little-endian number. It is equivalent to the sum of its four words, whose bytes are swapped.
     fn add_number(self, number: u64) -> Sum16BitWords
         ensures { sum_value result ≡ folded (sum_value self + number * 256) }
     {
         let sum = self.word.wrapping_add(number);
-        // If the sum wrapped, it is below the number. So adding the carry at the low end cannot overflow.
+        // If the sum wrapped, it is below `number`. So adding the carry at the low end cannot overflow.
         Sum16BitWords {
             word: sum + u64::from(sum < number),
         }
     }
 
-    /// Adds the words of a slice: first its whole numbers of eight bytes, and then the bytes after them.
+    /// Adds the words of a slice: its numbers of eight bytes, and the bytes after the last number.
     #[inline(always)]
     fn add_bytes(self, slice: &[u8]) -> Sum16BitWords
         ensures { sum_value result ≡ folded (sum_value self + total slice.now) }
@@ -142,12 +142,12 @@ impl Sum16BitWords {
         requires { count < 8 }
         ensures { sum_value result ≡ folded (sum_value self + total (drop (8 - count) bytes.now)) }
     {
-        // `count` is at most 7, so the first byte is never added. Shifting by 8 first avoids a shift by 64, which is not possible.
+        // `count` is at most 7, so the first byte is never added. Two shifts are used, since one shift by 64 bits is not possible.
         let number = u64::from_le_bytes(*bytes) >> 8;
         self.add_number(number >> (56 - 8 * count))
     }
 
-    /// Adds whole numbers of eight bytes.
+    /// Adds the words of a slice that consists of numbers of eight bytes.
     #[inline(always)]
     fn add_numbers(self, numbers: &[u8]) -> Sum16BitWords
         requires { length numbers.now % 8 ≡ 0 }
@@ -164,7 +164,7 @@ impl Sum16BitWords {
         sum.add_short(rest)
     }
 
-    /// Adds whole numbers of eight bytes, which are shorter than a block.
+    /// Adds the words of a slice that consists of numbers of eight bytes, and is shorter than a block.
     #[inline(always)]
     fn add_short(self, numbers: &[u8]) -> Sum16BitWords
         requires whole { length numbers.now % 8 ≡ 0 }
@@ -254,7 +254,7 @@ fn add_with_carry(word: u64, number: u64, carry: bool) -> (u64, bool)
     (next, (sum < number) | (next < sum))
 }
 
-/// Adds the upper half of a number to its lower half, and the carry at the low end.
+/// Adds the upper 32 bits of a number to its lower 32 bits, and then the carry at the low end.
 fn fold_to_32_bits(number: u64) -> u32
     ensures { folded result ≡ folded number }
 {
@@ -264,7 +264,7 @@ fn fold_to_32_bits(number: u64) -> u32
     sum + u32::from(sum < lower)
 }
 
-/// Adds the upper half of a number to its lower half, and the carry at the low end.
+/// Adds the upper 16 bits of a number to its lower 16 bits, and then the carry at the low end.
 fn fold_to_16_bits(number: u32) -> u16
     ensures { folded result ≡ folded number }
 {

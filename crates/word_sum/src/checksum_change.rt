@@ -21,13 +21,13 @@ use std::fmt;
 /// A change of the data that a checksum covers: some bytes are replaced by others (RFC 1624).
 ///
 /// For example, a router lowers a time to live. An address translator replaces a port and an address, which is part of the pseudo header.
-/// Make one change of all replacements, and apply it to the checksum of each packet in which they are made. A translator can keep one
-/// change for each flow.
+/// Make one change of all replacements, and apply it to the checksum of each packet in which these replacements are made. A translator can
+/// keep one change for each flow.
 ///
 /// Each replaced part begins at an even place of the data that the checksum covers. To replace a byte at an odd place, replace its whole
-/// word, for example time to live and protocol of an IPv4 header.
+/// word. For example, one word of an IPv4 header contains time to live and protocol.
 ///
-/// Two changes are equal if their replaced words have equal one's complement sums, and their new words too. Equal changes give equal
+/// Two changes are equal if the sums of their old words are equal, and the sums of their new words are equal. Equal changes give equal
 /// updated checksums.
 ///
 /// ```
@@ -157,14 +157,16 @@ impl ChecksumChange {
         // If all bytes of the changed packet are zeros, the result is 0, while the right checksum is 65535.
         ensures zeros { (packet changed : ℕ) → TurnsInto self packet changed → checksum ≡ checksum_of packet →
             changed ≡ 0 → result ≡ 0 }
-        // For any checksum, the error stays the same: the sum of the packet and its checksum has the same remainder modulo 65535.
+        // For any checksum, the sum of the packet and its checksum keeps its remainder modulo 65535. So the error of a wrong checksum stays
+        // the same.
         ensures remainder { (packet changed : ℕ) → TurnsInto self packet changed →
             (changed + result) % 65535 ≡ (packet + checksum) % 65535 }
         // If a receiver accepts the packet, it accepts the changed packet, unless all bytes of the changed packet, checksum included, are
         // zeros.
         ensures verifies { (packet changed : ℕ) → TurnsInto self packet changed → IsAllOnes (packet + checksum) →
             (IsAllOnes (changed + result)) ↔ (changed + result ≢ 0) }
-        // The reversed change restores the checksum, except for 65535. That becomes 0, the other zero of the one's complement.
+        // The reversed change restores the checksum, except for 65535. The checksum 65535 becomes 0, the other zero of the one's
+        // complement.
         ensures reversed { (updated_checksum_of result (added_value self) (removed_value self) ≡ checksum) ↔ (checksum ≢ all_ones) }
     {
         self.updated_sum(checksum).ones_complement()
@@ -172,8 +174,8 @@ impl ChecksumChange {
 
     /// The checksum of the changed packet, computed from the old checksum. It is stored as in UDP (RFC 768), and is right for every packet.
     ///
-    /// A value of 0 means that the packet has no checksum, and it stays 0. No other value becomes 0. IPv6 requires a checksum. So a
-    /// translator from IPv4 to IPv6 has to compute the checksum of a packet without a checksum.
+    /// A value of 0 means that the packet has no checksum, and it stays 0. No other value becomes 0. IPv6 requires a checksum. So if a
+    /// packet has none, a translator from IPv4 to IPv6 has to compute the checksum.
     #[inline(always)]
     pub fn apply_udp(self, checksum: u16) -> u16
         ensures equation { result ≡ updated_udp_checksum_of checksum (removed_value self) (added_value self) }
@@ -181,10 +183,10 @@ impl ChecksumChange {
         // A right checksum becomes the right checksum of the changed packet, and a wrong checksum stays wrong.
         ensures updated { (packet changed : ℕ) → TurnsInto self packet changed →
             (result ≡ udp_checksum_of changed) ↔ (checksum ≡ udp_checksum_of packet) }
-        // The error of a wrong checksum stays the same, modulo 65535.
+        // For any checksum other than 0, the sum of the packet and its checksum keeps its remainder modulo 65535.
         ensures remainder { (packet changed : ℕ) → TurnsInto self packet changed → checksum ≢ 0 →
             (changed + result) % 65535 ≡ (packet + checksum) % 65535 }
-        // For any checksum, a receiver accepts the changed packet exactly if it accepts the packet.
+        // For any checksum other than 0, a receiver accepts the changed packet exactly if it accepts the packet.
         ensures verifies { (packet changed : ℕ) → TurnsInto self packet changed → checksum ≢ 0 →
             (IsAllOnes (changed + result)) ↔ (IsAllOnes (packet + checksum)) }
         // The reversed change restores the checksum.
@@ -196,7 +198,7 @@ impl ChecksumChange {
         self.updated_sum(checksum).to_ones_complement_with_no_zero()
     }
 
-    /// The sum of the data that the checksum of the changed packet covers, computed from the old checksum.
+    /// The sum of the changed data that a checksum covers, computed from the old checksum.
     #[inline(always)]
     fn updated_sum(self, checksum: u16) -> Sum16BitWords
         ensures { sum_value result ≡ folded (complement checksum + complement (removed_value self) + added_value self) }
@@ -252,7 +254,7 @@ fn value_of(sum: Sum16BitWords) -> u16
     !sum.ones_complement()
 }
 
-/// A sum with the words that were added to either of the two sums.
+/// The sum of all words that were added to the first sum or to the second sum.
 fn sum_of_both(first: Sum16BitWords, second: Sum16BitWords) -> Sum16BitWords
     ensures { sum_value result ≡ folded (sum_value first + sum_value second) }
 {
@@ -261,8 +263,8 @@ fn sum_of_both(first: Sum16BitWords, second: Sum16BitWords) -> Sum16BitWords
 
 /// The checksum of a packet after the bytes at one even place were replaced. It is stored as in TCP, ICMP and the IPv4 header.
 ///
-/// Both lengths are even, or both are odd. `ChecksumChange` replaces several parts, and its `apply` describes the packet for which the
-/// checksum is wrong.
+/// Both lengths are even, or both are odd. `ChecksumChange` replaces several parts. `ChecksumChange::apply` describes the only packet for
+/// which the result is wrong.
 pub fn updated_checksum(checksum: u16, old: &[u8], new: &[u8]) -> u16
     ensures equation { result ≡ updated_checksum_of checksum (folded (total old.now)) (folded (total new.now)) }
     // A right checksum becomes the right checksum of the changed packet, unless all bytes of the changed packet are zeros.
@@ -271,7 +273,8 @@ pub fn updated_checksum(checksum: u16, old: &[u8], new: &[u8]) -> u16
     // If all bytes of the changed packet are zeros, the result is 0, while the right checksum is 65535.
     ensures zeros { (packet changed : List ℕ) → PartReplaced old.now new.now packet changed →
         checksum ≡ checksum_of (total packet) → total changed ≡ 0 → result ≡ 0 }
-    // For any checksum, the error stays the same: the sum of the packet and its checksum has the same remainder modulo 65535.
+    // For any checksum, the sum of the packet and its checksum keeps its remainder modulo 65535. So the error of a wrong checksum stays the
+    // same.
     ensures remainder { (packet changed : List ℕ) → PartReplaced old.now new.now packet changed →
         (total changed + result) % 65535 ≡ (total packet + checksum) % 65535 }
     // If a receiver accepts the packet, it accepts the changed packet, unless all bytes of the changed packet, checksum included, are
@@ -294,10 +297,10 @@ pub fn updated_udp_checksum(checksum: u16, old: &[u8], new: &[u8]) -> u16
     // A right checksum becomes the right checksum of the changed packet, and a wrong checksum stays wrong.
     ensures updated { (packet changed : List ℕ) → PartReplaced old.now new.now packet changed →
         (result ≡ udp_checksum_of (total changed)) ↔ (checksum ≡ udp_checksum_of (total packet)) }
-    // The error of a wrong checksum stays the same, modulo 65535.
+    // For any checksum other than 0, the sum of the packet and its checksum keeps its remainder modulo 65535.
     ensures remainder { (packet changed : List ℕ) → PartReplaced old.now new.now packet changed → checksum ≢ 0 →
         (total changed + result) % 65535 ≡ (total packet + checksum) % 65535 }
-    // For any checksum, a receiver accepts the changed packet exactly if it accepts the packet.
+    // For any checksum other than 0, a receiver accepts the changed packet exactly if it accepts the packet.
     ensures verifies { (packet changed : List ℕ) → PartReplaced old.now new.now packet changed → checksum ≢ 0 →
         (IsAllOnes (total changed + result)) ↔ (IsAllOnes (total packet + checksum)) }
 {

@@ -32,7 +32,8 @@ impl CaptureHeader {
     /// The length of the header, in bytes.
     pub const LEN: usize = 24;
 
-    /// Reads a header: magic number (bytes 0 to 3), version (4 to 7), snap length (16 to 19), and link type (the low 16 bits of 20 to 23).
+    /// Reads a header: the magic number in bytes 0 to 3, the version in bytes 4 to 7, and the snap length in bytes 16 to 19. The link type
+    /// is in the low 16 bits of bytes 20 to 23.
     ///
     /// # Errors
     ///
@@ -40,7 +41,7 @@ impl CaptureHeader {
     /// - `Pcapng` if the bytes begin a pcapng file
     /// - `Modified` if the bytes begin with the magic number of the modified format, in either byte order
     /// - `Magic` if the first four bytes are not a magic number in either byte order
-    /// - `Version` if the major version is not 2, or the version is below 2.4
+    /// - `Version` if the major version is not 2, or the minor version is below 4
     pub fn from_bytes(bytes: &[u8; 24]) -> Result<CaptureHeader, CaptureHeaderError>
         ensures refused { RefusesExactly result (header_refusal bytes.now) }
         ensures read { IfOk result (IsHeaderOf bytes.now) }
@@ -89,7 +90,8 @@ fn magic_error(bytes: &[u8]) -> CaptureHeaderError
     CaptureHeaderError::Magic { magic }
 }
 
-/// The byte order and the resolution that the first four bytes of a capture state. `None` if the four bytes are not a magic number.
+/// The byte order and the resolution that the first four bytes of a capture state. `None` if the four bytes are not a magic number in
+/// either byte order.
 fn form_of(bytes: &[u8]) -> Option<(ByteOrder, Resolution)>
     requires { 4 ≤ length bytes.now }
     ensures { result ≡ form_of bytes.now }

@@ -21,7 +21,7 @@ pub enum CaptureHeaderError {
     /// The capture has the modified format of older Linux systems, in which the headers of records are longer (magic number A1B2CD34).
     #[error("The capture is in the modified form of older Linux systems, which is not read.")]
     Modified,
-    /// The version is not read: the major version is not 2, or the version is below 2.4 (draft-ietf-opsawg-pcap, section 4).
+    /// The version is not read: the major version is not 2, or the minor version is below 4 (draft-ietf-opsawg-pcap, section 4).
     #[error("The capture has version {major}.{minor}, which is not read.")]
     Version {
         /// The major version, in bytes 4 and 5.

@@ -1,4 +1,5 @@
-//! Laws of the records of a capture. Each law is the contract of a function that does nothing, so that it is checked with the calls.
+//! Laws of the records of a capture. Each law is the contract of a function, so that the law is checked together with the calls. All
+//! functions except `count_records` do nothing.
 ghost use Rattle.std.specs.Prelude.{◌≡◌, ℕ, IfOk, IfSome, List, length};
 ghost use Rattle.capture_file.specs.Classic.{AreBeforeCut, IsReading};
 ghost use Rattle.capture_file.specs.Laws.{AreUnique, Exist, RemainAtCut};
@@ -24,7 +25,7 @@ pub fn cut_captures()
 ///
 /// # Errors
 ///
-/// The error of the first read that fails, and `FileTooLarge` at 2^64 records.
+/// The error of the first read that fails, and `FileTooLarge` after 2^64 - 1 records.
 pub fn count_records<R: Read>(input: &mut R, order: ByteOrder, buffer: &mut [u8]) -> io::Result<u64>
     ensures { IfOk result (λ count. IfSome (R.remaining input.old) (λ all.
         (records : List (List ℕ)) × (rest : List ℕ) × IsReading order all records rest × (count ≡ length records))) }

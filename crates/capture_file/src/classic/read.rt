@@ -47,7 +47,7 @@ pub fn read_capture_header<R: Read>(
     read_header_after(input, &first[..len])
 }
 
-/// Reads the other bytes of the header of a capture, after its first bytes. Nothing is read if the input ended within the first bytes.
+/// Reads the rest of the header of a capture, after its first bytes. If `first` has fewer than 12 bytes, nothing is read.
 pub(crate) fn read_header_after<R: Read>(
     input: &mut R,
     first: &[u8],

@@ -18,8 +18,8 @@ impl RecordHeader {
     /// The length of the header, in bytes.
     pub const LEN: usize = 16;
 
-    /// Reads a header. It consists of four numbers of four bytes: the seconds and the fraction of the time, the captured length, and the
-    /// original length.
+    /// Reads a header. It consists of four numbers of four bytes each: the seconds and the fraction of the time, the captured length, and
+    /// the original length.
     pub fn from_bytes(order: ByteOrder, bytes: &[u8; 16]) -> RecordHeader
         ensures { result ≡ record_header order bytes.now }
     {

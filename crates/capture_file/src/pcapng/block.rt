@@ -30,7 +30,7 @@ impl<'a> Block<'a> {
     ///
     /// The errors of `BlockHeader::from_slice`, and then in this order:
     /// - `CutOff` if there are fewer bytes than the block contains
-    /// - `LastLength` if the total length in the last four bytes of the block differs from its bytes 4 to 7
+    /// - `LastLength` if the total length in the last four bytes of the block differs from the total length in bytes 4 to 7
     pub fn from_slice(
         section: ByteOrder,
         bytes: &'a [u8],
@@ -83,8 +83,11 @@ impl BlockHeader {
     ///
     /// # Errors
     ///
-    /// In this order: `CutOff` if there are fewer than 12 bytes, `Magic` if a section header block has no byte-order magic, `TotalLength`
-    /// if bytes 4 to 7 are not the length of a block, and `SectionLength` if a section header block is too short for its fields.
+    /// In this order:
+    /// - `CutOff` if there are fewer than 12 bytes
+    /// - `Magic` if a section header block has no byte-order magic
+    /// - `TotalLength` if the number in bytes 4 to 7 is below 12, or is not a multiple of 4
+    /// - `SectionLength` if a section header block is too short for its fields
     pub fn from_slice(section: ByteOrder, bytes: &[u8]) -> Result<BlockHeader, BlockError>
         ensures refused { RefusesExactly result (specs.block_header_refusal section bytes.now) }
         ensures read { IfOk result (λ header. header ≡ specs.block_header section bytes.now) }

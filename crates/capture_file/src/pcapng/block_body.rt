@@ -56,7 +56,7 @@ impl<'a> BlockBody<'a> {
     }
 }
 
-/// A section header block (draft-ietf-opsawg-pcapng, section 4.1). Its byte order is the byte order of its block.
+/// The content of a section header block (draft-ietf-opsawg-pcapng, section 4.1). The header of the block contains the byte order.
 #[derive(Clone, Copy, Debug, PartialEq, Eq)]
 pub struct SectionHeader {
     /// The major version of the section. It is always 1.
@@ -96,12 +96,12 @@ impl SectionHeader {
 /// A packet of a pcapng file (draft-ietf-opsawg-pcapng, sections 4.3 and 4.4, and appendix A).
 #[derive(Clone, Copy, Debug, PartialEq, Eq)]
 pub struct PacketBlock<'a> {
-    /// The number of the interface in its section, from 0.
+    /// The number of the packet's interface. The interfaces of a section are numbered from 0.
     pub interface: u32,
-    /// The time of the capture, in units of the interface's resolution, without the offset of the interface. `None` in a simple packet
-    /// block.
+    /// The time at which the packet was captured, in units of the interface's resolution. The offset of the interface is not added yet.
+    /// `None` in a simple packet block.
     pub timestamp: Option<u64>,
-    /// The length of the packet, in bytes.
+    /// The length of the packet on its link, in bytes.
     pub original_len: u32,
     /// The captured bytes of the packet.
     pub captured: &'a [u8],
@@ -112,8 +112,10 @@ impl<'a> PacketBlock<'a> {
     ///
     /// # Errors
     ///
-    /// In this order: `CutOff` if there are fewer than 20 bytes, `Interface` if the section has no such interface, and `CutOff` if the body
-    /// ends within the captured bytes.
+    /// In this order:
+    /// - `CutOff` if there are fewer than 20 bytes
+    /// - `Interface` if `interfaces` does not contain the packet's interface
+    /// - `CutOff` if the body ends within the captured bytes
     pub fn from_enhanced(
         order: ByteOrder,
         interfaces: &[InterfaceDescription],
@@ -148,13 +150,15 @@ impl<'a> PacketBlock<'a> {
         timed_packet(order, interface, interfaces.len(), body)
     }
 
-    /// Reads the body of a simple packet block (section 4.4). The packet was captured on the first interface. The snap length of this
-    /// interface limits the captured bytes.
+    /// Reads the body of a simple packet block (section 4.4). The packet was captured on the first interface. The number of captured bytes
+    /// is the smaller of the original length and the snap length of this interface. A snap length of 0 means that there is no limit.
     ///
     /// # Errors
     ///
-    /// In this order: `CutOff` if there are fewer than 4 bytes, `Interface` if there is no interface, and `CutOff` if the body ends within
-    /// the captured bytes. Their number is the smaller of the original length and the snap length.
+    /// In this order:
+    /// - `CutOff` if there are fewer than 4 bytes
+    /// - `Interface` if `interfaces` is empty
+    /// - `CutOff` if the body ends within the captured bytes
     pub fn from_simple(
         order: ByteOrder,
         interfaces: &[InterfaceDescription],

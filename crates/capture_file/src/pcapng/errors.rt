@@ -49,9 +49,9 @@ pub enum BodyError {
     /// The body ends within its fields, or within the captured bytes of a packet.
     #[error("The body of the block has at least {required_len} bytes, and {len} are left.")]
     CutOff {
-        /// The least length that the body has, in bytes.
+        /// The least number of bytes that the body needs.
         required_len: usize,
-        /// The number of bytes of the body.
+        /// The number of bytes of the body that are present.
         len: usize,
     },
     /// The version of the section is not read: its major version is not 1 (draft-ietf-opsawg-pcapng, section 4.1).
@@ -62,7 +62,7 @@ pub enum BodyError {
         /// The minor version, in bytes 6 and 7.
         minor: u16,
     },
-    /// The section does not describe the interface of the packet before the packet (section 4.3).
+    /// No earlier block of the section describes the interface of the packet (section 4.3).
     #[error("The packet is of interface {interface}, and the section has {count}.")]
     Interface {
         /// The number of the interface, from 0.

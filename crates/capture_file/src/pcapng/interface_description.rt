@@ -18,7 +18,7 @@ const IF_TSOFFSET: u16 = 14;
 pub struct InterfaceDescription {
     /// The number of the packets' link type. `LinkType::from_number` returns the link type, if it is read.
     pub link_type: u16,
-    /// The maximum number of captured bytes of a packet, or 0 if there is no such limit.
+    /// The maximum number of captured bytes of a packet, or 0 if this number is not limited.
     pub snap_len: u32,
     /// The unit of the timestamps: microseconds, unless the option `if_tsresol` states another unit.
     pub time_resolution: TimeResolution,
@@ -30,7 +30,8 @@ impl InterfaceDescription {
     /// The length of the body without options, in bytes: link type, two reserved bytes, and snap length.
     pub const LEN: usize = INTERFACE_DESCRIPTION_LEN;
 
-    /// Reads the body of an interface description block. If several options have the same code and length, only the first one is used.
+    /// Reads the body of an interface description block. Two of its options are used: the first `if_tsresol` with a value of one byte, and
+    /// the first `if_tsoffset` with a value of eight bytes.
     ///
     /// # Errors
     ///

@@ -1,11 +1,13 @@
-//! Laws of the blocks of a pcapng file. Each law is the contract of a function that does nothing, so that it is checked with the calls.
+//! Laws of the blocks of a pcapng file. Each law is the contract of a function that does nothing, so that the law is checked together with
+//! the calls.
 ghost use Rattle.std.specs.Prelude.{◌≡◌, ◌++◌, ℕ, List, None, take};
 ghost use Rattle.capture_file.specs.Classic.{AreBeforeCut};
 ghost use Rattle.capture_file.specs.Laws.{AreUnique, Exist, RemainAtCut};
 ghost use Rattle.capture_file.specs.Pcapng.{IsBlock, IsBlockReading, block_len, block_refusal};
 ghost use Rattle.capture_texts.specs.declared.byte_order.ByteOrder.{ByteOrder};
 
-/// If bytes are accepted, they begin with a block. If bytes begin with a block, they are accepted, whatever follows the block.
+/// Bytes that `Block::from_slice` accepts begin with a block. If bytes begin with a block, `Block::from_slice` accepts them, whatever
+/// follows the block.
 pub fn accepted_blocks()
     ensures begins { (section : ByteOrder) (bytes : List ℕ) → block_refusal section bytes ≡ None
         → IsBlock section (take (block_len section bytes) bytes) }

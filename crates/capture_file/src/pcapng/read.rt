@@ -20,8 +20,8 @@ pub enum NextBlock {
     Refused(BlockError),
 }
 
-/// Reads the next block of a pcapng file into the buffer, in a section with this byte order. Then `Block::from_slice` returns the block
-/// with its body.
+/// Reads the next block of a pcapng file into the buffer, in a section with this byte order. Use `Block::from_slice` on the buffer to get
+/// the block with its body.
 ///
 /// A block that is longer than the buffer is skipped, so that the next block can be read.
 ///
@@ -41,7 +41,7 @@ pub fn read_block<R: Read>(
     read_rest(input, section, &first[..len], buffer)
 }
 
-/// Reads the other bytes of a block, after its first bytes. Nothing is read if the input ended within the first bytes.
+/// Reads the rest of a block, after its first bytes. If `first` has fewer than 12 bytes, nothing is read.
 pub(crate) fn read_rest<R: Read>(
     input: &mut R,
     section: ByteOrder,
@@ -70,7 +70,7 @@ pub(crate) fn read_rest<R: Read>(
     }
 }
 
-/// Skips the other bytes of a block that is longer than the buffer, after its first bytes.
+/// Skips the rest of a block that is longer than the buffer, after its first bytes.
 fn pass_over<R: Read>(
     input: &mut R,
     section: ByteOrder,

@@ -11,7 +11,8 @@ pub enum TimeResolution {
     PowerOfTwo(u8),
 }
 
-/// Microseconds, the resolution of an interface without the option. The unused places of an `ArrayVec` contain default interfaces.
+/// Microseconds, the resolution of an interface without the option `if_tsresol`. The unused places of an `ArrayVec` contain default
+/// interfaces.
 impl Default for TimeResolution {
     ghost is_default = { λ resolution. resolution ≡ resolution_by None };
 

@@ -48,7 +48,7 @@ impl CaptureReader {
         }
     }
 
-    /// Reads the next packet. Its captured bytes are then in the buffer.
+    /// Reads the next item of the capture. After that, the buffer contains the captured bytes of a whole packet.
     ///
     /// # Errors
     ///
@@ -60,7 +60,7 @@ impl CaptureReader {
     ) -> io::Result<NextPacket>
         ensures reads { IfOk result (ReadsPacket self.old (R.remaining input.old) (R.remaining input.new) self.new buffer.new) }
         ensures within { IfOk result (IsNextWithin (length buffer.new)) }
-        // If reading fails or the next packet is cut off, the reader stays at the start of the record or block of this packet.
+        // If reading fails within a record or block, or the capture ends within it, the reader is at the start of this record or block.
         ensures fails { OnErr result (FailsToRead (length buffer.old) self.old (R.remaining input.old) (R.remaining input.new) self.new) }
         ensures cut_off { IfOk result (λ next. IfCutOff next (Seeks (length buffer.new) self.old (R.remaining input.old) self.new)) }
     {
@@ -99,7 +99,7 @@ impl ClassicReader {
         ClassicReader { header, offset }
     }
 
-    /// Reads the next packet. Its captured bytes are then at the front of the buffer.
+    /// Reads the next item of the capture. After that, the captured bytes of a whole packet are at the front of the buffer.
     ///
     /// # Errors
     ///

@@ -17,7 +17,7 @@ const TIMED_START: usize = BODY_AT + TIMED_CAPTURED_AT;
 pub struct CapturedPacket {
     /// The link type of the packet, or the number of a link type that is not read.
     pub link_type: Result<LinkType, u16>,
-    /// The byte order of the capture, or of the section of the packet.
+    /// The byte order of a classic capture, or of the packet's section in a pcapng file.
     pub byte_order: ByteOrder,
     /// The capture time. `None` for a simple packet block, which has no time.
     pub time: Option<PacketTime>,
@@ -44,7 +44,8 @@ impl CapturedPacket {
         }
     }
 
-    /// Returns the packet of a block of a pcapng file, which was captured on this interface. The whole block is in the buffer.
+    /// Returns the packet in a block of a pcapng file. The packet was captured on this interface. The whole block is at the front of the
+    /// buffer.
     pub fn from_block(
         header: BlockHeader,
         interface: InterfaceDescription,

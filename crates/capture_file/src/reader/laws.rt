@@ -1,4 +1,5 @@
-//! Laws of the packets of a capture. Each law is the contract of a function that does nothing, so that it is checked with the calls.
+//! Laws of the packets of a capture. Each law is the contract of a function that does nothing, so that the law is checked together with the
+//! calls.
 ghost use Rattle.std.specs.Prelude.{◌<◌, ◌^◌, ℕ, List, length};
 ghost use Rattle.capture_file.specs.CapturePackets.{AreFirstPackets, ArePacketsBeforeCut, HasPackets};
 ghost use Rattle.capture_file.specs.Laws.{AreUnique, Exist, RemainAtCut};
@@ -32,7 +33,7 @@ pub fn places()
     ensures { (room : ℕ) (file : List ℕ) → length file < 2 ^ 64 → OffsetsArePlaces room file }
 {}
 
-/// After any number of packets, the state of the reader depends only on the bytes of the capture. So does its state after the item that
+/// After any number of packets, the state of the reader depends only on the bytes of the capture. This is also true after the item that
 /// ends the packets. The state contains the interfaces, the texts, and the number of packets with a comment.
 pub fn one_reader()
     ensures { (room : ℕ) (reader : CaptureReader) (bytes : List ℕ) → LeavesOneReader room reader bytes }

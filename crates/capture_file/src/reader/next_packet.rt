@@ -28,7 +28,7 @@ pub struct TooLongPacket {
     pub link_type: Option<Result<LinkType, u16>>,
     /// The capture time. `None` for a skipped pcapng block.
     pub time: Option<PacketTime>,
-    /// The least length of a buffer that has room: the captured length of a record, or the length of a pcapng block.
+    /// The least length that the buffer needs: the captured length of a record, or the length of a pcapng block.
     pub required_len: u32,
     /// The length of the packet on its link, in bytes. `None` for a skipped pcapng block.
     pub original_len: Option<u32>,

@@ -70,7 +70,8 @@ impl PcapngReader {
         )
     }
 
-    /// Reads blocks up to the next block with a packet. The captured bytes of the packet are then in the buffer.
+    /// Reads blocks up to the next block that contains a packet or is refused, or up to the end of the file. After that, the buffer
+    /// contains the captured bytes of a whole packet.
     ///
     /// # Errors
     ///
@@ -159,10 +160,10 @@ fn next_by_too_long(offset: u64, header: BlockHeader) -> Option<NextPacket>
     }
 }
 
-/// The greatest number of interfaces of a section. A section that describes more interfaces is refused.
+/// The greatest number of interfaces of a section. A further interface description is refused.
 pub const MAX_INTERFACES: usize = 1024;
 
-/// What the blocks read so far state about the current section of a pcapng file. The later packets of the section depend on it.
+/// What the blocks that were read so far state about the current section of a pcapng file. The later packets of the section depend on it.
 #[derive(Clone, Debug, Drop)]
 pub struct Section {
     /// The byte order of the numbers in the section.

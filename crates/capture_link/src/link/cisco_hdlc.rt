@@ -7,7 +7,7 @@ ghost use Rattle.capture_link.specs.LinkHeaders.{Fits};
 use crate::link::LinkHeaderCutOff;
 use crate::link::header::{EtherHeader, FirstHeader, expect_len, short_at};
 
-/// The number of LINKTYPE_C_HDLC. It stands for the next protocol of a Cisco HDLC frame whose protocol is not read.
+/// The number of LINKTYPE_C_HDLC. This number stands for the next protocol of a Cisco HDLC frame whose protocol is not read.
 const LINK_TYPE: u16 = 104;
 
 /// The layout of the header: an address, a control byte, and the number of a protocol. The number is an ether type, except for SLARP and
@@ -26,7 +26,7 @@ const TO_ALL_STATIONS: u8 = 0x8F;
 /// The protocol number of SLARP, which resolves addresses and sends keepalives on serial lines. As an ether type this number is RARP.
 const SLARP: u16 = 0x8035;
 
-/// The protocol number of CDP. It has the same number in a SNAP header with Cisco's organization code.
+/// The protocol number of CDP, the Cisco Discovery Protocol. CDP has this number also in a SNAP header with Cisco's organization code.
 const CDP: u16 = 0x2000;
 
 /// The first header of a Cisco HDLC frame.

@@ -24,7 +24,7 @@ pub const OTHER_OLD_SERVICE_TAG: u16 = 0x9200;
 /// A stack of MPLS labels (RFC 3032, section 5).
 pub const MPLS: u16 = 0x8847;
 
-/// A stack of MPLS labels of a multicast packet (RFC 5332, section 3).
+/// A stack of MPLS labels before a multicast packet (RFC 5332, section 3).
 pub const MPLS_MULTICAST: u16 = 0x8848;
 
 /// PPPoE discovery (RFC 2516, section 4).

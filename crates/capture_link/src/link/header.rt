@@ -15,8 +15,8 @@ pub(super) struct LinkHeader {
     pub len: usize,
     /// The next network protocol. `None` is IP.
     pub next: Option<NetworkProtocol>,
-    /// The end of the bytes after the header, in bytes from the start of the frame. `None` if the header does not state it. Then they end
-    /// with the frame.
+    /// The end of the bytes after the header, in bytes from the start of the frame. `None` if the header does not state this end. Then the
+    /// bytes end with the frame.
     pub end: Option<usize>,
 }
 
@@ -39,8 +39,8 @@ pub(super) enum FirstHeader {
 }
 
 impl FirstHeader {
-    /// The header for an unknown version or a wrong length, after which the next protocol can't be found. The next protocol is the number
-    /// of the link type. `len` is the number of bytes that were examined.
+    /// A link header that is not read, so that the protocol after it is unknown. The number of a link type stands for this protocol. `len`
+    /// is the number of bytes that were examined.
     pub fn unread(len: usize, number: u16) -> FirstHeader
         ensures { result ≡ unread len number }
     {

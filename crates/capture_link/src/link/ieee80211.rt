@@ -103,7 +103,7 @@ fn data_frame(frame: &[u8], place: usize) -> Result<FirstHeader, LinkHeaderCutOf
     }
 }
 
-/// The header of a frame with a body that is not read.
+/// The header of a frame whose body is not read.
 fn other_frame(frame: &[u8], place: usize) -> FirstHeader
     requires { (place ≤ max_frame_place) × (place + 2 ≤ length frame.now) }
     ensures is { result ≡ specs.other_frame frame.now place }
@@ -140,7 +140,7 @@ fn qos_at(frame: &[u8], place: usize) -> usize
     }
 }
 
-/// The start of the body: after the QoS Control field and the HT Control field, if they are present.
+/// The start of the body. The QoS Control field and the HT Control field precede the body if they are present.
 fn body_at(frame: &[u8], place: usize) -> usize
     requires { (place ≤ max_frame_place) × (place + 2 ≤ length frame.now) }
     ensures is { result ≡ specs.body_at frame.now place }
@@ -157,7 +157,7 @@ fn body_at(frame: &[u8], place: usize) -> usize
     }
 }
 
-/// Whether the body is one whole data unit: not a later fragment, and not several units.
+/// Whether the body is one whole data unit: it is not a later fragment, and it does not contain several units.
 fn has_whole_unit(frame: &[u8], place: usize) -> bool
     requires { (place ≤ max_frame_place) × (specs.body_at frame.now place ≤ length frame.now) }
     ensures { result ≡ specs.has_whole_unit frame.now place }

@@ -1,4 +1,4 @@
-//! Laws of link headers. Each law is the contract of a function that does nothing, so that it is checked together with the calls.
+//! Laws of link headers. Each law is the contract of a function that does nothing, so that the law is checked together with the calls.
 ghost use Rattle.std.specs.Prelude.{◌≡◌, ℕ, List, Option};
 ghost use Rattle.capture_link.specs.Link.{HasLinkHeader, NeedsLinkHeader};
 ghost use Rattle.capture_texts.specs.declared.byte_order.ByteOrder.{ByteOrder};

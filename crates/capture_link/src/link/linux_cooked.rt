@@ -29,11 +29,11 @@ const DEVICE_TYPE_AT_2: usize = 8;
 /// The device type of netlink, ARPHRD_NETLINK.
 const NETLINK_DEVICE: u16 = 824;
 
-/// The number of LINKTYPE_NETLINK, whose frames have a LINKTYPE_LINUX_SLL header. It stands for the next protocol of a frame from a netlink
-/// device.
+/// The number of LINKTYPE_NETLINK, whose frames have a LINKTYPE_LINUX_SLL header. This number stands for the next protocol of a frame from
+/// a netlink device.
 const NETLINK: u16 = 253;
 
-/// The protocol of a frame with an LLC header.
+/// The protocol number of a frame in which an LLC header follows.
 const COOKED_LLC: u16 = 0x0004;
 
 /// The first header of a LINKTYPE_LINUX_SLL frame.

@@ -11,10 +11,11 @@ use crate::link::{LinkHeaderCutOff, ethernet_at, family_at, is_ip_family};
 use capture_texts::link_number::{AVS, PFLOG, PKTAP, PPI, PRISM};
 use capture_texts::{ByteOrder, LinkType};
 
-/// The length of the first fields of a LINKTYPE_PFLOG header, in bytes: its length, and the address family.
+/// The length of the first fields of a LINKTYPE_PFLOG header, in bytes: the length of the header, and the address family.
 const FILTER_FIELDS_LEN: usize = 2;
 
-/// The least number in the length field of a LINKTYPE_PFLOG header: the length of its fields up to the direction of the packet.
+/// The least number in the length field of a LINKTYPE_PFLOG header: the length of the fields, the last of which is the direction of the
+/// packet.
 const LEAST_FILTER_LEN: u8 = 45;
 
 /// The length of a LINKTYPE_IPNET header, in bytes.
@@ -47,7 +48,7 @@ const TAP_FIELDS_LEN: usize = 12;
 /// The type of a record with a packet, in a LINKTYPE_PKTAP header.
 const PACKET_RECORD: u32 = 1;
 
-/// The first header of a LINKTYPE_PFLOG frame. Padding follows its fields up to a multiple of four bytes.
+/// The first header of a LINKTYPE_PFLOG frame. Padding after the fields of the header extends it to a multiple of four bytes.
 pub(super) fn filter_header(frame: &[u8]) -> Result<FirstHeader, LinkHeaderCutOff>
     ensures is { result ≡ specs.filter_header frame.now }
     ensures fits { IfOk result (Fits frame.now) }
@@ -90,7 +91,8 @@ pub(super) fn with_family(len: usize, family: u32, is_ip: bool) -> FirstHeader
     })
 }
 
-/// The next network protocol according to an address family: `None`, which is IP, if `is_ip` is true, otherwise the number of the family.
+/// The next network protocol according to an address family. If `is_ip` is true, this is `None`, which means IP. Otherwise it is the number
+/// of the family.
 pub(super) fn family_protocol(family: u32, is_ip: bool) -> Option<NetworkProtocol>
     ensures { result ≡ specs.family_protocol family is_ip }
 {
@@ -132,7 +134,8 @@ pub(super) fn after_avs(frame: &[u8]) -> Result<FirstHeader, LinkHeaderCutOff>
     by_avs_len(frame, AVS, number_at(ByteOrder::BigEndian, frame, 4))
 }
 
-/// The first header of an IEEE 802.11 frame after a header of AVS of this length. `number` is the number of the link type.
+/// The first header of an IEEE 802.11 frame after a header of AVS of this length. `number` is the number of the link type. If `len` is
+/// below the length of the first fields, the header of AVS is not read.
 fn by_avs_len(frame: &[u8], number: u16, len: u32) -> Result<FirstHeader, LinkHeaderCutOff>
     requires { 8 ≤ length frame.now }
     ensures is { result ≡ specs.by_avs_len frame.now number len }

@@ -18,8 +18,8 @@ const LAST_LABEL: u8 = 0x01;
 /// The least length of an IPv4 header, in words of four bytes (RFC 791, section 3.1).
 const MIN_IPV4_WORDS: u8 = 5;
 
-/// The header that ends with the label stack at this place. If no IP packet follows the stack, the next protocol is `other`. The number of
-/// `other` precedes the stack.
+/// The header that ends with the label stack at this place. If no IP packet follows the stack, the next protocol is `other`, whose number
+/// precedes the stack.
 pub(super) fn stack_at(
     frame: &[u8],
     other: NetworkProtocol,
@@ -47,7 +47,7 @@ fn is_last(frame: &[u8], place: usize) -> bool
     frame[place + 2] & LAST_LABEL != 0
 }
 
-/// The header that ends with a label stack. The first byte after it identifies an IP packet.
+/// The header that ends with a label stack. The first byte after the stack shows whether an IP packet follows.
 fn after_stack(
     frame: &[u8],
     other: NetworkProtocol,
@@ -66,14 +66,15 @@ fn after_stack(
     })
 }
 
-/// The network protocol after a label stack: `None`, which is IP, if an IP packet can have this first byte, otherwise `other`.
+/// The network protocol after a label stack. If an IP packet can have this first byte, this is `None`, which means IP. Otherwise it is
+/// `other`.
 fn by_first_byte(other: NetworkProtocol, first: u8) -> Option<NetworkProtocol>
     ensures { result ≡ specs.by_first_byte other first }
 {
     if begins_ip(first) { None } else { Some(other) }
 }
 
-/// Whether an IP packet can have this first byte: version 4 and a header length, or version 6 and bits of the traffic class.
+/// Whether an IP packet can have this first byte: version 4 and a header length of at least five words, or version 6.
 fn begins_ip(first: u8) -> bool
     ensures { result ≡ specs.begins_ip first }
 {

@@ -33,13 +33,13 @@ const LINUX_IPV6: u8 = 10;
 /// The result of reading an attribute.
 #[derive(Clone, Copy)]
 enum Attribute {
-    /// The header, which ends with this attribute.
+    /// The whole link header. No attribute after this one is read.
     Last(FirstHeader),
-    /// The place of the next attribute.
+    /// The end of an attribute without the packet: the place of the next attribute.
     Other(usize),
 }
 
-/// The header of a LINKTYPE_NFLOG frame. It ends at the packet.
+/// The header of a LINKTYPE_NFLOG frame. It ends where the packet begins.
 pub(super) fn log_header(frame: &[u8]) -> Result<FirstHeader, LinkHeaderCutOff>
     ensures is { result ≡ specs.log_header frame.now }
     ensures fits { IfOk result (Fits frame.now) }
@@ -55,8 +55,8 @@ pub(super) fn log_header(frame: &[u8]) -> Result<FirstHeader, LinkHeaderCutOff>
     }
 }
 
-/// The byte order of the attributes. The type of the first attribute is above 0 and below 256. So one of its two bytes is 0, and it is the
-/// most significant byte.
+/// The byte order of the attributes. The type of the first attribute is above 0 and below 256. So one of its two bytes is 0, and this byte
+/// is the most significant one. `None` if both bytes are 0 or neither is.
 fn attribute_order(frame: &[u8]) -> Option<ByteOrder>
     requires { 8 ≤ length frame.now }
     ensures { result ≡ specs.attribute_order frame.now }
@@ -68,7 +68,7 @@ fn attribute_order(frame: &[u8]) -> Option<ByteOrder>
     }
 }
 
-/// The header with attributes in this byte order.
+/// The header with attributes in this byte order. If no attribute contains a packet, the header is not read.
 fn attributes(order: ByteOrder, frame: &[u8]) -> Result<FirstHeader, LinkHeaderCutOff>
     requires { 8 ≤ length frame.now }
     ensures is { result ≡ specs.attributes order frame.now }
@@ -85,7 +85,7 @@ fn attributes(order: ByteOrder, frame: &[u8]) -> Result<FirstHeader, LinkHeaderC
     Ok(FirstHeader::unread(place, NFLOG))
 }
 
-/// The attribute at this place.
+/// Reads the attribute at this place.
 fn attribute_at(order: ByteOrder, frame: &[u8], place: usize) -> Result<Attribute, LinkHeaderCutOff>
     requires { place < length frame.now }
     ensures is { result ≡ specs.attribute_at order frame.now place }
@@ -106,8 +106,8 @@ fn attribute_at(order: ByteOrder, frame: &[u8], place: usize) -> Result<Attribut
     Ok(Attribute::Other(end))
 }
 
-/// The header up to the packet. The attribute at this place, with this length, contains the packet. If the packet ends within the frame,
-/// the header states this end.
+/// The header from the start of the frame to the packet. The attribute at `place` has `len` bytes and contains the packet. If the packet
+/// ends within the frame, the header states this end.
 fn payload_at(frame: &[u8], place: usize, len: u16) -> FirstHeader
     requires { (place + 4 ≤ length frame.now) × (4 ≤ len) }
     ensures is { result ≡ specs.payload_at frame.now place len }

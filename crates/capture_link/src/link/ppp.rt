@@ -16,7 +16,7 @@ const ADDRESS_LEN: usize = 2;
 /// The length of a PPPoE header, in bytes: version and type, code, session and length.
 const SESSION_LEN: usize = 6;
 
-/// The place of the length of the payload in a PPPoE header, in bytes (RFC 2516, section 4).
+/// The place of the payload length in a PPPoE header, in bytes (RFC 2516, section 4).
 const PAYLOAD_LEN_AT: usize = 4;
 
 /// The Address and Control fields for all stations and unnumbered information (RFC 1662, section 3.1).
@@ -41,7 +41,7 @@ const IPV6: u16 = 0x0057;
 /// The PPP protocol of a stack of MPLS labels (RFC 3032, section 4.3).
 const MPLS: u16 = 0x0281;
 
-/// The PPP protocol of a stack of MPLS labels of a multicast packet (RFC 3032, section 4.3).
+/// The PPP protocol of a stack of MPLS labels before a multicast packet (RFC 3032, section 4.3).
 const MPLS_MULTICAST: u16 = 0x0283;
 
 /// The header of a PPP frame.
@@ -74,7 +74,7 @@ pub(super) fn pppoe_frame(frame: &[u8]) -> Result<LinkHeader, LinkHeaderCutOff>
     })
 }
 
-/// The header up to the packet in the payload after the PPPoE header at this place.
+/// The link header from the start of the frame to the packet in a PPPoE session. The PPPoE header begins at `place`.
 pub(super) fn session_at(frame: &[u8], place: usize) -> Result<LinkHeader, LinkHeaderCutOff>
     requires { place ≤ length frame.now }
     ensures is { result ≡ specs.session_at frame.now place }
@@ -91,8 +91,8 @@ pub(super) fn session_at(frame: &[u8], place: usize) -> Result<LinkHeader, LinkH
     }
 }
 
-/// The header up to the packet in a PPPoE payload. The payload begins at this place and has this length, in bytes. If the frame ends before
-/// the payload does, the payload ends with the frame.
+/// The link header from the start of the frame to the packet in a PPPoE session. The PPPoE payload begins at `place` and has `payload_len`
+/// bytes. If the frame is too short for this payload, the payload ends with the frame.
 fn session_payload(
     frame: &[u8],
     place: usize,
@@ -111,8 +111,8 @@ fn session_payload(
     }
 }
 
-/// The header up to the packet in a PPPoE payload. The payload begins at this place, and ends with `bytes`, which are a part of the frame.
-/// If the payload is too short for its PPP header, it is not read.
+/// The link header from the start of the frame to the packet in a PPPoE session. `bytes` are the frame up to the end of the PPPoE payload,
+/// which begins at `place`. If the payload is too short for its PPP header, it is not read.
 fn whole_payload(bytes: &[u8], place: usize) -> LinkHeader
     requires { place ≤ length bytes.now }
     ensures is { result ≡ specs.in_payload place (length bytes.now) (specs.protocol_at bytes.now place) }
@@ -147,7 +147,8 @@ fn has_address(frame: &[u8]) -> bool
     frame.len() >= ADDRESS_LEN && short_at(frame, 0) == ADDRESS_AND_CONTROL
 }
 
-/// The header that ends after the Protocol field at this place. If the first byte is odd, the field has only one byte.
+/// The header that ends after the Protocol field at this place, or after the stack of MPLS labels after this field. If the first byte is
+/// odd, the field has only one byte.
 fn protocol_at(frame: &[u8], place: usize) -> Result<LinkHeader, LinkHeaderCutOff>
     requires { place ≤ length frame.now }
     ensures is { result ≡ specs.protocol_at frame.now place }

@@ -28,9 +28,9 @@ use crate::{
     IpNumber, Ipv4Header, Ipv4HeaderSlice, Ipv6Header, Ipv6HeaderSlice, icmpv4, icmpv6, ip_number,
 };
 
-/// Turns the echo request in an IP packet of either version into its reply, and returns the length of the reply in bytes.
-/// The reply goes from the destination of the request to its source. `answer_echo_ipv4` and `answer_echo_ipv6` describe
-/// the reply and the errors. They also take another source, for a request to a multicast address.
+/// Turns the echo request in an IP packet of either version into its reply, and returns the length of the reply in bytes. The reply goes
+/// from the destination of the request to its source. `answer_echo_ipv4` and `answer_echo_ipv6` describe the reply and the errors. They
+/// also accept another source, which a reply to a request to a multicast address needs.
 ///
 /// ```
 /// let len = ip::answer_echo(&mut packet, 64)?;
@@ -58,12 +58,12 @@ pub fn answer_echo(packet: &mut [u8], hop_limit: u8) -> Result<usize, AnswerEcho
     }
 }
 
-/// Turns the echo request in an IPv4 packet into its reply (RFC 792, "Echo or Echo Reply Message"; RFC 1122, section 3.2.2.6), and returns
-/// the length of the reply in bytes, which is the length of the request. The bytes after the packet are not changed.
+/// Turns the echo request in an IPv4 packet into its reply (RFC 792, "Echo or Echo Reply Message"; RFC 1122, section 3.2.2.6). Returns the
+/// length of the reply in bytes, which is the length of the request. The bytes after the packet are not changed.
 ///
-/// The reply goes to the source of the request. Its source is the passed address, or the destination of the request if
-/// `None` is passed. It has the passed time to live, the type of a reply, and right checksums of header and message. All
-/// other fields and the payload are kept, among them type of service and identification, but not the flags.
+/// The reply goes to the source of the request. Its source is the passed address, or the destination of the request if `None` is passed. It
+/// has the passed time to live, the type of a reply, and right checksums of header and message. All other fields except the flags, and the
+/// payload, are those of the request.
 ///
 /// The only flag of the reply is "don't fragment", whatever flags the request has. So the reply is an atomic datagram, in
 /// which the identification of the request has no meaning (RFC 6864, section 4.1). To send a reply in fragments, clear that
@@ -76,11 +76,12 @@ pub fn answer_echo(packet: &mut [u8], hop_limit: u8) -> Result<usize, AnswerEcho
 /// The call checks these cases, in this order, and changes nothing after an error:
 /// - `Ip` if `transport_in_ip` refuses the packet.
 /// - `NoEchoRequest` for an IPv6 packet.
-/// - `Fragment`, `NoEchoRequest` for another protocol, and `Options` if the message does not begin after 20 bytes.
-/// - `Len` if `Icmpv4Slice::from_slice` refuses the message, `NoEchoRequest` for another message, and `Checksum` if its checksum is wrong.
+/// - `Fragment` for a fragment, `NoEchoRequest` for another protocol, and `Options` if the message does not begin after 20 bytes.
+/// - `Len` if `Icmpv4Slice::from_slice` refuses the message, `NoEchoRequest` if the message is no echo request, and `Checksum` if its
+///   checksum is wrong.
 /// - `HeaderChecksum` if the checksum of the IPv4 header is wrong (RFC 1122, section 3.2.1.2).
 /// - `RequestSource` if the source of the request is 0.0.0.0, 255.255.255.255, a loopback address or a multicast address.
-/// - `ReplySource` if the source of the reply is such an address.
+/// - `ReplySource` if the source of the reply is an address that `RequestSource` lists.
 pub fn answer_echo_ipv4(
     packet: &mut [u8],
     source: Option<[u8; 4]>,
@@ -96,7 +97,7 @@ pub fn answer_echo_ipv4(
         (headers.Icmpv4 (icmpv4_reply_to (ipv4_message packet.old))) (drop echo_header_len (ipv4_message packet.old))) }
     // The checksum of the reply's IP header is also right.
     ensures verifies { IfOk result (λ _. Verifies [] (header_bytes packet.new)) }
-    // `is_reply_to` recognises the reply, if its source may answer a request to this destination.
+    // `is_reply_to` recognises the reply, if the source of the reply may answer for the destination of the request.
     ensures replies { MayAnswerIpv4 (slice_range packet.old 16 20) (unwrap_or source (slice_range packet.old 16 20)) →
         IfOk result (λ _. IsReplyTo packet.old packet.new) }
 {
@@ -118,22 +119,23 @@ pub fn answer_echo_ipv4(
     Ok(len)
 }
 
-/// Turns the echo request in an IPv6 packet into its reply (RFC 4443, section 4.2), and returns the length of the reply in bytes, which is
-/// the length of the request. The bytes after the packet are not changed.
+/// Turns the echo request in an IPv6 packet into its reply (RFC 4443, section 4.2). Returns the length of the reply in bytes, which is the
+/// length of the request. The bytes after the packet are not changed.
 ///
-/// The reply goes to the source of the request. Its source is the passed address, or the destination of the request if
-/// `None` is passed. It has the passed hop limit, the type of a reply, and the right checksum. All other fields and the
-/// payload are kept, among them traffic class and flow label.
+/// The reply goes to the source of the request. Its source is the passed address, or the destination of the request if `None` is passed. It
+/// has the passed hop limit, the type of a reply, and the right checksum. All other fields, among them traffic class and flow label, and
+/// the payload are those of the request.
 ///
 /// # Errors
 ///
 /// The call checks these cases, in this order, and changes nothing after an error:
 /// - `Ip` if `transport_in_ip` refuses the packet.
 /// - `NoEchoRequest` for an IPv4 packet.
-/// - `Fragment`, `NoEchoRequest` for another protocol, and `Options` if the message does not begin after 40 bytes.
-/// - `Len` if `Icmpv6Slice::from_slice` refuses the message, `NoEchoRequest` for another message, and `Checksum` if its checksum is wrong.
+/// - `Fragment` for a fragment, `NoEchoRequest` for another protocol, and `Options` if the message does not begin after 40 bytes.
+/// - `Len` if `Icmpv6Slice::from_slice` refuses the message, `NoEchoRequest` if the message is no echo request, and `Checksum` if its
+///   checksum is wrong.
 /// - `RequestSource` if the source of the request is the unspecified address, ::1 or a multicast address.
-/// - `ReplySource` if the source of the reply is such an address.
+/// - `ReplySource` if the source of the reply is an address that `RequestSource` lists.
 pub fn answer_echo_ipv6(
     packet: &mut [u8],
     source: Option<[u8; 16]>,
@@ -148,7 +150,7 @@ pub fn answer_echo_ipv6(
         (addresses.Ipv6 (unwrap_or source (slice_range packet.old 24 40)) (Some (slice_range packet.old 8 24)))
         (headers.Icmpv6 (icmpv6_reply_to (unwrap_or source (slice_range packet.old 24 40)) (slice_range packet.old 8 24)
         (ipv6_message packet.old))) (drop echo_header_len (ipv6_message packet.old))) }
-    // `is_reply_to` recognises the reply, if its source may answer a request to this destination.
+    // `is_reply_to` recognises the reply, if the source of the reply may answer for the destination of the request.
     ensures replies { MayAnswerIpv6 (slice_range packet.old 24 40) (unwrap_or source (slice_range packet.old 24 40)) →
         IfOk result (λ _. IsReplyTo packet.old packet.new) }
 {
@@ -198,7 +200,7 @@ fn replace_start(message: &mut [u8], start: [u8; ECHOED_AT])
 
 // ---- the request
 
-/// The addresses and the length of the echo request in an IPv4 packet.
+/// The addresses and the length of an IPv4 packet that contains an echo request.
 fn ipv4_request(packet: &[u8]) -> Result<(Ipv4Header, usize), AnswerEchoError>
     ensures refused { RefusesExactly result (specs.ipv4_request_refusal packet.now) }
     ensures addresses { IfOk result (λ request. request.0 ≡ ipv4_header_of packet.now) }
@@ -224,7 +226,7 @@ fn ipv4_request(packet: &[u8]) -> Result<(Ipv4Header, usize), AnswerEchoError>
     Ok((addresses, IPV4_LEN + found.payload.len()))
 }
 
-/// The addresses and the length of the echo request in an IPv6 packet.
+/// The addresses and the length of an IPv6 packet that contains an echo request.
 fn ipv6_request(packet: &[u8]) -> Result<(Ipv6Header, usize), AnswerEchoError>
     ensures refused { RefusesExactly result (specs.ipv6_request_refusal packet.now) }
     ensures addresses { IfOk result (λ request. request.0 ≡ ipv6_header_of packet.now) }
@@ -413,8 +415,8 @@ fn replace_ipv4_if_passed(
     }
 }
 
-/// The header of the reply to this request. Its checksum is updated, since only the type changes (RFC 1624). If the reply consists of
-/// zeros, its checksum is 65535, which the update does not give.
+/// The header of the reply to this request. Its checksum is updated, since only the type changes (RFC 1624). If all other bytes of the
+/// reply are 0, its checksum is 65535, but the update gives 0.
 fn icmpv4_reply_to(request: &[u8]) -> Icmpv4Header
     requires accepted { icmpv4_refusal request.now ≡ None }
     ensures header { result ≡ specs.icmpv4_reply_to request.now }

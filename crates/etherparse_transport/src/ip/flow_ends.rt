@@ -38,13 +38,13 @@ const PORTS_LEN: usize = 4;
 /// ```
 #[derive(Clone, Copy, Debug, PartialEq, Eq)]
 pub struct FlowEnds<'a> {
-    /// The addresses of the packet, which its checksum covers. They contain the IP version.
+    /// The addresses that the checksum of the packet covers. The variant of `IpAddresses` is the IP version.
     pub addresses: IpAddresses<'a>,
     /// The protocol of the payload.
     pub protocol: IpNumber,
-    /// The packet is one of several fragments, as in `TransportInIp`. The first fragment contains the ports.
+    /// Whether the packet is one of several fragments, as in `TransportInIp`. Only the first fragment contains the ports.
     pub is_fragment: bool,
-    /// The packet is a later fragment, whose payload begins in the middle of a message. It contains no port and no identifier.
+    /// Whether the packet is a later fragment, whose payload begins in the middle of a message. It contains no port and no identifier.
     pub is_later_fragment: bool,
     /// The source port of UDP and TCP (RFC 768; RFC 9293, section 3.1), or the identifier of a request of ICMP (RFC 5508, section 3.1).
     /// `None` if the packet does not contain it.
@@ -78,7 +78,7 @@ pub(crate) fn ends_of<'a>(found: &TransportInIp<'a>) -> FlowEnds<'a>
     }
 }
 
-/// The ports or the identifier of a packet with this transport, of the source and of the destination.
+/// The source port and the destination port of a packet with this transport. In a query, the identifier is one of them.
 fn ports_in(found: &TransportInIp<'_>) -> (Option<u16>, Option<u16>)
     ensures source { result.0 ≡ (ends_by found.now).source_port }
     ensures destination { result.1 ≡ (ends_by found.now).destination_port }
@@ -122,7 +122,7 @@ fn has_ports(message: &[u8]) -> bool
     message.len() >= PORTS_LEN
 }
 
-/// Whether a message of ICMPv4 is a request, up to its identifier.
+/// Whether an ICMPv4 message is a request that contains its whole identifier.
 fn is_request_icmpv4(message: &[u8]) -> bool
     ensures request { result ≡ specs.is_request_with_identifier protos.Icmpv4 message.now }
     ensures there { IsTrue result → 6 ≤ length message.now }
@@ -130,7 +130,7 @@ fn is_request_icmpv4(message: &[u8]) -> bool
     is_icmpv4_query(message) && is_icmpv4_request(message[0])
 }
 
-/// Whether a message of ICMPv4 is a reply, up to its identifier.
+/// Whether an ICMPv4 message is a reply that contains its whole identifier.
 fn is_reply_icmpv4(message: &[u8]) -> bool
     ensures reply { result ≡ specs.is_reply_with_identifier protos.Icmpv4 message.now }
     ensures there { IsTrue result → 6 ≤ length message.now }
@@ -138,7 +138,7 @@ fn is_reply_icmpv4(message: &[u8]) -> bool
     is_icmpv4_query(message) && !is_icmpv4_request(message[0])
 }
 
-/// Whether a message of ICMPv6 is a request, up to its identifier.
+/// Whether an ICMPv6 message is a request that contains its whole identifier.
 fn is_request_icmpv6(message: &[u8]) -> bool
     ensures request { result ≡ specs.is_request_with_identifier protos.Icmpv6 message.now }
     ensures there { IsTrue result → 6 ≤ length message.now }
@@ -146,7 +146,7 @@ fn is_request_icmpv6(message: &[u8]) -> bool
     is_icmpv6_query(message) && message[0] == icmpv6::TYPE_ECHO_REQUEST
 }
 
-/// Whether a message of ICMPv6 is a reply, up to its identifier.
+/// Whether an ICMPv6 message is a reply that contains its whole identifier.
 fn is_reply_icmpv6(message: &[u8]) -> bool
     ensures reply { result ≡ specs.is_reply_with_identifier protos.Icmpv6 message.now }
     ensures there { IsTrue result → 6 ≤ length message.now }

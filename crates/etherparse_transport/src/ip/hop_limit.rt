@@ -14,11 +14,11 @@ use crate::ip::ip_header::{
 use crate::ip::message_place::replace_bytes;
 use crate::ip::translated_message::{number, store_number};
 
-/// Lowers the time to live of an IPv4 packet or the hop limit of an IPv6 packet by one, as a router does before it forwards the packet (RFC
-/// 1812, section 5.3.1; RFC 8200, section 3). No other byte changes, except the checksum of an IPv4 header.
+/// Lowers the time to live of an IPv4 packet or the hop limit of an IPv6 packet by one. A router does this before it forwards the packet
+/// (RFC 1812, section 5.3.1; RFC 8200, section 3). No other byte changes, except the checksum of an IPv4 header.
 ///
-/// That checksum is updated by the changed byte (RFC 1624, section 3, equation 3): a right checksum stays right, and a wrong checksum stays
-/// wrong. An IPv6 header has no checksum. No checksum of a transport covers the hop limit.
+/// The checksum of an IPv4 header is updated from the changed byte (RFC 1624, section 3, equation 3): a right checksum stays right, and a
+/// wrong checksum stays wrong. An IPv6 header has no checksum. No checksum of a transport covers the hop limit.
 ///
 /// ```
 /// let mut packet = [
@@ -31,11 +31,11 @@ use crate::ip::translated_message::{number, store_number};
 ///
 /// # Errors
 ///
-/// Only the IP header is read. Its total length, payload length and extension headers are not. The call checks these cases, in this
-/// order, and changes nothing after an error:
-/// - `Ip` if the slice is empty (`HeaderCutOff`), or the version is neither 4 nor 6 (`Version`). Over IPv4 also if the slice is shorter than
-///   20 bytes (`HeaderCutOff`), the header length is below 20 bytes (`HeaderLength`), or the slice is shorter than that length
-///   (`HeaderCutOff`). Over IPv6 also if the slice is shorter than 40 bytes (`HeaderCutOff`).
+/// The call reads only the IP header. It ignores total length, payload length and extension headers. It checks these cases, in this order,
+/// and changes nothing after an error:
+/// - `Ip` if the slice is empty (`HeaderCutOff`), or the version is neither 4 nor 6 (`Version`). An IPv4 packet is also refused if the
+///   slice is shorter than 20 bytes (`HeaderCutOff`), the header length is below 20 bytes (`HeaderLength`), or the slice is shorter than
+///   the header length (`HeaderCutOff`). An IPv6 packet is also refused if the slice is shorter than 40 bytes (`HeaderCutOff`).
 /// - `Expired` if the hop limit is 0 or 1. A router then discards the packet, and reports it as time exceeded, code 0 (RFC 1812, section
 ///   5.3.1; RFC 4443, section 3.3).
 pub fn lower_hop_limit(packet: &mut [u8]) -> Result<(), LowerHopLimitError>
@@ -66,7 +66,7 @@ pub fn lower_hop_limit(packet: &mut [u8]) -> Result<(), LowerHopLimitError>
     Ok(())
 }
 
-/// Whether the header at the front of a packet is an IPv4 header, and otherwise an IPv6 header.
+/// Whether the header at the front of a packet is an IPv4 header. If not, it is an IPv6 header. Refuses any other header.
 fn is_ipv4(packet: &[u8]) -> Result<bool, IpError>
     ensures refused { RefusesExactly result (own_header_refusal packet.now) }
     ensures version { IfOk result (λ is_ipv4. is_ipv4 ≡ (version packet.now == 4)) }

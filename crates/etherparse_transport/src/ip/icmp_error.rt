@@ -29,17 +29,18 @@ const MAX_ERROR_LEN_IPV4: usize = 576;
 /// The greatest length of an ICMP error over IPv6, in bytes: the minimum MTU (RFC 4443, section 2.4, rule c).
 const MAX_ERROR_LEN_IPV6: usize = 1280;
 
-/// The length of IP header and ICMP header, in bytes.
+/// The length of IPv4 header and ICMPv4 header, in bytes.
 const FRONT_LEN_IPV4: usize = IPV4_LEN + Icmpv4Header::MIN_LEN;
 
+/// The length of IPv6 header and ICMPv6 header, in bytes.
 const FRONT_LEN_IPV6: usize = IPV6_LEN + Icmpv6Header::MIN_LEN;
 
 /// Writes an ICMPv4 error about a packet to the front of the slice, and returns its length in bytes (RFC 792; RFC 1122, section 3.2.2). The
 /// error is an IPv4 packet from the passed source to the source of the packet, with both checksums. The rest of the slice is unchanged.
 ///
-/// The error quotes the packet from its first byte on: all bytes that its IP header counts and that are there, but at most 548, so that the
-/// error has at most 576 bytes (RFC 1812, section 4.3.2.3). If the IP header states no length, all bytes of the packet are counted. Pass the
-/// packet as it was received, before its hop limit is lowered (RFC 1812, section 4.3.2.3).
+/// The error quotes the packet from its first byte on: all bytes that its IP header counts and that are present, but at most 548. So the
+/// error has at most 576 bytes (RFC 1812, section 4.3.2.3). If the IP header states no length, all bytes of the packet are counted. Pass
+/// the packet as it was received, before its hop limit is lowered (RFC 1812, section 4.3.2.3).
 ///
 /// ```
 /// let icmp_type = Icmpv4Type::TimeExceeded(icmpv4::TimeExceededCode::TtlExceededInTransit);
@@ -47,9 +48,9 @@ const FRONT_LEN_IPV6: usize = IPV6_LEN + Icmpv6Header::MIN_LEN;
 /// send(&buffer[..len]);
 /// ```
 ///
-/// The call knows neither the link layer nor the network. There is also no error about a packet that came as a broadcast or multicast of the
-/// link layer, or that was sent to the broadcast address of a network (RFC 1122, section 3.2.2). Errors have to be limited in their rate (RFC
-/// 1812, section 4.3.2.8).
+/// The call knows neither the link layer nor the network. The caller must not send an error about a broadcast or multicast of the link
+/// layer, or about a packet to the broadcast address of a network (RFC 1122, section 3.2.2). The caller must also limit the rate of errors
+/// (RFC 1812, section 4.3.2.8).
 ///
 /// # Errors
 ///
@@ -58,10 +59,10 @@ const FRONT_LEN_IPV6: usize = IPV6_LEN + Icmpv6Header::MIN_LEN;
 ///   a redirect is not the address of one host.
 /// - `Ip` if `transport_in_ip_lax` refuses the packet, and `OtherVersion` for an IPv6 packet.
 /// - `LaterFragment` for a fragment with an offset above 0.
-/// - `IcmpError` if the packet contains an ICMPv4 error: type 3, 4, 5, 11 or 12, or a type that is cut off.
+/// - `IcmpError` if the packet contains an ICMPv4 error (type 3, 4, 5, 11 or 12) or an ICMPv4 message whose type is cut off.
 /// - `GroupDestination` if the destination in the IP header is 255.255.255.255 or a multicast address.
 /// - `PacketSource` if the source in the IP header is 0.0.0.0, 255.255.255.255, a loopback address or a multicast address.
-/// - `ErrorSource` if the passed source is such an address.
+/// - `ErrorSource` if the passed source is an address that `PacketSource` lists.
 /// - `Space` if the slice is shorter than the error.
 pub fn icmpv4_error_about(
     slice: &mut [u8],
@@ -105,11 +106,11 @@ pub fn icmpv4_error_about(
     Ok(len)
 }
 
-/// Writes an ICMPv6 error about a packet to the front of the slice, and returns its length in bytes (RFC 4443, sections 2.4 and 3). The error
-/// is an IPv6 packet from the passed source to the source of the packet, with its checksum. The rest of the slice is unchanged.
+/// Writes an ICMPv6 error about a packet to the front of the slice, and returns its length in bytes (RFC 4443, sections 2.4 and 3). The
+/// error is an IPv6 packet from the passed source to the source of the packet, with its checksum. The rest of the slice is unchanged.
 ///
-/// The error quotes the packet from its first byte on: all bytes that its IP header counts and that are there, but at most 1,232, so that
-/// the error has at most 1,280 bytes, the minimum MTU (RFC 4443, section 2.4, rule c). If the IP header states no length, all bytes of the
+/// The error quotes the packet from its first byte on: all bytes that its IP header counts and that are present, but at most 1,232. So the
+/// error has at most 1,280 bytes, the minimum MTU (RFC 4443, section 2.4, rule c). If the IP header states no length, all bytes of the
 /// packet are counted.
 ///
 /// ```
@@ -117,8 +118,9 @@ pub fn icmpv4_error_about(
 /// send(&buffer[..len]);
 /// ```
 ///
-/// The call knows neither the link layer nor anycast addresses. There is also no error about a packet that came as a broadcast or multicast
-/// of the link layer, or from an anycast address (RFC 4443, section 2.4, rules e.4 to e.6). Errors have to be limited in their rate (rule f).
+/// The call knows neither the link layer nor anycast addresses. The caller must not send an error about a broadcast or multicast of the
+/// link layer, or about a packet from an anycast address (RFC 4443, section 2.4, rules e.4 to e.6). The caller must also limit the rate of
+/// errors (rule f).
 ///
 /// # Errors
 ///
@@ -126,11 +128,12 @@ pub fn icmpv4_error_about(
 /// - `NoErrorType` unless the message is `DestinationUnreachable`, `PacketTooBig`, `TimeExceeded` or `ParameterProblem`.
 /// - `Ip` if `transport_in_ip_lax` refuses the packet, and `OtherVersion` for an IPv4 packet.
 /// - `LaterFragment` for a fragment with an offset above 0.
-/// - `IcmpError` if the packet contains an ICMPv6 error, whose type is below 128, a redirect, type 137, or a type that is cut off.
-/// - `GroupDestination` if the destination in the IP header is a multicast address, and the message is neither `PacketTooBig` nor a parameter
-///   problem with code 2. Send the latter only if the high two bits of the option type are 10 (rule e.3).
+/// - `IcmpError` if the packet contains an ICMPv6 error (type below 128), a redirect (type 137), or an ICMPv6 message whose type is cut
+///   off.
+/// - `GroupDestination` if the destination in the IP header is a multicast address, and the message is neither `PacketTooBig` nor a
+///   parameter problem with code 2. Send such a parameter problem only if the high two bits of the option type are 10 (rule e.3).
 /// - `PacketSource` if the source in the IP header is the unspecified address, ::1 or a multicast address.
-/// - `ErrorSource` if the passed source is such an address.
+/// - `ErrorSource` if the passed source is an address that `PacketSource` lists.
 /// - `Space` if the slice is shorter than the error.
 pub fn icmpv6_error_about(
     slice: &mut [u8],
@@ -174,7 +177,7 @@ pub fn icmpv6_error_about(
 
 // ---- the message
 
-/// Whether this is a message of an error.
+/// Whether this is the message of an ICMPv4 error. A redirect is one only if its gateway is the address of one host.
 fn is_icmpv4_error_type(icmp_type: &Icmpv4Type) -> bool
     ensures is { result ≡ specs.is_icmpv4_error_type icmp_type.now }
     ensures gateway { HasGateway icmp_type.now }
@@ -199,7 +202,7 @@ fn gateway(redirect: &RedirectHeader) -> [u8; 4]
     redirect.gateway_internet_address
 }
 
-/// Whether this is a message of an error.
+/// Whether this is the message of an ICMPv6 error.
 fn is_icmpv6_error_type(icmp_type: &Icmpv6Type) -> bool
     ensures { result ≡ specs.is_icmpv6_error_type icmp_type.now }
 {
@@ -261,7 +264,7 @@ fn quoted_ipv6<'a>(
     Ok((source, beginning(packet, found.counted_len, max_len)))
 }
 
-/// Finds the transport in an IP packet that may be cut off or state no length.
+/// Finds the transport in an IP packet. The packet may be cut off or state no length.
 #[inline(always)]
 fn find_lax(packet: &[u8]) -> Result<TransportInIp<'_>, ErrorAboutError>
     ensures refused { RefusesExactly result (option_map Ip (ip.lax_refusal packet.now)) }
@@ -275,7 +278,7 @@ fn find_lax(packet: &[u8]) -> Result<TransportInIp<'_>, ErrorAboutError>
     }
 }
 
-/// The source in the IPv4 header of a packet. Refuses a packet about which there is no error.
+/// The source in the IPv4 header of a packet. Refuses a packet about which no error is sent.
 fn source_ipv4(found: &TransportInIp<'_>) -> Result<[u8; 4], ErrorAboutError>
     ensures refused { RefusesExactly result (ipv4_rules (fixed_by_value found.now.fixed_header) found.now.is_later_fragment
         found.now.protocol.0 found.now.payload.now) }
@@ -304,7 +307,7 @@ fn source_ipv4(found: &TransportInIp<'_>) -> Result<[u8; 4], ErrorAboutError>
     Ok(*source)
 }
 
-/// The source in the IPv6 header of a packet. Refuses a packet about which there is no error.
+/// The source in the IPv6 header of a packet. Refuses a packet about which this error is not sent.
 fn source_ipv6(
     found: &TransportInIp<'_>,
     icmp_type: &Icmpv6Type,
@@ -366,7 +369,7 @@ fn may_be_icmpv6_error(message: &[u8]) -> bool
     message[0] < FIRST_INFORMATIONAL_TYPE || message[0] == icmpv6::TYPE_REDIRECT_MESSAGE
 }
 
-/// The beginning of the counted bytes of a packet, up to this length.
+/// The first `counted_len` bytes of a packet, but at most `max_len` bytes.
 fn beginning(packet: &[u8], counted_len: usize, max_len: usize) -> &[u8]
     ensures { result.now ≡ take max_len (take counted_len packet.now) }
 {

@@ -29,8 +29,8 @@ pub(crate) const IPV6_LEN: usize = Ipv6Header::LEN;
 /// The place of the hop limit, in bytes from the start of an IPv6 header (RFC 8200, section 3).
 pub(crate) const IPV6_HOP_LIMIT_AT: usize = 7;
 
-/// An IPv4 header without options, with its checksum (RFC 791, section 3.1). It starts with these eight bytes, which contain version and
-/// lengths, identification, flags and fragment offset.
+/// An IPv4 header without options, with its checksum (RFC 791, section 3.1). `start` contains its first eight bytes: version, header
+/// length, type of service, total length, identification, flags and fragment offset.
 pub(crate) fn ipv4_header(
     start: [u8; 8],
     time_to_live: u8,

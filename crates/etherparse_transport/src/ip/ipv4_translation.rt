@@ -55,7 +55,8 @@ impl Ipv4Translation {
         }
     }
 
-    /// The translation of the packet that an ICMP error quotes, which went in the other direction (RFC 5508, section 4).
+    /// The translation of the packet that an ICMP error quotes. Source and destination are exchanged, since the quoted packet went in the
+    /// other direction (RFC 5508, section 4).
     fn opposite(&self) -> Ipv4Translation
         ensures { result ≡ ipv4_opposite self.now }
     {

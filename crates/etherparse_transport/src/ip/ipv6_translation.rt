@@ -59,7 +59,8 @@ impl Ipv6Translation {
         }
     }
 
-    /// The translation of the packet that an ICMP error quotes, which went in the other direction (RFC 5508, section 4).
+    /// The translation of the packet that an ICMP error quotes. Source and destination are exchanged, since the quoted packet went in the
+    /// other direction (RFC 5508, section 4).
     fn opposite(&self) -> Ipv6Translation
         ensures { result ≡ ipv6_opposite self.now }
     {

@@ -25,24 +25,25 @@ use crate::ip::{IpError, TransportInIp, transport_in_ip_lax, transport_slice};
 pub struct PacketFlow<'a> {
     /// The ends of the packet itself.
     pub ends: FlowEnds<'a>,
-    /// The ends of the packet that an ICMP error quotes, which went in the other direction. `None` for any other packet, for a fragment, and
-    /// if the IP headers of the quoted packet are refused or cut off.
+    /// The ends of the packet that an ICMP error quotes. The quoted packet went in the other direction. `None` for any other packet, for a
+    /// fragment, and if the IP headers of the quoted packet are refused or cut off.
     pub quoted: Option<FlowEnds<'a>>,
 }
 
-/// The flow that an IP packet belongs to: its addresses, its protocol, and its ports or the identifier of an ICMP query, and the same of the
-/// packet that an ICMP error quotes (RFC 3022, section 4; RFC 5508). No checksum is tested.
+/// The flow that an IP packet belongs to: its addresses, its protocol, and its ports or the identifier of an ICMP query (RFC 3022, section
+/// 4; RFC 5508). If the packet is an ICMP error, the result also contains the flow of the quoted packet. No checksum is tested.
 ///
-/// UDP and TCP have ports in their first four bytes, so that a quote of eight bytes contains them too. Queries of ICMPv4 are echo, timestamp,
-/// information and address mask messages (RFC 792; RFC 950), and of ICMPv6 echo messages (RFC 4443, section 4). The identifier of a request
-/// is `source_port`, and the identifier of a reply `destination_port`, as in `Ipv4Translation`. Their code can be any.
+/// The first four bytes of UDP and TCP contain the ports, so a quote of eight bytes contains them too. The queries of ICMPv4 are echo,
+/// timestamp, information and address mask messages (RFC 792; RFC 950). The queries of ICMPv6 are echo messages (RFC 4443, section 4). The
+/// identifier of a request is `source_port`, and the identifier of a reply is `destination_port`, as in `Ipv4Translation`. A query may have
+/// any code.
 ///
-/// Like a quoted packet, the packet may be cut off or state no length.
+/// The packet may be cut off or state no length, and so may the quoted packet.
 ///
 /// # Errors
 ///
-/// The errors of `transport_in_ip_lax`. A transport header that is cut off or malformed is no error: then its ports are `None`, unless they
-/// are there.
+/// The errors of `transport_in_ip_lax`. A transport header that is cut off or malformed is no error. A port is `None` only if the packet
+/// does not contain it.
 pub fn flow(packet: &[u8]) -> Result<PacketFlow<'_>, IpError>
     ensures refused { RefusesExactly result (lax_refusal packet.now) }
     ensures flow { IfOk result (λ found. Some (by_value found) ≡ flow_of packet.now) }

@@ -48,8 +48,8 @@ pub fn is_reply_to(request: &[u8], reply: &[u8]) -> bool
         && has_right_header(reply)
 }
 
-/// Whether `reply` is the reply of any host to the echo request in `request`. The destination of the request is not compared. A host
-/// replies to a request to an anycast address from a unicast address, which the request does not contain (RFC 4443, section 4.2).
+/// Whether `reply` is the reply of any host to the echo request in `request`. The destination of the request is not compared. A host that
+/// receives a request to an anycast address replies from a unicast address, which the request does not contain (RFC 4443, section 4.2).
 ///
 /// The reply goes to the source of the request, and comes from the address of one host. All other conditions of `is_reply_to` apply.
 pub fn is_reply_from_any(request: &[u8], reply: &[u8]) -> bool
@@ -104,7 +104,7 @@ fn has_right_header(packet: &[u8]) -> bool
 // ---- the addresses
 
 /// Whether the addresses of the reply are those of the request, exchanged. If the request went to several hosts, its reply may come from
-/// any host.
+/// any host. `false` if a final destination is unknown.
 fn goes_back(request: IpAddresses<'_>, reply: IpAddresses<'_>) -> bool
     ensures { IsTrue result ↔ GoesBack (by_value request.entry) (by_value reply.entry) }
 {
@@ -133,7 +133,8 @@ fn goes_back(request: IpAddresses<'_>, reply: IpAddresses<'_>) -> bool
     }
 }
 
-/// Whether the reply goes from the address of one host to the source of the request.
+/// Whether the reply goes from the address of one host to the source of the request. `false` if the final destination of the reply is
+/// unknown.
 fn goes_to_source(request: IpAddresses<'_>, reply: IpAddresses<'_>) -> bool
     ensures { IsTrue result ↔ GoesToSource (by_value request.entry) (by_value reply.entry) }
 {
@@ -156,7 +157,7 @@ fn goes_to_source(request: IpAddresses<'_>, reply: IpAddresses<'_>) -> bool
     }
 }
 
-/// Whether the reply to a request to this destination may come from this source.
+/// Whether a host with the address `responder` may answer a request to this destination.
 fn may_answer_ipv4(destination: &[u8; 4], responder: &[u8; 4]) -> bool
     ensures { IsTrue result ↔ MayAnswerIpv4 destination.now responder.now }
 {
@@ -167,7 +168,7 @@ fn may_answer_ipv4(destination: &[u8; 4], responder: &[u8; 4]) -> bool
     }
 }
 
-/// Whether the reply to a request to this destination may come from this source.
+/// Whether a host with the address `responder` may answer a request to this destination.
 // perf: references to 16 bytes are compared at once. Arrays are compared byte by byte (27 Nov 2026).
 fn may_answer_ipv6(destination: &[u8; 16], responder: &[u8; 16]) -> bool
     ensures { IsTrue result ↔ MayAnswerIpv6 destination.now responder.now }
@@ -181,7 +182,7 @@ fn may_answer_ipv6(destination: &[u8; 16], responder: &[u8; 16]) -> bool
 
 // ---- the messages
 
-/// Whether `reply` is the reply to the message `request`. The reply has these addresses.
+/// Whether `reply` is the reply to the message `request`. The reply has these addresses. `false` if their final destination is unknown.
 fn answers(addresses: IpAddresses<'_>, request: &[u8], reply: &[u8]) -> bool
     ensures { IsTrue result ↔ Answers (by_value addresses.entry) request.now reply.now }
 {

@@ -7,27 +7,27 @@ ghost use Rattle.etherparse_transport.specs.SkippedHeaders as specs;
 use crate::ip::ip_header::IPV6_LEN;
 use crate::{IpNumber, ip_number};
 
-/// The shortest extension header, and the length of a fragment header, in bytes (RFC 8200, section 4).
+/// The length of the shortest extension header, in bytes. A fragment header also has this length (RFC 8200, section 4).
 const MIN_LEN: usize = 8;
 
-/// The type of padding of one byte, which has no length byte (RFC 8200, section 4.2).
+/// The type of the option Pad1, which has no length byte (RFC 8200, section 4.2).
 const PAD_1: u8 = 0;
 
 /// The type of the home address option (RFC 6275, section 6.3).
 const HOME_ADDRESS: u8 = 0xC9;
 
-/// The IPv6 header of a packet, and the extension headers after it that contain no other address of the packet.
+/// The IPv6 header of a packet, and the extension headers after it that are skipped, since they contain no other address of the packet.
 #[derive(Clone, Copy)]
 pub(crate) struct SkippedHeaders {
-    /// The number of the header or protocol after them.
+    /// The number of the header or protocol after these headers.
     pub(crate) protocol: IpNumber,
-    /// Their length in bytes.
+    /// The length of these headers, in bytes.
     pub(crate) len: usize,
-    /// Whether the last of them is the fragment header of a later fragment.
+    /// Whether the last of these headers is the fragment header of a later fragment.
     pub(crate) is_later_fragment: bool,
 }
 
-/// Skips the extension headers of a packet whose IPv6 header names this protocol.
+/// Skips the extension headers of a packet that contain no other address of the packet. `protocol` is the next header in the IPv6 header.
 #[inline(always)]
 pub(crate) fn skip_headers(packet: &[u8], protocol: IpNumber) -> SkippedHeaders
     requires header { 40 ≤ length packet.now }
@@ -108,7 +108,7 @@ fn extension_len(number: IpNumber, rest: &[u8]) -> usize
     (usize::from(rest[1]) + 1) * 8
 }
 
-/// Whether an extension header is a routing header with segments left, or contains a home address.
+/// Whether an extension header is a routing header with segments left, or a destination options header with a home address.
 fn adds_address(number: IpNumber, header: &[u8]) -> bool
     requires { 8 ≤ length header.now }
     ensures { result ≡ specs.adds_address number.0 header.now }
@@ -131,7 +131,7 @@ fn contain_home_address(options: &[u8]) -> bool
     false
 }
 
-/// The option at the front (RFC 8200, section 4.2). `None` at the end of the options, or if the data would go beyond the end.
+/// The option at the front of these bytes (RFC 8200, section 4.2). `None` at the end of the options, or if the option goes beyond the end.
 fn option_at(bytes: &[u8]) -> Option<&[u8]>
     ensures front { MatchOption result (ipv6_option bytes.now ≡ None) (λ option. ipv6_option bytes.now ≡ Some option.now) }
     ensures within { IfSome result (λ option. (1 ≤ length option.now) × (length option.now ≤ length bytes.now)) }

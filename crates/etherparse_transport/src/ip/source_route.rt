@@ -29,7 +29,8 @@ pub(crate) fn contain_source_route(options: &[u8]) -> bool
     false
 }
 
-/// The option at the front. If its length is impossible, it is all bytes. `None` at the end of the list.
+/// The option at the front of these bytes. If its length is missing or impossible, the option consists of all bytes. `None` at the end of
+/// the list.
 fn option_or_rest(bytes: &[u8]) -> Option<&[u8]>
     ensures front { MatchOption result (specs.option_or_rest bytes.now ≡ None) (λ option. specs.option_or_rest bytes.now ≡ Some option.now) }
     ensures within { IfSome result (λ option. (1 ≤ length option.now) × (length option.now ≤ length bytes.now)) }

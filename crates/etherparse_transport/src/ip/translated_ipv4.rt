@@ -17,41 +17,44 @@ use crate::ip::translated_message::{number, update_checksum};
 use crate::ip::{IpAddresses, Ipv4Translation, proto_over, transport_in_ip_lax};
 use crate::{IpNumber, Ipv4Header, Ipv4HeaderSlice, Proto, ip_number};
 
-/// Translates an IPv4 packet in place, as an address translator does: new addresses, and new ports or a new identifier of an ICMP query (RFC
-/// 3022; RFC 5508). The other bytes of the packet stay, and the bytes after it.
+/// Translates an IPv4 packet in place, as an address translator does (RFC 3022; RFC 5508). The call replaces addresses, and ports or the
+/// identifier of an ICMP query. It updates the checksums. The other bytes of the packet and the bytes after the packet are unchanged.
 ///
 /// ```
 /// let outbound = Ipv4Translation { source: Some([203, 0, 113, 7]), source_port: Some(40_000), ..Default::default() };
 /// ip::translate_ipv4(&mut packet, &outbound)?;
 /// ```
 ///
-/// The checksums of the IP header, of UDP, TCP and ICMP are updated by the replaced bytes (RFC 1624), so that a receiver accepts the packet
-/// exactly if it accepted it before. The only exception is an ICMPv4 echo reply of zeros, its checksum included: that checksum is wrong, and
-/// the new one is right. A UDP packet without a checksum, whose checksum is 0, remains without one, and no other becomes 0.
+/// The checksums of the IP header, of UDP, TCP and ICMP are updated from the replaced bytes (RFC 1624). So a receiver accepts the packet
+/// exactly if it accepted the packet before. The only exception is an ICMPv4 echo reply that consists of zeros, checksum included. Its old
+/// checksum is wrong, and its new checksum is right. A UDP checksum of 0 means that there is none (RFC 768), and stays 0. No other UDP
+/// checksum becomes 0.
 ///
-/// - **ICMP queries**, with any code: echo, timestamp, information and address mask (RFC 5508, section 3).
-/// - **Other protocols**, such as GRE, ESP and SCTP, if no port is passed: only the addresses are replaced (RFC 3022, section 2.1).
-/// - **ICMP errors**: the packet that an error is about went in the other direction, and is translated with source and destination
-///   exchanged, as far as the error contains it, whatever its total length is. Its checksums and the checksum of the error are updated too
-///   (RFC 5508, section 4).
-/// - **Fragments**: a first fragment has ports. In a later fragment only the addresses are replaced. If the TCP header is divided, its checksum
-///   is in the second fragment and stays, so that the translated fragments together are refused.
+/// - **ICMP queries** are echo, timestamp, information and address mask messages, with any code (RFC 5508, section 3). Their identifier is
+///   replaced.
+/// - **Other protocols**, such as GRE, ESP and SCTP: only the addresses are replaced, if no port is passed (RFC 3022, section 2.1).
+/// - **ICMP errors**: the packet that an error quotes went in the other direction. So it is translated with source and destination
+///   exchanged (RFC 5508, section 4). It is translated as far as the error contains it, and its total length is ignored. Its checksums and
+///   the checksum of the error are updated too.
+/// - **Fragments**: in a first fragment the ports are replaced too. In a later fragment only the addresses are replaced. If the first
+///   fragment ends before the TCP checksum, this checksum is not updated. So the reassembled packet usually has a wrong checksum.
 /// - **Packets that are cut off, or state no length**, are translated as `transport_in_ip_lax` reads them.
-/// - **Partial checksums**, which a host leaves to its network card, become wrong, since they contain no ports. If `is_checksum_partial` of the
-///   transport was true, store its `partial_checksum` afterwards.
+/// - **Partial checksums**, which a host leaves to its network card, become wrong, since they contain no ports. If `is_checksum_partial` of
+///   the transport was true before, store the new `partial_checksum` afterwards.
 ///
 /// # Errors
 ///
 /// The call checks these cases, in this order, and changes nothing after an error:
 /// - `Ip` if `transport_in_ip_lax` refuses the packet.
 /// - `OtherVersion` for an IPv6 packet.
-/// - `SourceRoute` if the options contain a loose or strict source route, option 131 or 137, of any form and any length. It would contain other
-///   addresses of the packet (RFC 791, section 3.1). Any other option stays as it is.
-/// - `Protocol` if the number in the header is not UDP, TCP or ICMPv4, and a port is passed or the protocol covers the addresses: AH, DCCP,
-///   HIP, ICMPv6, UDP-Lite and VRRP.
-/// - `HeaderCutOff` if fewer than 8 bytes of UDP, TCP or ICMP are there.
-/// - `IcmpMessage` for an ICMP message that is no query and no error, and for a redirect, which contains another address.
-/// - `QuotedPacket` if one of the first four cases is true of the packet that an ICMP error is about. Its total length is not read.
+/// - `SourceRoute` if the options contain a loose or strict source route, option 131 or 137, of any form and any length. A source route
+///   contains other addresses of the packet (RFC 791, section 3.1). Any other option stays as it is.
+/// - `Protocol` if the protocol is not UDP, TCP or ICMPv4, and a port is passed. If no port is passed, only these protocols are refused:
+///   AH, DCCP, HIP, UDP-Lite and VRRP, which cover the addresses, and ICMPv6.
+/// - `HeaderCutOff` if fewer than 8 bytes of UDP, TCP or ICMP are present.
+/// - `IcmpMessage` for an ICMP message that is neither a query nor an error, and for a redirect, which contains another address.
+/// - `QuotedPacket` if one of the first four cases is true of the packet that an ICMP error quotes. The total length of the quoted packet
+///   is ignored.
 pub fn translate_ipv4(packet: &mut [u8], new: &Ipv4Translation) -> Result<(), TranslateError>
     ensures refused { RefusesExactly result (specs.ipv4_refusal new.now packet.old) }
     ensures unchanged { IfErr result (λ _. packet.new ≡ packet.old) }
@@ -60,12 +63,12 @@ pub fn translate_ipv4(packet: &mut [u8], new: &Ipv4Translation) -> Result<(), Tr
     ensures read { IfOk result (λ _. IsReadWith packet.old packet.new (specs.ipv4_between new.now packet.old)
         (specs.ipv4_translated_message new.now packet.old)) }
     // A receiver accepts the translated message exactly if it accepts the message. This holds also if some bytes are in other fragments or
-    // are cut off. It does not hold for a message without a checksum, or for an ICMPv4 echo reply of zeros.
+    // are cut off. It does not cover a message without a checksum, or an ICMPv4 echo reply of zeros.
     ensures verifies { IfOk result (λ _. specs.IsIpv4Accepted new.now packet.old (specs.ipv4_translated_message new.now packet.old)) }
     ensures error { IfOk result (λ _. specs.IsIpv4ErrorAccepted packet.old (specs.ipv4_translated_message new.now packet.old)) }
     ensures header { IfOk result (λ _. specs.IsHeaderAccepted packet.old packet.new) }
-    // The translated packet can be translated again. The way back restores the packet, unless a checksum is lost (RFC 1624), or an ICMP
-    // error and the packet that it quotes have different addresses.
+    // The translated packet can be translated again. The way back restores the packet, with two exceptions. A checksum can be lost (RFC
+    // 1624), or an ICMP error and the packet that it quotes have different addresses.
     ensures again { IfOk result (λ _. specs.ipv4_refusal new.now packet.new ≡ None) }
     ensures there_and_back { IfOk result (λ _. (specs.ipv4_translated (ipv4_way_back new.now packet.old) packet.new ≡ packet.old) ↔
         IsIpv4Restored new.now packet.old) }
@@ -73,9 +76,10 @@ pub fn translate_ipv4(packet: &mut [u8], new: &Ipv4Translation) -> Result<(), Tr
     translate_ipv4_by(packet, new, None)
 }
 
-/// Translates an IPv4 packet as `translate_ipv4` does, with a translation of its own for the packet that an ICMP error is about. It names
-/// source and destination of that packet, and so the other direction (RFC 5508, section 4). If a router behind the translator sent the error,
-/// its address has another mapping than the destination of the packet.
+/// Translates an IPv4 packet as `translate_ipv4` does, except that `quoted` translates the packet that an ICMP error quotes. In `quoted`,
+/// source and destination are those of the quoted packet, which went in the other direction (RFC 5508, section 4). Use this call if a
+/// router behind the translator can send the error. Then the source of the error and the destination of the quoted packet have different
+/// mappings.
 ///
 /// ```
 /// let new = Ipv4Translation { source: Some(router), ..Default::default() };
@@ -83,11 +87,11 @@ pub fn translate_ipv4(packet: &mut [u8], new: &Ipv4Translation) -> Result<(), Tr
 /// ip::translate_ipv4_with_quoted(&mut packet, &new, &quoted)?;
 /// ```
 ///
-/// A packet that is no ICMP error is translated by `new` alone.
+/// A packet that is not an ICMP error is translated only by `new`.
 ///
 /// # Errors
 ///
-/// The errors of `translate_ipv4`, where a port of `quoted` counts for the packet that an ICMP error is about.
+/// The errors of `translate_ipv4`. For the packet that an ICMP error quotes, the ports of `quoted` are the passed ports.
 pub fn translate_ipv4_with_quoted(
     packet: &mut [u8],
     new: &Ipv4Translation,
@@ -100,13 +104,13 @@ pub fn translate_ipv4_with_quoted(
     ensures read { IfOk result (λ _. IsReadWith packet.old packet.new (specs.ipv4_between new.now packet.old)
         (specs.ipv4_message_of_both new.now quoted.now packet.old)) }
     // A receiver accepts the translated message exactly if it accepts the message. This holds also if some bytes are in other fragments or
-    // are cut off. It does not hold for a message without a checksum, or for an ICMPv4 echo reply of zeros.
+    // are cut off. It does not cover a message without a checksum, or an ICMPv4 echo reply of zeros.
     ensures verifies { IfOk result (λ _. specs.IsIpv4Accepted new.now packet.old (specs.ipv4_message_of_both new.now quoted.now packet.old)) }
     ensures error { IfOk result (λ _. specs.IsIpv4ErrorAccepted packet.old (specs.ipv4_message_of_both new.now quoted.now packet.old)) }
     ensures header { IfOk result (λ _. specs.IsHeaderAccepted packet.old packet.new) }
     // The translated packet can be translated again.
     ensures again { IfOk result (λ _. specs.ipv4_refusal_with new.now quoted.now packet.new ≡ None) }
-    // The ways back of both translations restore the packet, exactly unless a checksum is lost (RFC 1624).
+    // The ways back of both translations restore the packet, unless a checksum is lost (RFC 1624).
     ensures there_and_back { IfOk result (λ _. (specs.ipv4_translated_with (ipv4_flow_back new.now (specs.message_in_ipv4 false packet.old) packet.old)
         (ipv4_quoted_back (specs.ipv4_quoted packet.old) quoted.now) packet.new ≡ packet.old) ↔ IsIpv4RestoredWith packet.old) }
 {
@@ -127,7 +131,7 @@ fn translate_ipv4_by(
     ensures read { IfOk result (λ _. IsReadWith packet.old packet.new (specs.ipv4_between new.now packet.old)
         (specs.ipv4_message_of_both new.now (specs.ipv4_of_quoted new.now passed.entry) packet.old)) }
     // A receiver accepts the translated message exactly if it accepts the message. This holds also if some bytes are in other fragments or
-    // are cut off. It does not hold for a message without a checksum, or for an ICMPv4 echo reply of zeros.
+    // are cut off. It does not cover a message without a checksum, or an ICMPv4 echo reply of zeros.
     ensures verifies { IfOk result (λ _. specs.IsIpv4Accepted new.now packet.old (specs.ipv4_message_of_both new.now (specs.ipv4_of_quoted new.now passed.entry) packet.old)) }
     ensures error { IfOk result (λ _. specs.IsIpv4ErrorAccepted packet.old (specs.ipv4_message_of_both new.now (specs.ipv4_of_quoted new.now passed.entry) packet.old)) }
     ensures header { IfOk result (λ _. specs.IsHeaderAccepted packet.old packet.new) }
@@ -147,7 +151,7 @@ fn translate_ipv4_by(
     }
 }
 
-/// The place of the message of an IPv4 packet, which begins after its header.
+/// The place of the message in an IPv4 packet. The message begins after the IP header.
 // perf: the steps of the translation are compiled into one function, which takes 25.6 instead of 34.3 ns for a UDP packet, and 42.4 instead
 // of 57.4 ns for an ICMP error (27 Nov 2026).
 #[inline(always)]
@@ -198,7 +202,8 @@ pub(crate) const VRRP: IpNumber = IpNumber(112);
 /// The protocol number of UDP-Lite (RFC 3828).
 pub(crate) const UDP_LITE: IpNumber = IpNumber(136);
 
-/// Whether this protocol, other than UDP and TCP, has a checksum or an authentication that covers the addresses of an IPv4 packet.
+/// Whether this protocol, other than UDP and TCP, has a checksum or an authentication that covers the addresses of an IPv4 packet. This is
+/// also true of ICMPv6, which has no meaning over IPv4.
 fn covers_ipv4_addresses(number: IpNumber) -> bool
     ensures { result ≡ specs.covers_ipv4_addresses number.0 }
 {
@@ -255,8 +260,8 @@ fn translate_ipv4_error(
     Ok(())
 }
 
-/// The message of the packet that an ICMP error over IPv4 is about. `None` if the packet can't be translated. The message extends to the end
-/// of the quote: hosts that follow BSD quote a packet with a total length that leaves out the header.
+/// The place of the message in the packet that an ICMP error over IPv4 quotes. `None` if the packet can't be translated. The message
+/// extends to the end of the quote, since hosts that follow BSD quote a packet with a total length that leaves out the header.
 fn quoted_ipv4_place(quoted: &[u8], new: &Ipv4Translation) -> Option<Place>
     ensures found { MatchOption result
         (specs.ipv4_place_refusal true (has_port new.now.source_port new.now.destination_port) quoted.now ≢ None)
@@ -295,7 +300,7 @@ fn ipv4_proto(header: &Ipv4HeaderSlice<'_>) -> Option<Proto>
     )
 }
 
-/// Translates the packet that an ICMP error over IPv4 is about, and updates the checksum of the error.
+/// Translates the packet that an ICMP error over IPv4 quotes, and updates the checksum of the error.
 #[inline(always)]
 fn translate_ipv4_quoted(
     message: &mut [u8],
@@ -312,18 +317,18 @@ fn translate_ipv4_quoted(
     ensures types { IsIpv4Translation new.now }
 {
     let quoted = &mut message[ICMP_LEN..ICMP_LEN + quoted_len];
-    // The change also contains the first word, which is not 0. So neither sum of the quoted bytes is 0.
+    // The change also replaces the first word by itself. This word is not 0, so neither sum of the change is 0.
     let first = [quoted[0], quoted[1]];
     let change = translate_ipv4_flow(quoted, place, new);
     update_checksum(message, change.replace_2bytes(first, first));
 }
 
-/// Translates an IPv4 packet, as far as its message is there. The returned change replaces the words that are replaced.
+/// Translates an IPv4 packet. Its message may be cut off. The returned change contains all replaced words.
 #[inline(always)]
 fn translate_ipv4_flow(packet: &mut [u8], place: &Place, new: &Ipv4Translation) -> ChecksumChange
     requires place { specs.IsIpv4Place (slice_range packet.old place.now.start place.now.end) packet.old place.now }
     ensures translated { packet.new ≡ specs.ipv4_translated_flow new.now (slice_range packet.old place.now.start place.now.end) packet.old }
-    // The replaced words are all that differs.
+    // The old and the new packet differ only by the replaced words.
     ensures turns { (total packet.old + added_value result) % all_ones ≡ (total packet.new + removed_value result) % all_ones }
     ensures version { slice_index packet.new 0 ≡ slice_index packet.old 0 }
     ensures verifies { specs.IsAcceptedByIpv4 new.now (slice_range packet.old place.now.start place.now.end) packet.old

@@ -20,33 +20,35 @@ use crate::ip::translated_message::update_checksum;
 use crate::ip::{Ipv6Translation, proto_over, transport_in_ip_lax};
 use crate::{IpNumber, Ipv6Header, Ipv6HeaderSlice, Proto, ip_number};
 
-/// Translates an IPv6 packet in place, as an address translator does: new addresses, and new ports or a new identifier of an ICMP query,
-/// which is an echo message (RFC 3022; RFC 5508). The other bytes of the packet stay, and the bytes after it.
+/// Translates an IPv6 packet in place, as an address translator does (RFC 3022; RFC 5508). The call replaces addresses, and ports or the
+/// identifier of an ICMPv6 query, which is an echo message. It updates the checksums. The other bytes of the packet and the bytes after the
+/// packet are unchanged.
 ///
 /// ```
 /// let inbound = Ipv6Translation { destination: Some(inside), destination_port: Some(5000), ..Default::default() };
 /// ip::translate_ipv6(&mut packet, &inbound)?;
 /// ```
 ///
-/// The checksums are updated by the replaced bytes (RFC 1624), so that a receiver accepts the packet exactly if it accepted it before. ICMP
-/// errors, packets that are cut off, packets that state no length, and partial checksums are treated as by `translate_ipv4`.
+/// The checksums are updated from the replaced bytes (RFC 1624). So a receiver accepts the packet exactly if it accepted the packet before.
+/// The call treats ICMP errors, packets that are cut off, packets that state no length, and partial checksums as `translate_ipv4` does.
 ///
 /// Extension headers that contain no other address of the packet are skipped, and stay: hop-by-hop options, fragment headers, routing
-/// headers without segments left, and destination options without a home address (RFC 8200, section 4; RFC 6275, section 6.3). A first
-/// fragment has ports, and so has an atomic fragment (RFC 6946). In a later fragment only the addresses are replaced. Of other protocols
-/// only the addresses are replaced, if no port is passed.
+/// headers without segments left, and destination options without a home address (RFC 8200, section 4; RFC 6275, section 6.3). In a first
+/// fragment and in an atomic fragment (RFC 6946), the ports are replaced too. In a later fragment only the addresses are replaced. In a
+/// packet of another protocol only the addresses are replaced, if no port is passed.
 ///
 /// # Errors
 ///
 /// The call checks these cases, in this order, and changes nothing after an error:
 /// - `Ip` if `transport_in_ip_lax` refuses the packet.
 /// - `OtherVersion` for an IPv4 packet.
-/// - `Protocol` if the protocol after these headers is not UDP, TCP or ICMPv6, and a port is passed or the protocol covers the addresses:
-///   DCCP, ICMPv4, OSPF, PIM, UDP-Lite and VRRP. So a packet with another extension header is refused: segments left or a home address
-///   would contain another address that a checksum covers (RFC 8200, section 8.1; RFC 6275, section 6.3).
-/// - `HeaderCutOff` if fewer than 8 bytes of UDP, TCP or ICMP are there.
-/// - `IcmpMessage` for an ICMP message that is no query and no error, or a redirect.
-/// - `QuotedPacket` if one of the first three cases is true of the packet that an ICMP error is about.
+/// - `Protocol` if the number after the skipped headers is not UDP, TCP or ICMPv6, and a port is passed. If no port is passed, only these
+///   numbers are refused: DCCP, OSPF, PIM, UDP-Lite and VRRP, which cover the addresses, ICMPv4, and an extension header that is not
+///   skipped. Segments left and a home address would contain another address that a checksum covers (RFC 8200, section 8.1; RFC 6275,
+///   section 6.3).
+/// - `HeaderCutOff` if fewer than 8 bytes of UDP, TCP or ICMP are present.
+/// - `IcmpMessage` for an ICMP message that is neither a query nor an error, for example a redirect.
+/// - `QuotedPacket` if one of the first three cases is true of the packet that an ICMP error quotes.
 pub fn translate_ipv6(packet: &mut [u8], new: &Ipv6Translation) -> Result<(), TranslateError>
     ensures refused { RefusesExactly result (specs.ipv6_refusal new.now packet.old) }
     ensures unchanged { IfErr result (λ _. packet.new ≡ packet.old) }
@@ -55,11 +57,11 @@ pub fn translate_ipv6(packet: &mut [u8], new: &Ipv6Translation) -> Result<(), Tr
     ensures read { IfOk result (λ _. IsReadWith packet.old packet.new (specs.ipv6_between new.now packet.old)
         (specs.ipv6_translated_message new.now packet.old)) }
     // A receiver accepts the translated message exactly if it accepts the message. This holds also if some bytes are in other fragments or
-    // are cut off. It does not hold for a message without a checksum.
+    // are cut off. It does not cover a message without a checksum.
     ensures verifies { IfOk result (λ _. specs.IsIpv6Accepted new.now packet.old (specs.ipv6_translated_message new.now packet.old)) }
     ensures error { IfOk result (λ _. specs.IsIpv6ErrorAccepted new.now packet.old (specs.ipv6_translated_message new.now packet.old)) }
-    // The translated packet can be translated again. The way back restores the packet, unless a checksum is lost (RFC 1624), or an ICMP
-    // error and the packet that it quotes have different addresses.
+    // The translated packet can be translated again. The way back restores the packet, with two exceptions. A checksum can be lost (RFC
+    // 1624), or an ICMP error and the packet that it quotes have different addresses.
     ensures again { IfOk result (λ _. specs.ipv6_refusal new.now packet.new ≡ None) }
     ensures there_and_back { IfOk result (λ _. (specs.ipv6_translated (ipv6_way_back new.now packet.old) packet.new ≡ packet.old) ↔
         IsIpv6Restored new.now packet.old) }
@@ -67,9 +69,10 @@ pub fn translate_ipv6(packet: &mut [u8], new: &Ipv6Translation) -> Result<(), Tr
     translate_ipv6_by(packet, new, None)
 }
 
-/// Translates an IPv6 packet as `translate_ipv6` does, with a translation of its own for the packet that an ICMP error is about. It names
-/// source and destination of that packet, and so the other direction (RFC 5508, section 4). If a router behind the translator sent the error,
-/// its address has another mapping than the destination of the packet.
+/// Translates an IPv6 packet as `translate_ipv6` does, except that `quoted` translates the packet that an ICMP error quotes. In `quoted`,
+/// source and destination are those of the quoted packet, which went in the other direction (RFC 5508, section 4). Use this call if a
+/// router behind the translator can send the error. Then the source of the error and the destination of the quoted packet have different
+/// mappings.
 ///
 /// ```
 /// let new = Ipv6Translation { source: Some(router), ..Default::default() };
@@ -77,11 +80,11 @@ pub fn translate_ipv6(packet: &mut [u8], new: &Ipv6Translation) -> Result<(), Tr
 /// ip::translate_ipv6_with_quoted(&mut packet, &new, &quoted)?;
 /// ```
 ///
-/// A packet that is no ICMP error is translated by `new` alone.
+/// A packet that is not an ICMP error is translated only by `new`.
 ///
 /// # Errors
 ///
-/// The errors of `translate_ipv6`, where a port of `quoted` counts for the packet that an ICMP error is about.
+/// The errors of `translate_ipv6`. For the packet that an ICMP error quotes, the ports of `quoted` are the passed ports.
 pub fn translate_ipv6_with_quoted(
     packet: &mut [u8],
     new: &Ipv6Translation,
@@ -94,7 +97,7 @@ pub fn translate_ipv6_with_quoted(
     ensures read { IfOk result (λ _. IsReadWith packet.old packet.new (specs.ipv6_between new.now packet.old)
         (specs.ipv6_message_of_both new.now quoted.now packet.old)) }
     // A receiver accepts the translated message exactly if it accepts the message. This holds also if some bytes are in other fragments or
-    // are cut off. It does not hold for a message without a checksum.
+    // are cut off. It does not cover a message without a checksum.
     ensures verifies { IfOk result (λ _. specs.IsIpv6Accepted new.now packet.old (specs.ipv6_message_of_both new.now quoted.now packet.old)) }
     ensures error { IfOk result (λ _. specs.IsIpv6ErrorAccepted new.now packet.old (specs.ipv6_message_of_both new.now quoted.now packet.old)) }
     // The translated packet can be translated again.
@@ -120,7 +123,7 @@ fn translate_ipv6_by(
     ensures read { IfOk result (λ _. IsReadWith packet.old packet.new (specs.ipv6_between new.now packet.old)
         (specs.ipv6_message_of_both new.now (specs.ipv6_of_quoted new.now passed.entry) packet.old)) }
     // A receiver accepts the translated message exactly if it accepts the message. This holds also if some bytes are in other fragments or
-    // are cut off. It does not hold for a message without a checksum.
+    // are cut off. It does not cover a message without a checksum.
     ensures verifies { IfOk result (λ _. specs.IsIpv6Accepted new.now packet.old (specs.ipv6_message_of_both new.now (specs.ipv6_of_quoted new.now passed.entry) packet.old)) }
     ensures error { IfOk result (λ _. specs.IsIpv6ErrorAccepted new.now packet.old (specs.ipv6_message_of_both new.now (specs.ipv6_of_quoted new.now passed.entry) packet.old)) }
     // The translated packet can be translated again.
@@ -145,10 +148,10 @@ const SOURCE_AT: usize = Ipv6Header::SOURCE_AT;
 /// The place of the destination in an IPv6 header.
 const DESTINATION_AT: usize = Ipv6Header::DESTINATION_AT;
 
-/// The message of an IPv6 packet, which begins after the headers that are skipped.
-// perf: this looks for the IPv6 header first, so that nothing of IPv4 is compiled into the rest. All steps of the translation are compiled
-// into one function, which keeps the new addresses in registers. Together with `replaced_ipv6_change` it takes 160 instead of 239
-// instructions for a UDP packet (27 Nov 2026).
+/// The place of the message in an IPv6 packet. The message begins after the skipped headers.
+// perf: the IPv6 header is read first, so that no code for IPv4 is compiled into the rest. All steps of the translation are compiled into
+// one function, which keeps the new addresses in registers. Together with `replaced_ipv6_change` this takes 160 instead of 239 instructions
+// for a UDP packet (27 Nov 2026).
 #[inline(always)]
 fn ipv6_place(packet: &[u8], new: &Ipv6Translation) -> Result<Place, TranslateError>
     ensures refused { RefusesExactly result (specs.ipv6_place_refusal (has_port new.now.source_port new.now.destination_port) packet.now) }
@@ -176,8 +179,8 @@ fn ipv6_place(packet: &[u8], new: &Ipv6Translation) -> Result<Place, TranslateEr
 }
 
 /// The error for a packet that does not begin with an IPv6 header.
-// perf: the memory for the result of a call is filled with zeros in the function into which the caller is inlined. That is this function.
-// Without it, each packet takes this time (27 Nov 2026).
+// perf: the memory for the result of the call below is filled with zeros in this function. Without this function, that takes time for each
+// packet (27 Nov 2026).
 #[inline(always)]
 fn no_ipv6_header(packet: &[u8]) -> TranslateError
     requires { ¬ BeginsWithIpv6Header packet.now }
@@ -198,7 +201,7 @@ fn error_or_other_version(packet: &[u8]) -> TranslateError
     }
 }
 
-/// The message of the packet that an ICMP error over IPv6 is about.
+/// The place of the message in the packet that an ICMP error over IPv6 quotes.
 // perf: `ipv6_place` is inlined only once in a function, or not at all (27 Nov 2026).
 #[inline(never)]
 fn quoted_ipv6_place(quoted: &[u8], new: &Ipv6Translation) -> Result<Place, TranslateError>
@@ -208,7 +211,8 @@ fn quoted_ipv6_place(quoted: &[u8], new: &Ipv6Translation) -> Result<Place, Tran
     ipv6_place(quoted, new)
 }
 
-/// Whether a packet is refused because its protocol is not UDP, TCP or ICMPv6, and a port is replaced or the protocol covers the addresses.
+/// Whether a packet is refused because of its protocol: it is not UDP, TCP or ICMPv6, and a port is replaced or the protocol covers the
+/// addresses.
 #[inline(always)]
 fn is_ipv6_refused(proto: Option<Proto>, number: IpNumber, new: &Ipv6Translation) -> bool
     ensures { result ≡ (is_none proto && (has_port new.now.source_port new.now.destination_port || specs.covers_ipv6_addresses number.0)) }
@@ -222,8 +226,8 @@ const OSPF: IpNumber = IpNumber(89);
 /// The protocol number of PIM (RFC 7761).
 const PIM: IpNumber = IpNumber(103);
 
-/// Whether this is the number of an extension header, of ICMPv4, which has no meaning over IPv6, or of a protocol whose checksum covers the
-/// addresses and is not updated.
+/// Whether this is the number of an extension header, of ICMPv4, or of a protocol whose checksum covers the addresses and is not updated.
+/// ICMPv4 has no meaning over IPv6.
 fn covers_ipv6_addresses(number: IpNumber) -> bool
     ensures { result ≡ specs.covers_ipv6_addresses number.0 }
 {
@@ -316,13 +320,13 @@ fn translate_ipv6_quoted(
     ensures types { IsIpv6Translation new.now }
 {
     let quoted = &mut message[ICMP_LEN..ICMP_LEN + quoted_len];
-    // The change also contains the first word, which is not 0. So neither sum of the quoted bytes is 0.
+    // The change also replaces the first word by itself. This word is not 0, so neither sum of the change is 0.
     let first = [quoted[0], quoted[1]];
     let change = translate_ipv6_flow(quoted, place, new);
     update_checksum(message, addresses.and(change.replace_2bytes(first, first)));
 }
 
-/// Translates an IPv6 packet, as far as its message is there. The returned change replaces the words that are replaced.
+/// Translates an IPv6 packet. Its message may be cut off. The returned change contains all replaced words.
 #[inline(always)]
 fn translate_ipv6_flow(packet: &mut [u8], place: &Place, new: &Ipv6Translation) -> ChecksumChange
     requires place { specs.IsIpv6Place packet.old place.now }
@@ -386,8 +390,9 @@ fn replace_if_passed(packet: &mut [u8], place: usize, new: Option<[u8; 16]>)
     }
 }
 
-/// A change of the addresses of an IPv6 packet that updates each checksum as `ipv6_change` does. An address that is not replaced is left
-/// out. It is needed only if the new address is the unspecified address, since then all other new words may be 0.
+/// A change of the addresses of an IPv6 packet that updates each checksum as `ipv6_change` does. If only one address is replaced, the other
+/// address is left out. If the new address is the unspecified address, the other address is included, since otherwise all new words would
+/// be 0.
 #[inline(always)]
 fn replaced_ipv6_change(
     packet: &[u8],
@@ -411,7 +416,7 @@ fn replaced_ipv6_change(
     }
 }
 
-/// Whether this is not the unspecified address. That is the only address whose words have the sum 0 (RFC 4291, section 2.5.2).
+/// Whether this is not the unspecified address. Only the words of the unspecified address have the sum 0 (RFC 4291, section 2.5.2).
 fn is_specified(address: [u8; 16]) -> bool
     ensures { IsTrue result → total address ≢ 0 }
 {

@@ -37,7 +37,7 @@ const MAX_MESSAGE_LEN_IPV6: usize = u16::MAX as usize;
 ///
 /// # Errors
 ///
-/// The first of these that applies. After an error the slice is unchanged:
+/// The call checks these cases, in this order, and changes nothing after an error:
 /// - `Icmpv6InIpv4` if the header is an ICMPv6 header.
 /// - `PayloadLen` if the packet would be longer than 65,535 bytes.
 /// - `TimestampLen` if an ICMPv4 timestamp message or reply with code 0 would not be 20 bytes long.
@@ -92,7 +92,7 @@ pub fn write_packet_ipv4(
 ///
 /// # Errors
 ///
-/// The first of these that applies. After an error the slice is unchanged:
+/// The call checks these cases, in this order, and changes nothing after an error:
 /// - `Icmpv4InIpv6` if the header is an ICMPv4 header.
 /// - `PayloadLen` if transport header and payload are longer than 65,535 bytes.
 /// - `Space` if the slice is shorter than the packet.
@@ -147,7 +147,7 @@ fn number_of_header(header: &TransportHeader) -> IpNumber
     }
 }
 
-/// The length of a header in bytes. The contract also states an upper bound.
+/// The length of a header in bytes. Unlike `header_len`, its contract also states an upper bound.
 #[inline(always)]
 fn counted_header_len(header: &TransportHeader) -> usize
     ensures value { result ≡ length (wire header.now) }
@@ -163,7 +163,7 @@ fn counted_header_len(header: &TransportHeader) -> usize
 
 // ---- errors
 
-/// Refuses a header and a payload that can't form an IPv4 packet. The length of the slice is not checked.
+/// Refuses a header and a payload from which no IPv4 packet can be built. The length of the slice is not checked.
 fn check_ipv4(
     header: &TransportHeader,
     header_len: usize,
@@ -182,7 +182,7 @@ fn check_ipv4(
     Ok(())
 }
 
-/// Refuses a header and a payload that can't form an IPv6 packet. The length of the slice is not checked.
+/// Refuses a header and a payload from which no IPv6 packet can be built. The length of the slice is not checked.
 fn check_ipv6(
     header: &TransportHeader,
     header_len: usize,
@@ -215,7 +215,7 @@ fn check_counted(
     Ok(())
 }
 
-/// Refuses a timestamp message or reply with code 0 that is not 20 bytes long.
+/// Refuses an ICMPv4 timestamp message or reply with code 0 that is not 20 bytes long.
 fn check_timestamp(header: &[u8], payload: &[u8]) -> Result<(), BuildSliceWriteError>
     requires whole { 8 ≤ length header.now }
     ensures refused { RefusesExactly result (option_map TimestampLen (icmpv4.refusal (header.now ++ payload.now))) }
@@ -517,7 +517,7 @@ fn write_icmp_ipv6(
     write_parts(message, &sent.to_bytes(), payload);
 }
 
-/// A UDP header without a checksum, with a length field for a payload of this length.
+/// This UDP header with the checksum 0, and with a length field for a payload of this length.
 #[inline(always)]
 fn with_udp_length(header: &UdpHeader, payload_len: usize) -> UdpHeader
     requires { 8 + payload_len ≤ max_length_field }

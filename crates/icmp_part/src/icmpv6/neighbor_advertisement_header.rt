@@ -15,7 +15,7 @@ pub struct NeighborAdvertisementHeader {
     pub router: bool,
     /// The message answers a neighbor solicitation.
     pub solicited: bool,
-    /// The link-layer address in the message should replace a known address. The RFC calls this flag "override".
+    /// The link-layer address in the message should replace the address that the receiver has cached. The RFC calls this flag "override".
     pub override_flag: bool,
 }
 
@@ -33,7 +33,7 @@ impl NeighborAdvertisementHeader {
     /// The bit of the override flag in byte 4 of the header.
     pub const OVERRIDE_MASK: u8 = 0x20;
 
-    /// Reads the flags from bytes 4 to 7 of a header (RFC 4861, section 4.4). The other bits are not kept.
+    /// Reads the flags from bytes 4 to 7 of a header (RFC 4861, section 4.4). All other bits are ignored.
     #[tactic(auto, using(crate::proofs::Icmpv6FormatLemmas::neighbor_advertisement_written_back))]
     pub fn from_bytes(bytes: [u8; 4]) -> NeighborAdvertisementHeader
         ensures read { result ≡ neighbor_advertisement_of bytes 0 }
@@ -46,7 +46,7 @@ impl NeighborAdvertisementHeader {
         }
     }
 
-    /// The bytes 4 to 7 of a header with these flags (RFC 4861, section 4.4). All other bits are zero.
+    /// Bytes 4 to 7 of a header with these flags (RFC 4861, section 4.4). All other bits are zero.
     pub fn to_bytes(&self) -> [u8; 4]
         ensures written { result ≡ neighbor_advertisement_fields self.now }
         ensures read_back { neighbor_advertisement_of result 0 ≡ self.now }

@@ -20,8 +20,7 @@ pub enum ParameterProblemCode {
     UnrecognizedIpv6Option,
     /// The first fragment has an incomplete IPv6 header chain (RFC 7112, section 5).
     Ipv6FirstFragmentIncompleteHeaderChain,
-    /// The node does not process this upper-layer header in a packet whose destination is its segment identifier (RFC 8754, section
-    /// 4.3.1.2).
+    /// The destination is a segment identifier of a node that does not process this upper-layer header (RFC 8754, section 4.3.1.2).
     SrUpperLayerHeaderError,
     /// The type of the next header is unrecognized by an intermediate node (RFC 8883, section 2).
     UnrecognizedNextHeaderByIntermediateNode,

@@ -1,6 +1,6 @@
 use crate::icmpv6::ParameterProblemCode;
 
-/// The problem with a packet, and its place (RFC 4443, section 3.4).
+/// The problem with a packet, and the place of the problem in the packet (RFC 4443, section 3.4).
 ///
 /// ```
 /// use etherparse_transport::icmpv6::{ParameterProblemCode, ParameterProblemHeader};
@@ -17,7 +17,7 @@ use crate::icmpv6::ParameterProblemCode;
 pub struct ParameterProblemHeader {
     /// The problem.
     pub code: ParameterProblemCode,
-    /// The place of the error in the packet that caused the message, in bytes from its first byte (bytes 4 to 7). It
-    /// may be beyond the part of that packet that the message contains (RFC 4443, section 3.4).
+    /// The place of the error, in bytes from the start of the packet that caused the message (bytes 4 to 7). It may be beyond the part of
+    /// the packet that the message quotes (RFC 4443, section 3.4).
     pub pointer: u32,
 }

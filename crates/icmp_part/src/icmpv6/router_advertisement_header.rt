@@ -10,13 +10,14 @@
 /// ```
 #[derive(Clone, Copy, Debug, PartialEq, Eq, PartialOrd, Ord, Hash)]
 pub struct RouterAdvertisementHeader {
-    /// The hop limit that the router proposes for packets that a host sends, or 0 if it proposes no hop limit (byte 4).
+    /// The hop limit that the router proposes to hosts for the packets that they send (byte 4). If it is 0, the router proposes no hop
+    /// limit.
     pub cur_hop_limit: u8,
-    /// Addresses are available by DHCPv6 (the RFC's M flag).
+    /// Addresses are available through DHCPv6 (the RFC's M flag).
     pub managed_address_config: bool,
-    /// Other configuration is available by DHCPv6 (the RFC's O flag).
+    /// Other configuration is available through DHCPv6 (the RFC's O flag).
     pub other_config: bool,
-    /// The time for which the router can be used as a default router, in seconds (bytes 6 and 7). If it is 0, the router is no default
+    /// The time for which the router can be used as a default router, in seconds (bytes 6 and 7). If it is 0, the router is not a default
     /// router.
     pub router_lifetime: u16,
 }
@@ -32,7 +33,7 @@ impl RouterAdvertisementHeader {
     /// The bit of the flag `other_config` in byte 5 of the header.
     pub const OTHER_CONFIG_MASK: u8 = 0x40;
 
-    /// Reads the fields from bytes 4 to 7 of a header (RFC 4861, section 4.2). The low six bits of byte 5 are not kept.
+    /// Reads the fields from bytes 4 to 7 of a header (RFC 4861, section 4.2). The low six bits of byte 5 are ignored.
     pub fn from_bytes(bytes: [u8; 4]) -> RouterAdvertisementHeader
         ensures read { result ≡ router_advertisement_of bytes 0 }
         ensures written_back { router_advertisement_fields result ≡ masked router_advertisement_masks bytes }
@@ -47,7 +48,7 @@ impl RouterAdvertisementHeader {
         }
     }
 
-    /// The bytes 4 to 7 of a header with these fields (RFC 4861, section 4.2). Unused bits are zero.
+    /// Bytes 4 to 7 of a header with these fields (RFC 4861, section 4.2). Unused bits are zero.
     pub fn to_bytes(&self) -> [u8; 4]
         ensures written { result ≡ router_advertisement_fields self.now }
         ensures read_back { router_advertisement_of result 0 ≡ self.now }

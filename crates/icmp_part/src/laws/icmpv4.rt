@@ -143,7 +143,7 @@ pub fn equal_timestamp_message(a: &TimestampMessage, b: &TimestampMessage) -> bo
     a == b
 }
 
-/// Each type and code has the number in the RFC that `icmpv4` names for it. Each length is the length of a header.
+/// The constants for lengths, for the place of the checksum, for types and for codes have these values.
 pub fn constants()
     ensures header_lens { (Icmpv4Header.MIN_LEN ≡ 8) × (Icmpv4Header.MIN_SERIALIZED_SIZE ≡ 8) × (Icmpv4Header.MAX_LEN ≡ 20)
         × (Icmpv4Header.MAX_SERIALIZED_SIZE ≡ 20) }

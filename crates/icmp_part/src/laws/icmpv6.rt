@@ -277,8 +277,7 @@ pub fn hashed_time_exceeded_code<H: Hasher>(code: &TimeExceededCode, state: &mut
     code.hash(state);
 }
 
-/// Each type and code has the number in the RFC that `icmpv6` names for it. Each length is the length of a header, and each flag has its
-/// bit.
+/// The constants for lengths, for the place of the checksum, for the bits of flags, for types and for codes have these values.
 pub fn constants()
     ensures header_lens { (Icmpv6Header.MIN_LEN ≡ 8) × (Icmpv6Header.MIN_SERIALIZED_SIZE ≡ 8) × (Icmpv6Header.MAX_LEN ≡ 40)
         × (Icmpv6Header.MAX_SERIALIZED_SIZE ≡ 40) }

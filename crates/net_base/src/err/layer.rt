@@ -13,7 +13,7 @@
 pub enum Layer {
     /// A UDP header (RFC 768).
     UdpHeader,
-    /// A UDP header and the payload that its length field counts (RFC 768).
+    /// A UDP header with its payload. The length field counts both (RFC 768).
     UdpPayload,
     /// A TCP header with its options (RFC 9293, section 3.1).
     TcpHeader,

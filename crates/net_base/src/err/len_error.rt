@@ -19,11 +19,12 @@ use thiserror::Error;
 #[derive(Clone, Debug, PartialEq, Eq, Hash, Drop, Error)]
 #[error("{}", self.text())]
 pub struct LenError {
-    /// The length that would have been accepted, in bytes. It is the least such length, or the greatest if there were too many bytes.
+    /// The least length that would have been accepted, in bytes. If there were too many bytes, it is the greatest length that would have
+    /// been accepted.
     pub required_len: usize,
     /// The actual length, in bytes.
     pub len: usize,
-    /// What states the length `len`.
+    /// The source of the length `len`: the slice, or a length field.
     pub len_source: LenSource,
     /// The layer that could not be read.
     pub layer: Layer,

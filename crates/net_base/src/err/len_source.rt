@@ -1,4 +1,4 @@
-/// What states a length.
+/// The source of a length in an error.
 ///
 /// ```
 /// use etherparse_transport::{LenSource, UdpSlice};

@@ -7,7 +7,7 @@ use crate::err::{ErrorText, ValueType};
 use std::fmt::Display;
 use thiserror::Error;
 
-/// A value is greater than what can be stored or sent.
+/// A value is above the greatest value that can be stored or sent.
 ///
 /// ```
 /// use etherparse_transport::UdpHeader;

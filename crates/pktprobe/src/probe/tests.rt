@@ -6,7 +6,7 @@ use std::io::{ErrorKind, Read, Write};
 use std::ops::Range;
 use std::process::Abort;
 
-/// A TCP header of 60 bytes in which every bit is set, and 20 bytes after it.
+/// A line with a TCP header of 60 bytes, in which every bit is set, and 20 zero bytes after the header.
 const LONGEST_TCP_LINE: &str =
     "tcp FFFFFFFFFFFFFFFFFFFFFFFFFFFFFFFFFFFFFFFFFFFFFFFFFFFFFFFFFFFFFFFFFFFFFFFFFFFFFFFFFFFFFFFFFFFFFFFFFFFFFFFFFFFFFFFFFFFFFFFF0000000000000000000000000000000000000000\n";
 
@@ -14,16 +14,16 @@ const LONGEST_TCP_LINE: &str =
 const LONGEST_TCP_TEXT: &str =
     "ok fffffffffffffffffffffffff1ffffffffffffffffffffffffffffffffffffffffffffffffffffffffffffffffffffffffffffffffffffffffffffff 20\n";
 
-/// Lines, each with its answer.
+/// Lines with an accepted packet, each with its answer.
 static ACCEPTED: [(&str, &str); 2] = [
     ("udp 003504D200080000AA\n", "ok 003504d200080000 1\n"),
     (LONGEST_TCP_LINE, LONGEST_TCP_TEXT),
 ];
 
-/// Digits of both cases, repeated over a line.
+/// Hex digits in lower and upper case, which `long_input` repeats.
 const DIGITS: [u8; 32] = *b"0123456789abcdefFEDCBA9876543210";
 
-/// A line of the maximum length with these digits, and three digits after it.
+/// A line of the maximum length that repeats `DIGITS`, and three more digits.
 fn long_input() -> [u8; 8195] {
     let mut input = [b'u'; 8195];
     input[..4].copy_from_slice(b"udp ");
@@ -45,7 +45,7 @@ fn expect_beginning(rt: &impl Abort, input: &[u8], len: usize, text: &str, statu
     expect_answer(rt, bytes_to(rt, input, len), text, status);
 }
 
-/// Stops the test unless the length of this packet, in bytes, is refused.
+/// Stops the test unless the UDP packet in this line, which has `len` bytes, is refused for its length.
 fn expect_refused_len(rt: &(impl Abort + AllocGlobal), line: &[u8], len: usize) {
     let text = expect_ok(
         rt,
@@ -54,7 +54,7 @@ fn expect_refused_len(rt: &(impl Abort + AllocGlobal), line: &[u8], len: usize) 
     expect_answer(rt, line, text.as_str(), 1);
 }
 
-/// Stops the test unless the header of this packet is accepted, with this many bytes after it.
+/// Stops the test unless the UDP packet in this line is accepted, with `rest_len` bytes after its header.
 fn expect_accepted_len(rt: &(impl Abort + AllocGlobal), line: &[u8], rest_len: usize) {
     let text = expect_ok(
         rt,
@@ -63,7 +63,7 @@ fn expect_accepted_len(rt: &(impl Abort + AllocGlobal), line: &[u8], rest_len: u
     expect_answer(rt, line, text.as_str(), 0);
 }
 
-/// Stops the test unless lines with UDP packets of these lengths, in bytes, have their answers.
+/// Stops the test unless UDP packets of these lengths, in bytes, are answered correctly: accepted from 8 bytes on, and otherwise refused.
 fn expect_lens(rt: &(impl Abort + AllocGlobal), input: &[u8], lens: Range<u16>) {
     for len in lens {
         let len = usize::from(len);
@@ -161,7 +161,7 @@ static LINES: [(&str, &str, u8); 42] = [
     (" udp 0000000000000000", "bad input\n", 2),
 ];
 
-/// Stops the test unless the line of a row has the answer of the row.
+/// Stops the test unless the line in this row has the answer and the status in this row.
 fn expect_row(rt: &impl Abort, row: &(&str, &str, u8)) {
     expect_answer(rt, row.0.as_bytes(), row.1, row.2);
 }
@@ -192,7 +192,8 @@ fn long_input_ending_in(digit: u8) -> [u8; 8195] {
     input
 }
 
-/// Stops the test unless lines without a line feed have their answers: a line of the maximum length, and three longer lines.
+/// Stops the test unless lines without a line feed are answered correctly. A line of the maximum length is accepted, and three longer lines
+/// are bad input.
 fn expect_without_line_feed(rt: &impl Abort, input: &[u8]) {
     expect_beginning(rt, input, 8192, "ok 0123456789abcdef 4086\n", 0);
     expect_beginning(rt, input, 8193, "bad input\n", 2);
@@ -200,7 +201,8 @@ fn expect_without_line_feed(rt: &impl Abort, input: &[u8]) {
     expect_beginning(rt, input, 8195, "bad input\n", 2);
 }
 
-/// Stops the test unless lines with a line feed have their answers: a line of the maximum length, and one with a byte after its line feed.
+/// Stops the test unless lines with a line feed are answered correctly. A line of the maximum length is accepted. With a byte after its
+/// line feed, it is bad input.
 fn expect_with_line_feed(rt: &impl Abort, input: &[u8]) {
     expect_beginning(rt, input, 8193, "ok 0123456789abcdef 4086\n", 0);
     expect_beginning(rt, input, 8194, "bad input\n", 2);
@@ -240,7 +242,7 @@ fn packets_of_many_lengths_are_answered(rt: HostRuntime) {
     expect_lens(&rt, &input, 4086..4095);
 }
 
-/// A reader that returns one byte per read. The read after `reads` reads fails, once.
+/// A reader that returns one byte per read. After `reads` successful reads, the next read fails once.
 #[derive(Drop)]
 struct FaultyReader<'a> {
     rest: &'a [u8],
@@ -265,7 +267,8 @@ impl<'a> Read for FaultyReader<'a> {
     }
 }
 
-/// A writer that accepts one byte per write. The call after `calls` calls, which are writes and flushes, fails or accepts nothing, once.
+/// A writer that accepts one byte per write. After `calls` successful writes and flushes, the next write or flush fails once. If
+/// `takes_nothing` is set, a write accepts no bytes instead of failing. The flush still fails.
 #[derive(Drop)]
 struct FaultyWriter {
     written: ArrayVec<u8, 160>,
@@ -302,7 +305,7 @@ impl Write for FaultyWriter {
     }
 }
 
-/// A writer whose call after `calls` calls fails, or accepts nothing.
+/// Returns a `FaultyWriter` to which nothing was written.
 fn faulty_writer(calls: usize, takes_nothing: bool) -> FaultyWriter {
     FaultyWriter {
         written: ArrayVec::new(),
@@ -311,7 +314,7 @@ fn faulty_writer(calls: usize, takes_nothing: bool) -> FaultyWriter {
     }
 }
 
-/// The number of bytes of the input, the number of bytes that are not read, the answer, and its status.
+/// In each row: the number of bytes of the input, the number of bytes that are not read, the answer, and its status.
 static BYTE_BY_BYTE: [(usize, usize, &str, u8); 5] = [
     (20, 0, "ok 0123456789abcdef 0\n", 0),
     (8192, 0, "ok 0123456789abcdef 4086\n", 0),
@@ -320,7 +323,7 @@ static BYTE_BY_BYTE: [(usize, usize, &str, u8); 5] = [
     (8195, 1, "bad input\n", 2),
 ];
 
-/// Stops the test unless the beginning of the input has the answer of a row.
+/// Stops the test unless the beginning of the input has the answer in this row, if it is read and answered byte by byte.
 fn expect_byte_by_byte(rt: &impl Abort, input: &[u8], row: &(usize, usize, &str, u8)) {
     let mut reader = FaultyReader {
         rest: bytes_to(rt, input, row.0),
@@ -340,7 +343,7 @@ fn inputs_and_answers_come_byte_by_byte(rt: HostRuntime) {
     }
 }
 
-/// Stops the test unless a line has this answer and this status if a read fails after `reads`.
+/// Stops the test unless this text is written, with this status, if the reader fails after `reads` successful reads.
 fn expect_after_reads(rt: &impl Abort, line: &[u8], reads: usize, text: &str, status: u8) {
     let mut input = FaultyReader { rest: line, reads };
     let mut output: ArrayVec<u8, 160> = ArrayVec::new();
@@ -348,7 +351,7 @@ fn expect_after_reads(rt: &impl Abort, line: &[u8], reads: usize, text: &str, st
     expect_at(rt, &reads, &output.as_slice(), &text.as_bytes());
 }
 
-/// Stops the test unless this text is written if no read fails, and nothing is written if a read fails.
+/// Stops the test unless this text is written if no read fails. Also stops the test unless nothing is written if a read fails.
 fn expect_read_faults(rt: &impl Abort, line: &[u8], text: &str) {
     // Each byte needs a read, and the end of input needs another.
     for reads in 0..line.len() + 1 {
@@ -364,7 +367,7 @@ fn read_faults_write_nothing(rt: HostRuntime) {
     }
 }
 
-/// Stops the test unless this text is written, with this status, if a write fails or accepts nothing after `calls` calls.
+/// Stops the test unless this text is written to a `FaultyWriter` with these fields, and the result is this status.
 fn expect_after_calls(
     rt: &impl Abort,
     line: &[u8],
@@ -379,7 +382,8 @@ fn expect_after_calls(
     expect_at(rt, &calls, &output.written.as_slice(), &text);
 }
 
-/// Stops the test unless a beginning of the text is written if a write fails or accepts nothing.
+/// Stops the test unless exactly the bytes before a fault are written. Each write is faulty in turn, and then the flush. Without a fault
+/// the whole text is written.
 fn expect_write_faults(rt: &impl Abort, line: &[u8], text: &[u8], takes_nothing: bool) {
     // Each byte needs a write.
     for calls in 0..text.len() {

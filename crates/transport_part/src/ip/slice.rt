@@ -11,19 +11,20 @@ use net_base::err::tcp::HeaderSliceError;
 use tcp_part::TcpSlice;
 use udp_part::UdpSlice;
 
-// The functions are inlined, so that the slice is not built in memory and taken apart again.
+// The functions are inlined, so that the slice is not stored in memory and loaded again.
 
 /// The transport that `transport_in_ip` found, as a slice of its protocol (RFC 768; RFC 9293, section 3.1; RFC 792; RFC 4443, section 2.1).
 /// `None` if `proto_in_ip` returns `None`: for a fragment, for any other protocol, and for ICMP of the wrong IP version.
 ///
-/// A packet that is cut off is accepted if its transport header is whole. A UDP packet that is cut off is read by `from_slice_lax`.
+/// A packet that is cut off is accepted if its transport header is whole. If a UDP packet is cut off, `UdpSlice::from_slice_lax` reads it.
 ///
 /// # Errors
 ///
 /// The errors of `from_slice` for the slice of the protocol:
 /// - `Len` if the payload is shorter than the header.
 /// - `Len` if the length field of a UDP packet that is not cut off is 1 to 7, or above the length of the payload.
-/// - `Len` if an ICMPv4 timestamp message or reply is not 20 bytes long, or an ICMPv6 message is longer than 4,294,967,295 bytes.
+/// - `Len` if an ICMPv4 timestamp message or reply with code 0 is not 20 bytes long, or an ICMPv6 message is longer than 4,294,967,295
+///   bytes.
 /// - `DataOffsetTooSmall` if the data offset of a TCP header is below 5.
 #[inline(always)]
 pub fn transport_slice<'a>(

@@ -11,9 +11,9 @@ use ip_part::{Proto, TransportInIp};
 use net_base::err::tcp::HeaderSliceError;
 
 /// Returns whether the checksum of the transport that `transport_in_ip` found is right, and the right checksum if it is wrong (RFC 1071,
-/// section 1). `Untested` contains the first reason that applies: a fragment, a packet that is cut off, another protocol, a UDP length
-/// field of 0, an unknown final destination over IPv6, or more bytes than the pseudo header can count. If the packet states no length, all
-/// captured bytes are tested, and padding too.
+/// section 1). `Untested` contains the first reason that applies. The reasons are, in this order: a fragment, a packet that is cut off,
+/// another protocol, a UDP length field of 0 in a packet of at most 65,535 bytes, an unknown final destination over IPv6, and more bytes
+/// than the pseudo header can count. If the packet states no length, all captured bytes are tested, padding included.
 ///
 /// # Errors
 ///

@@ -1,6 +1,7 @@
 use super::Sum16BitWords;
 
-/// The word contains eight bytes, with the first byte as the lowest. It depends only on the total.
+/// The word is the sum of the added numbers of eight bytes, with each carry added at the low end. The first byte of a number is its lowest
+/// byte. The word is not folded to 16 bits.
 #[test]
 fn the_word_is_not_folded(rt: HostRuntime) {
     let nothing = Sum16BitWords::new();

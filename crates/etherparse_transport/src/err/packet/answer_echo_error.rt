@@ -28,10 +28,10 @@ pub enum AnswerEchoError {
     /// The packet is no echo request, or has an IP version that the call does not accept. An echo request has the type
     /// 8 over IPv4 (RFC 792) and 128 over IPv6 (RFC 4443, section 4.1), and code 0.
     NoEchoRequest,
-    /// The packet contains IPv4 options, an authentication header, or IPv6 extension headers. A reply would need options
-    /// of its own, for example a reversed source route (RFC 1122, section 3.2.2.6).
+    /// The packet contains IPv4 options, an authentication header, or IPv6 extension headers. A reply would also need options, for example
+    /// a reversed source route (RFC 1122, section 3.2.2.6).
     Options,
-    /// The message is shorter than its header.
+    /// `Icmpv4Slice::from_slice` or `Icmpv6Slice::from_slice` refuses the message, for example because it is shorter than its header.
     Len(LenError),
     /// The checksum of the IPv4 header is wrong.
     HeaderChecksum,
@@ -40,8 +40,8 @@ pub enum AnswerEchoError {
     /// The source of the request is the unspecified address, a loopback address, a multicast address, or the limited
     /// broadcast address. So no host would receive the reply.
     RequestSource,
-    /// The source of the reply is one of these addresses. If the request was sent to a multicast or broadcast address,
-    /// pass an address of the host as the source.
+    /// The source of the reply is an address that `RequestSource` lists. If the request was sent to a multicast or broadcast address, pass
+    /// an address of the host as the source.
     ReplySource,
 }
 

@@ -35,8 +35,8 @@ pub enum BuildSliceWriteError {
         /// The longest payload that can follow the header, in bytes.
         max_allowed: usize,
     },
-    /// An ICMPv4 timestamp message or reply is not exactly 20 bytes long with header and payload (RFC 792).
-    /// `Icmpv4Slice::from_slice` refuses it with the same error.
+    /// An ICMPv4 timestamp message or reply with code 0 is not exactly 20 bytes long, payload included (RFC 792). `Icmpv4Slice::from_slice`
+    /// refuses it with the same error.
     TimestampLen(LenError),
     /// The header is an ICMPv6 header, which is not sent over IPv4 (RFC 4443, section 1).
     Icmpv6InIpv4,

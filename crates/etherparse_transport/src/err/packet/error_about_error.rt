@@ -24,15 +24,15 @@ use thiserror::Error;
 #[derive(Clone, Copy, Debug, PartialEq, Eq, Error)]
 #[error("{}", self.text())]
 pub enum ErrorAboutError {
-    /// The passed message is not an error, is of a type and a code without a variant, or is a redirect whose gateway is no host.
+    /// The passed message is not an error, is `Unknown`, or is a redirect whose gateway is not the address of one host.
     NoErrorType,
     /// The headers of the packet are refused.
     Ip(IpError),
-    /// The packet has the other IP version.
+    /// The packet has the IP version that the call does not accept.
     OtherVersion,
     /// The packet is a later fragment: its fragment offset is above 0.
     LaterFragment,
-    /// The packet is an ICMP error itself, an ICMPv6 redirect, or an ICMP message whose type is cut off.
+    /// The packet contains an ICMP error, an ICMPv6 redirect, or an ICMP message whose type is cut off.
     IcmpError,
     /// The destination of the packet is an address of several hosts: a multicast address, or 255.255.255.255.
     GroupDestination,
@@ -41,9 +41,9 @@ pub enum ErrorAboutError {
     PacketSource,
     /// The passed source of the error is not the address of one host.
     ErrorSource,
-    /// The slice is shorter than the packet to be written.
+    /// The slice is shorter than the error.
     Space {
-        /// The length of the packet, in bytes.
+        /// The length of the error with its IP header, in bytes.
         required_len: usize,
         /// The length of the slice, in bytes.
         len: usize,

@@ -20,7 +20,7 @@ use thiserror::Error;
 #[derive(Clone, Copy, Debug, PartialEq, Eq, Error)]
 #[error("{}", self.text())]
 pub enum LowerHopLimitError {
-    /// The IP header was not found.
+    /// The IP header is cut off or invalid.
     Ip(IpError),
     /// The hop limit is 0 or 1, so a router discards the packet (RFC 1812, section 5.3.1; RFC 4443, section 3.3).
     Expired {

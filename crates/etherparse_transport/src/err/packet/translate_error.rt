@@ -29,8 +29,9 @@ pub enum TranslateError {
     OtherVersion,
     /// The IPv4 options contain a loose or strict source route, whose addresses would not be replaced.
     SourceRoute,
-    /// The protocol is not UDP, TCP or ICMP of this IP version. Also, either a port is passed, or the protocol covers the addresses. For
-    /// example, an authentication header protects the addresses (RFC 4302, section 2), so no translated packet would be accepted.
+    /// The protocol is not UDP, TCP or ICMP of this IP version. In addition, a port is passed, the protocol covers the addresses, or it is
+    /// ICMP of the other version. Over IPv6 it can also be an extension header that is not skipped. For example, an authentication header
+    /// protects the addresses (RFC 4302, section 2), so no receiver would accept a translated packet.
     Protocol(IpNumber),
     /// The first 8 bytes of the transport header are not all present.
     HeaderCutOff {

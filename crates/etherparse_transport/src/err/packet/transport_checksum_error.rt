@@ -18,7 +18,7 @@ use thiserror::Error;
 #[derive(Clone, Debug, PartialEq, Eq, Drop, Error)]
 #[error("{}", self.text())]
 pub enum TransportChecksumError {
-    /// The payload is longer than the length field of the packet can count.
+    /// Header and payload of UDP or TCP are longer than 65,535 bytes.
     PayloadLen(ValueTooBigError<usize>),
     /// The header is an ICMPv6 header, whose checksum covers IPv6 addresses (RFC 4443, section 2.3).
     Icmpv6InIpv4,

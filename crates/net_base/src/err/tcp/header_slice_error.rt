@@ -7,7 +7,7 @@ use crate::err::tcp::HeaderError;
 use crate::err::{ErrorText, LenError};
 use thiserror::Error;
 
-/// Why a TCP header could not be read (RFC 9293, section 3.1). `canonical_header` uses this error for all four protocols.
+/// Why a TCP header could not be read (RFC 9293, section 3.1). `canonical_header` uses this error for UDP, TCP, ICMPv4 and ICMPv6.
 ///
 /// ```
 /// use etherparse_transport::TcpSlice;
