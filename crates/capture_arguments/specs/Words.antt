@@ -38,7 +38,7 @@ first_escaped_option [] = None
 first_escaped_option (word ∷ words) =
     if bytes_eq word (codes "--") then None else (if is_escaped_option word then Some word else first_escaped_option words)
 
--- the first word of a command line that is an escaped option; the name of the program, which is the first word, is not an option
+-- the first escaped option of a command line; the first word is the name of the program, and is skipped
 abbrev pub escaped_option : List (List ℕ) → Option (List ℕ)
 escaped_option words = first_escaped_option (drop 1 words)
 

@@ -176,8 +176,8 @@ fn unopened<E: Write>(
     Ok(ExitStatus::Failed.number())
 }
 
-/// Writes the packets of a capture that have a line, and then writes the counts of packets to standard error. Returns the exit status. If
-/// the capture has a name, errors contain the name.
+/// Writes the packets for which the report has a line, as a capture, to `output`. Then writes the counts of packets to standard error.
+/// Returns the exit status. If the capture has a name, errors contain the name.
 fn write_packets<W: Write + Drop>(
     rt: &HostRuntime,
     parts: &Parts,
@@ -193,7 +193,7 @@ fn write_packets<W: Write + Drop>(
     write_selection(rt.alloc(), parts, name, &mut copier, &mut rt.stderr())
 }
 
-/// Writes the packets of a capture that have a line to the output, and then writes the counts of packets to `errors`. Returns the exit
+/// Writes the packets for which the report has a line to the output, and then writes the counts of packets to `errors`. Returns the exit
 /// status. If the capture can't be read to its end, the error is written before the counts. If the capture has a name, errors contain the
 /// name.
 ///

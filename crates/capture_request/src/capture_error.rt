@@ -20,8 +20,8 @@ use thiserror::Error;
 /// The reason why a capture can't be read further.
 #[derive(Debug, Error, Drop)]
 pub enum CaptureError {
-    /// The beginning of the input is refused. The input is not a capture, or it is a capture that is not read, for example of an unknown
-    /// version.
+    /// The beginning of the input is refused. The input is not a capture, or it is a capture that this library can't read. For example, its
+    /// version is unknown.
     #[error(transparent)]
     Header(OpenError),
     /// The input ends within a record, or within a block of a pcapng file.

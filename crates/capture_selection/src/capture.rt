@@ -19,21 +19,21 @@ use capture_request::{CaptureError, Parts, Reached};
 use std::io::{Read, Write};
 use streams::fill;
 
-/// Reads a capture, and writes it without the packets that have no line in the report with these options. Each packet that is read is
+/// Copies a capture, but leaves out each packet for which a report with the options `parts` has no line. Each packet that is read is
 /// counted in `counts`.
 ///
-/// The header of a classic capture and each written record are written as they were read. So is each block of a pcapng file, unless its
-/// packet has no line. Only the length of a section becomes -1, which means that it is not specified (draft-ietf-opsawg-pcapng, section
-/// 4.1).
+/// The header of a classic capture is copied unchanged, and so is each record that is written. In a pcapng file, each block is copied
+/// unchanged unless it contains a packet that is left out. The only change is that each section length is set to -1, which means that it is
+/// not specified (draft-ietf-opsawg-pcapng, section 4.1).
 ///
 /// If a number of packets is requested, the capture is read up to the last requested packet. The result states how far it was read.
 ///
 /// # Errors
 ///
 /// `Capture` states why the capture is refused, or where it can't be read further. `TooManyPackets` is returned only after 2^64 - 2 records
-/// or blocks. What was written before is a whole capture, unless the buffer has no room for the last record or block. If the header of a
-/// classic capture is refused, nothing is written. If the first block of a pcapng file is refused, the error is `Header`, as in the report.
-/// An error within a later record or block contains its place. `Write` is the error of the first write that fails.
+/// or blocks. If the header of a classic capture is refused, nothing is written. If the first block of a pcapng file is refused, the error
+/// is `Header`, as in the report. An error within a later record or block contains its place. After this error the output is a whole
+/// capture, unless that record or block does not fit in the buffer. `Write` is the error of the first write that fails.
 pub fn write_selected<R: Read, W: Write>(
     copier: &mut Copier<'_, R, W>,
     parts: &Parts,

@@ -39,7 +39,7 @@ empty_tables = record {
   flows = record { rows = []; without_ports = no_packets; without_room = no_packets };
 }
 
--- each table counts each packet once; the table of refusals counts each refused packet once
+-- each table except the table of refusals counts each packet once; the table of refusals counts each refused packet once
 pub record IsBalanced (tables : SummaryTables) : Type 0 where
   pub protocols : sum_by (λ count. count.packets) tables.protocols ≡ tables.packets
   pub verdicts : sum tables.verdicts ≡ tables.packets

@@ -194,11 +194,11 @@ ipv4_message_by (Some quoted) new of_quoted packet =
 abbrev pub ipv4_message_with : Option (List ℕ) → Ipv4Translation → List ℕ → List ℕ
 ipv4_message_with quoted new packet = ipv4_message_by quoted new (ipv4_opposite new) packet
 
--- the translated message, if the quoted packet has its own translation
+-- the translated message; the translation `of_quoted` applies to the packet that an ICMP error quotes
 abbrev pub ipv4_message_of_both : Ipv4Translation → Ipv4Translation → List ℕ → List ℕ
 ipv4_message_of_both new of_quoted packet = ipv4_message_by (ipv4_quoted packet) new of_quoted packet
 
--- the translated packet, if the quoted packet has its own translation
+-- the translated packet; the translation `of_quoted` applies to the packet that an ICMP error quotes
 abbrev pub ipv4_translated_with : Ipv4Translation → Ipv4Translation → List ℕ → List ℕ
 ipv4_translated_with new of_quoted packet = ipv4_with_message new (ipv4_message_of_both new of_quoted packet) packet
 

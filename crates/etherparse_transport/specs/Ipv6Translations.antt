@@ -179,11 +179,11 @@ ipv6_message_by (Some quoted) new of_quoted packet =
 abbrev pub ipv6_message_with : Option (List ℕ) → Ipv6Translation → List ℕ → List ℕ
 ipv6_message_with quoted new packet = ipv6_message_by quoted new (ipv6_opposite new) packet
 
--- the translated message, if the quoted packet has its own translation
+-- the translated message; the translation `of_quoted` applies to the packet that an ICMP error quotes
 abbrev pub ipv6_message_of_both : Ipv6Translation → Ipv6Translation → List ℕ → List ℕ
 ipv6_message_of_both new of_quoted packet = ipv6_message_by (ipv6_quoted packet) new of_quoted packet
 
--- the translated packet, if the quoted packet has its own translation
+-- the translated packet; the translation `of_quoted` applies to the packet that an ICMP error quotes
 abbrev pub ipv6_translated_with : Ipv6Translation → Ipv6Translation → List ℕ → List ℕ
 ipv6_translated_with new of_quoted packet = ipv6_with_message new (ipv6_message_of_both new of_quoted packet) packet
 

@@ -79,7 +79,7 @@ abbrev pub gathered_next : (List TcpOptionElement → Result (List TcpOptionElem
 gathered_next further found option None = Err (no_element option)
 gathered_next further found option (Some element) = further (found ++ (element ∷ []))
 
--- the elements `found` and then the elements of these options, or the error for the first option without an element
+-- the elements `found`, followed by the element of each of these options, or the error for the first option with a wrong kind or value
 abbrev pub gathered : List TcpOptionElement → List EtherparseTcpOption → Result (List TcpOptionElement) EtherparseError
 gathered found [] = Ok found
 gathered found (option ∷ options) = gathered_next (λ longer. gathered longer options) found option (element_in option)
@@ -94,7 +94,7 @@ abbrev pub bytes_of : Result (List TcpOptionElement) EtherparseError → List �
 bytes_of (Ok elements) = pad (join elements)
 bytes_of (Err error) = []
 
--- the refusal of these options: the error for the first option without an element, or an error if the options have more than 40 bytes
+-- the refusal of these options: the error for the first option with a wrong kind or value, or an error if all have more than 40 bytes
 abbrev pub options_refusal : List EtherparseTcpOption → Option EtherparseError
 options_refusal options = refusal_of (gathered [] options)
 

@@ -50,7 +50,8 @@ pub struct EtherparseIcmpv4Header {
     pub code_u8: u8,
     /// In a parameter problem message of code 0: the place of the error in the original datagram, in bytes.
     pub pointer: u8,
-    /// The four bytes after the checksum, as received. In a redirect message they are the gateway's address.
+    /// The four bytes after the checksum. They are set for every message that is read. They are written for kind 0, and for a redirect
+    /// message, in which they are the gateway's address.
     pub bytes4to7: [u8; 4],
 }
 
@@ -264,8 +265,8 @@ pub(crate) fn message_of(fields: &EtherparseIcmpv4Header) -> Option<Icmpv4Type>
     }
 }
 
-/// Writes a header (RFC 792). The kind determines the type. For kind 0, `type_u8`, `code_u8` and `bytes4to7` are written. If a kind has
-/// only one code, the code is 0.
+/// Writes a header (RFC 792). The kind determines the type. For kind 0, `type_u8`, `code_u8` and `bytes4to7` are written, and for a
+/// redirect also `bytes4to7`. If a kind has only one code, the code is 0.
 ///
 /// # Errors
 ///

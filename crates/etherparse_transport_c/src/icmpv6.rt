@@ -49,7 +49,7 @@ pub struct EtherparseIcmpv6Header {
     pub type_u8: u8,
     /// The code.
     pub code_u8: u8,
-    /// The four bytes after the checksum, as received.
+    /// The four bytes after the checksum. They are set for every message that is read, and are written only for kind 0.
     pub bytes4to7: [u8; 4],
 }
 

@@ -155,7 +155,7 @@ pub extern "C" fn etherparse_translate_ipv6(
 ///
 /// # Errors
 ///
-/// The statuses of `etherparse_translate_ipv4`. If a port of `quoted` is replaced, the quoted packet must be UDP, TCP or ICMP. After an
+/// The statuses of `etherparse_translate_ipv4`. If `quoted` replaces a port, the quoted packet must be UDP, TCP or ICMP. After an
 /// error `error` contains the reason, and `packet` is unchanged.
 #[unsafe(no_mangle)]
 pub extern "C" fn etherparse_translate_ipv4_with_quoted(
@@ -180,7 +180,7 @@ pub extern "C" fn etherparse_translate_ipv4_with_quoted(
 ///
 /// # Errors
 ///
-/// The statuses of `etherparse_translate_ipv6`. If a port of `quoted` is replaced, the quoted packet must be UDP, TCP or ICMP. After an
+/// The statuses of `etherparse_translate_ipv6`. If `quoted` replaces a port, the quoted packet must be UDP, TCP or ICMP. After an
 /// error `error` contains the reason, and `packet` is unchanged.
 #[unsafe(no_mangle)]
 pub extern "C" fn etherparse_translate_ipv6_with_quoted(

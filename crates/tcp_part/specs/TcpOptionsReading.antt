@@ -125,7 +125,7 @@ pub record StandFor (options : List ℕ) (elements : List TcpOptionElement) : Ty
   pub room : length options ≤ max_options_len
   pub whole_words : length options % 4 ≡ 0
 
--- these are the first options, in the order of bytes, that represent these elements
+-- of all options that represent these elements, these are the first in lexicographic order
 pub record AreLeastFor (options : List ℕ) (elements : List TcpOptionElement) : Type 0 where
   pub stand : StandFor options elements
   pub first : (others : List ℕ) → StandFor others elements → (others ≡ options) ⊎ IsBefore options others

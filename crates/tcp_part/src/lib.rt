@@ -3,8 +3,9 @@
 //! `TcpHeader` contains the numbers, flags and options of a header, `TcpHeaderSlice` its bytes, and `TcpSlice` the bytes of a whole
 //! segment. `TcpOptions` contains the option bytes of a header, at most 40 and a multiple of 4. `TcpOptionsIterator` reads bytes as
 //! elements, up to the end of the list or the first fault. An unknown kind is a fault. `TcpRawOptionsIterator` reads options of any kind,
-//! known or unknown, as kinds and values. `TcpOptions::try_from_elements` writes the first options, in the order of bytes, that are read as
-//! the elements. No call allocates. This crate re-exports the errors of `net_base`, and the sum of `word_sum`.
+//! known or unknown, as kinds and values. `TcpOptions::try_from_elements` returns options that are read as the passed elements. If
+//! there are several, it returns the options whose bytes come first in lexicographic order. No call allocates. This crate re-exports the errors of
+//! `net_base`, and the sum of `word_sum`.
 //!
 //! ```
 //! let (header, payload) = TcpHeader::from_slice(&packet)?;

@@ -78,8 +78,8 @@ impl TcpOptions {
     }
 
     /// The options with these elements (RFC 9293, section 3.2; RFC 7323; RFC 2018), padded with zeros to a multiple of 4 bytes. Other
-    /// options may be read as these elements too. The result is the first of all these options in the order of bytes. The present blocks of
-    /// a selective acknowledgement are read back before the absent blocks.
+    /// options may be read as these elements too. The result is the first of all these options in lexicographic order. The present blocks
+    /// of a selective acknowledgement are read back before the absent blocks.
     ///
     /// # Errors
     ///

@@ -67,7 +67,7 @@ abbrev pub quoted_after : List ℕ → Result Headers IpError → Option (List �
 quoted_after packet (Ok headers) = quoted_at headers.is_later_fragment (proto_after headers) (message_after headers packet)
 quoted_after packet (Err error) = None
 
--- the packet that an IP packet quotes, if it is an ICMP error whose headers are accepted
+-- the packet that this IP packet quotes, if this packet is an ICMP error, and its IP headers and its ICMP message are accepted
 abbrev pub quoted_of : List ℕ → Option (List ℕ)
 quoted_of packet = quoted_after packet (headers_in packet)
 

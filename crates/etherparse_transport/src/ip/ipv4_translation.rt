@@ -44,7 +44,7 @@ impl Ipv4Translation {
         self.source_port.is_some() || self.destination_port.is_some()
     }
 
-    /// The translation of the packet that an ICMP error quotes: the passed translation, or else the opposite of this translation.
+    /// The translation of the packet that an ICMP error quotes: `passed`, or the opposite of `self` if `passed` is `None`.
     pub(crate) fn of_quoted(self, passed: Option<&Ipv4Translation>) -> Ipv4Translation
         ensures passed { result ≡ ipv4_of_quoted self passed.entry }
         ensures types { IsIpv4Translation self }
