@@ -72,7 +72,7 @@ def check_choices(tally):
     tally.expect("another text of an address", written, run(capture(ETHERNET, frames), "--packets", "--host", "2001:db8::1").stdout)
     # An empty line separates lines and summary, and is left out if there are no lines.
     data = capture(ETHERNET, frames)
-    for arguments, is_empty in [(("--port", "1"), False), (("--protocol", "ospf", "--wrong"), False), ((), True), (("--wrong",), True), (("--summary",), False)]:
+    for arguments, is_empty in [(("--port", "61000"), False), (("--protocol", "ospf", "--wrong"), False), ((), True), (("--wrong",), True), (("--summary",), False)]:
         summary = lines_of(run(data, *(word for word in arguments if word != "--wrong"), "--summary").stdout)
         written = lines_of(run(data, *arguments).stdout)
         tally.expect(f"{arguments}: the line before the summary", (written[-len(summary):], written[:-len(summary)][-1:]), (summary, [""] if is_empty else []))
