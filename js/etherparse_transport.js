@@ -686,6 +686,7 @@ export function storeChecksum(packet) {
  * stays right, and a wrong checksum stays wrong. No other byte changes.
  *
  * @param {Uint8Array} packet  changes, unless it is refused
+ * @returns {void}
  * @throws {EtherparseError} if the IP header is refused, or if the hop limit is 0 or 1 (`HOP_LIMIT_EXPIRED`)
  */
 export function lowerHopLimit(packet) {

@@ -990,6 +990,7 @@ static void icmp_errors(void)
 {
     static const uint8_t no_host[4] = {127, 0, 0, 1};
     uint8_t packet[54];
+    uint8_t error_ipv6[128];
     etherparse_icmpv4_header expired;
     etherparse_icmpv6_header too_big;
     etherparse_ip_packet found;
@@ -1019,9 +1020,9 @@ static void icmp_errors(void)
     REFUSED(etherparse_icmpv4_error_about(packet, 34, &expired, destination4, 64, buffer, sizeof buffer, &written, &error),
             ETHERPARSE_STATUS_NO_ICMP_ERROR);
     memcpy(packet, request_ipv6, 54);
-    OK(etherparse_icmpv6_error_about(packet, 54, &too_big, destination6, 64, buffer, sizeof buffer, &written, &error));
-    EXPECT(memcmp(buffer + 48, packet, written - 48) == 0 && buffer[40] == 2);
-    OK(etherparse_packet_verdict(buffer, written, &found, &error));
+    OK(etherparse_icmpv6_error_about(packet, 54, &too_big, destination6, 64, error_ipv6, sizeof error_ipv6, &written, &error));
+    EXPECT(written == 100 && memcmp(error_ipv6 + 48, packet, 52) == 0 && error_ipv6[40] == 2);
+    OK(etherparse_packet_verdict(error_ipv6, written, &found, &error));
     EXPECT(found.verdict == ETHERPARSE_VERDICT_RIGHT);
 }
 
