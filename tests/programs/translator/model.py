@@ -10,6 +10,9 @@ CHECKSUM_AT = {UDP: 6, TCP: 16, ICMPV4: 2, ICMPV6: 2}
 NEEDED_LEN = 8
 QUERIES = {4: (0, 8, 13, 14, 15, 16, 17, 18), 6: (128, 129)}
 REDIRECT = 5
+# Extension headers of IPv6 that are skipped if they have no other address, and the option that has one.
+HOP_BY_HOP_OPTIONS, ROUTING, FRAGMENT, DESTINATION_OPTIONS, HOME_ADDRESS = 0, 43, 44, 60, 0xC9
+SKIPPED = (HOP_BY_HOP_OPTIONS, ROUTING, FRAGMENT, DESTINATION_OPTIONS)
 # Protocols and extension headers whose packets are not translated, since they cover or contain addresses.
 COVERED = {4: (33, 51, 58, 112, 136, 139), 6: (0, 1, 33, 43, 44, 51, 60, 89, 103, 112, 135, 136, 139, 140)}
 
@@ -65,8 +68,20 @@ def has_source_route(options):
     return False
 
 
+def adds_address(protocol, header):
+    """Whether an extension header has another address of the packet: segments left, or a home address."""
+    if protocol == ROUTING:
+        return header[3] != 0
+    options = header[2:] if protocol == DESTINATION_OPTIONS else b""
+    while options:
+        if options[0] == HOME_ADDRESS:
+            return True
+        options = options[1 if options[0] == 0 else 2 + options[1] if len(options) > 1 else 1:]
+    return False
+
+
 class Packet:
-    """An IP packet with its message: the bytes after its header, or after a fragment header of IPv6, as far as they are there."""
+    """An IP packet with its message: the bytes after its header and the skipped extension headers, as far as they are there."""
 
     def __init__(self, data):
         self.data, self.version = data, data[0] >> 4 if data else 0
@@ -93,14 +108,16 @@ class Packet:
         self.protocol, self.addresses = self.data[6], (self.data[8:24], self.data[24:40])
         length = struct.unpack(">H", self.data[4:6])[0]
         self.end = 40 + length if length or self.protocol == 59 else len(self.data)
-        # A hop-by-hop header that is cut off.
-        if self.protocol == 0 and len(self.data) < 48 + 8 * self.data[41]:
-            raise Refused("the IP headers are rejected or cut off")
-        if self.protocol == 44:
-            if min(self.end, len(self.data)) < 48:
+        while self.protocol in SKIPPED and not self.is_later:
+            rest = self.data[self.start:self.end]
+            header = rest[:8 if self.protocol == FRAGMENT or len(rest) < 8 else 8 + 8 * rest[1]]
+            if len(rest) < 8 or len(header) < 8 or self.protocol != FRAGMENT and len(header) < 8 + 8 * rest[1]:
                 raise Refused("the IP headers are rejected or cut off")
-            self.start, self.protocol = 48, self.data[40]
-            self.is_later, self.is_part = number_at(self.data, 42) >> 3 > 0, number_at(self.data, 42) & 0xFFF9 > 0
+            if adds_address(self.protocol, header):
+                return
+            if self.protocol == FRAGMENT:
+                self.is_later, self.is_part = number_at(header, 2) >> 3 > 0, number_at(header, 2) & 0xFFF9 > 0
+            self.start, self.protocol = self.start + len(header), header[0]
 
     def ports(self):
         protocol, data, is_later = self.protocol, self.message, self.is_later

@@ -10,8 +10,10 @@ from .. import build, kinds
 from .captures import TABLES, Capture, captures, is_right
 from .run import run
 
-# Parts of the names of fields that contain what is replaced, texts about it, or what tshark finds in other packets between the same ends.
-REPLACED = ("src", "dst", "addr", "host", "port", "checksum", "stream", "_ws.expert", "tcp.analysis", "tcp.completeness", "tcp.time", "udp.time")
+# Parts of the names of fields that contain what is replaced, texts about it, or what tshark finds in other packets between the same ends. To
+# tshark an IPv6 packet with hop-by-hop options and payload length 0 is a trailer.
+REPLACED = ("src", "dst", "addr", "host", "port", "checksum", "stream", "trailer", "_ws.expert", "tcp.analysis", "tcp.completeness", "tcp.time",
+            "udp.time")
 
 
 def fields_of(tshark, path):
