@@ -1,4 +1,4 @@
--- What an answer owns, given its status and what its pointer points to.
+-- The memory that an `Answer` owns, given its status and the error that its pointer points to.
 use Rattle.std.proofs.Common.{◌≡◌, ℕ, ◌^◌, ◌<◌, List, [], ◌∷◌, refl, w32, T, lit<}
 use seplogic.Ra.Ura.{Ura}
 use mir.Syntax.{ty_ptr, ty_struct, tcons, tnil}

@@ -1,4 +1,4 @@
--- What a test of a checksum answers for a valid packet.
+-- The status of the test of a checksum, if the packet is valid.
 use Rattle.std.proofs.Common.{◌≡◌, ◌⊎◌, ℕ, Bool, true, false, Option, None, Some, inl, inr, refl}
 use Rattle.std.specs.Prelude.{◌↔◌, IsTrue, if◌then◌else◌}
 use Rattle.etherparse_transport_c.specs.Errors.{Answers, Tells}
@@ -11,7 +11,7 @@ only_ok : (other : ℕ) (Valid : Type 0) → Valid
 only_ok other Valid valid (inl right) = right.0
 only_ok other Valid valid (inr wrong) = absurd (wrong.1 valid)
 
--- the answer for a valid packet that is not refused and has a checksum is `OK`
+-- if a valid packet is accepted and has a checksum, the test returns `OK`
 pub answers_ok : (refusal : Option EtherparseError) (absent : Bool) (Valid : Type 0) → refusal ≡ None → absent ≡ false → Valid
     → Answers (Tells refusal absent Valid) numbers.status_ok
 answers_ok None false Valid accepted present valid = (inl (refl, valid), λ other told. only_ok other Valid valid told)
@@ -25,7 +25,7 @@ told (Some error) valid Valid status accepted is answered = cc
 told None true Valid status accepted is answered = inl (answered, is.0 refl)
 told None false Valid status accepted is answered = inr (answered, λ valid. let clash : false ≡ true = is.1 valid in cc)
 
--- the status of a packet that is not refused, for a protocol in which a packet may have no checksum
+-- the status of a test, if the packet is accepted and has a checksum, but the protocol also allows packets without a checksum
 pub told_present : (refusal : Option EtherparseError) (absent valid : Bool) (Valid : Type 0) (status : ℕ) → refusal ≡ None → absent ≡ false
     → (IsTrue valid ↔ Valid) → status ≡ (if valid then numbers.status_ok else numbers.status_checksum_wrong) → Tells refusal absent Valid status
 told_present refusal true valid Valid status accepted present is answered = cc

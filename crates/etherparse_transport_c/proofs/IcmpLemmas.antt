@@ -16,7 +16,7 @@ use Rattle.etherparse_transport_c.specs.Icmpv4 as icmpv4
 use Rattle.etherparse_transport_c.specs.Icmpv6 as icmpv6
 use Rattle.etherparse_transport_c.specs.Numbers as numbers
 
--- the type, the code and four bytes of a packet are written again with a checksum, and the bytes after them follow
+-- if the header of a packet is written again with a checksum, and the other bytes follow, the result is the packet with this checksum
 pub written_again : (packet : List ℕ) (checksum : ℕ) → 8 ≤ length packet
     → header_bytes (record { type = slice_index packet 0; code = slice_index packet 1; fields = slice_range packet 4 8 }) checksum ++ drop 8 packet
     ≡ with_checksum 2 packet checksum
@@ -46,7 +46,7 @@ total_written packet fields payload type code checksum enough is_type is_code is
     sym (total-append (header_bytes (record { type = type; code = code; fields = fields }) checksum) payload (omega (arith, four)))
     ∙ ap total (packet_written packet fields payload type code checksum enough is_type is_code is_fields is_payload)
 
--- the sum over IPv6 for the checksum of a header with these fields
+-- the sum from which the checksum over IPv6 of a header with these fields is computed
 pub summed_icmpv6 : (source destination packet fields payload : List ℕ) (type code : ℕ) → 8 ≤ length packet → type ≡ slice_index packet 0
     → code ≡ slice_index packet 1 → fields ≡ slice_range packet 4 8 → payload ≡ drop 8 packet → length fields ≡ 4
     → checksummed source destination (record { icmp_type = Unknown type code fields; checksum = 0 }) payload
@@ -57,7 +57,7 @@ summed_icmpv6 source destination packet fields payload type code enough is_type 
     ap (λ n. total (pseudo_header source destination n) + total header + total payload) len
     ∙ omega (arith, total_written packet fields payload type code 0 enough is_type is_code is_fields is_payload four)
 
--- ---- the test of bytes that a checksum was stored in
+-- ---- the test of bytes, after a checksum was stored in them
 
 pub passes_icmpv4 : (bytes : List ℕ) (checksum : ℕ) → 8 ≤ length bytes → icmpv4.refusal bytes ≡ None → IsValidIcmpv4 (with_checksum 2 bytes checksum)
     → Answers (icmpv4.TestTells (with_checksum 2 bytes checksum)) numbers.status_ok
@@ -85,13 +85,13 @@ take_past (byte ∷ front) back (suc len) within =
     let left : suc len - suc (length front) ≡ len - length front = omega arith in
     ap (λ bytes. byte ∷ bytes) (take_past front back len (omega (arith, within)) ∙ ap (λ n. front ++ take n back) (sym left))
 
--- after bytes are written at the front of a buffer, its front is these bytes and some of its old bytes
+-- after bytes are written to the front of a buffer, the buffer begins with these bytes, and its old bytes follow
 pub front_read : (bytes buffer : List ℕ) (len : ℕ) → length bytes ≤ len
     → take len (at_front bytes buffer) ≡ bytes ++ take (len - length bytes) (drop (length bytes) buffer)
 unfolding at_front
 front_read bytes buffer len within = take_past bytes (drop (length bytes) buffer) len within
 
--- the content of a buffer with enough bytes after a call
+-- the content of a buffer after a call, if the buffer has room for the bytes to write
 pub written_front : (bytes made buffer after : List ℕ) (written before : ℕ) → made ≡ bytes → no_room (length bytes) (length buffer) ≡ None
     → after ≡ unless_refused (no_room (length made) (length buffer)) (at_front made buffer) buffer
     → written ≡ unless_refused (no_room (length made) (length buffer)) (length made) before

@@ -28,7 +28,7 @@ use Rattle.etherparse_transport_c.specs.Icmpv4.{IsReadAs, IsSameHeader, ReadsBac
 use Rattle.etherparse_transport_c.specs.Numbers as numbers
 use Rattle.etherparse_transport_c.specs.declared.icmpv4.EtherparseIcmpv4Header.{EtherparseIcmpv4Header}
 
--- C reads from a packet what the library reads from it
+-- the call in C reads a packet as the library in Rattle does
 pub is_read_as : (message : Icmpv4Type) (checksum : ℕ) (payload : List ℕ) (found : Result (Icmpv4Header × List ℕ) LenError)
     → 4 ≤ length (written message).fields → part.IsReadAs (wire (icmpv4_header message checksum) ++ payload) found
     → IsReadAs message (wire (icmpv4_header message checksum) ++ payload) found
@@ -62,7 +62,7 @@ made_of : {Part : Type 0} (variant : Part → Icmpv4Type) (part : Option Part) (
 made_of variant None other kind is same = cc
 made_of variant (Some p) other kind is same = made (variant p) other kind (is p) same
 
--- a number above the kinds is the kind of no message
+-- no message has a kind above the known kinds
 kind_beyond : (fields : EtherparseIcmpv4Header) → 9 ≤ fields.kind → message_in fields ≡ None
 kind_beyond fields beyond = grind (arith, nat_tests)
 
@@ -100,7 +100,7 @@ problem_listed : (header : ParameterProblemHeader)
 problem_listed (problem.PointerIndicatesError at) = refl
 problem_listed other = refl
 
--- the fields that are read for a message that is not raw are the fields of the message
+-- if a message is not `Unknown`, its header is read as this message again
 said_again : (message : Icmpv4Type) (checksum : ℕ) → FieldsFit message → (message_fields message).kind ≢ numbers.icmpv4_kind_unknown
     → message_in (header_read message (icmpv4_header message checksum)) ≡ Some message
 said_again (Unknown type code fields) checksum fit some = absurd (some refl)
@@ -114,7 +114,7 @@ said_again other checksum fit some = refl
 
 -- ---- the header
 
--- the found header contains this checksum, and this message unless it is raw
+-- the found header contains this checksum; it also contains this message, unless the message is `Unknown`
 abbrev Finds : Icmpv4Type → ℕ → Icmpv4Header → Type 0
 Finds message checksum found =
     (found.checksum ≡ checksum) × ((message_fields message).kind ≢ numbers.icmpv4_kind_unknown → found ≡ icmpv4_header message checksum)
@@ -136,7 +136,7 @@ same_header fields message found is fit four finds =
           (refl, refl, take_all 4 fields.bytes4to7 (omega (arith, four)));
     }
 
--- the header that is read from an accepted packet, if the packet is read as one of two messages
+-- the library finds a header with this checksum and message in the packet, and the call in C reads the same header
 abbrev IsFound : Icmpv4Type → ℕ → List ℕ → Type 0
 IsFound message checksum packet = (found : Icmpv4Header) × Finds message checksum found × ((packet_of packet).header ≡ header_read message found)
 
@@ -145,7 +145,7 @@ found_if : (message : Icmpv4Type) (checksum : ℕ) (packet payload : List ℕ) (
 found_if message checksum packet payload true found error finds read accepted = (found, finds, ap (λ p. p.header) read.1)
 found_if message checksum packet payload false found error finds read accepted = cc
 
--- a raw header is read as a timestamp message with the bytes after it, or as the listed message
+-- an `Unknown` header is read as a timestamp message together with the bytes after it, or as the listed message
 raw_found : (type code : ℕ) (bytes5to8 : List ℕ) (checksum : ℕ) (packet payload : List ℕ) (is_request is_reply : Bool)
     → IsReadAs (Unknown type code bytes5to8) packet (
     if is_request then raw_timestamp_reads_back TimestampRequest layers.Icmpv4Timestamp bytes5to8 checksum payload
@@ -183,7 +183,7 @@ is_same fields message packet payload is fit four read accepted =
 
 -- ---- the buffer
 
--- what is read from the first bytes of a buffer in which a header was written
+-- the first bytes of a buffer, after a header was written to it, are read as `ReadsBack` states
 front : (message : Icmpv4Type) (checksum : ℕ) (buffer : List ℕ) (len : ℕ) → FieldsFit message
     → ((payload : List ℕ) → part.IsReadAs (wire (icmpv4_header message checksum) ++ payload) (reads_back message checksum payload))
     → length (wire (icmpv4_header message checksum)) ≤ len

@@ -26,7 +26,7 @@ use Rattle.etherparse_transport_c.specs.Icmpv6.{IsReadAs, IsSameHeader, ReadsBac
 use Rattle.etherparse_transport_c.specs.Numbers as numbers
 use Rattle.etherparse_transport_c.specs.declared.icmpv6.EtherparseIcmpv6Header.{EtherparseIcmpv6Header}
 
--- C reads from a packet what the library reads from it
+-- the call in C reads a packet as the library in Rattle does
 pub is_read_as : (message : Icmpv6Type) (checksum : ℕ) (payload : List ℕ) (found : Result (Icmpv6Header × List ℕ) LenError)
     → 4 ≤ length (written message).fields → part.IsReadAs (wire (icmpv6_header message checksum) ++ payload) found
     → IsReadAs message (wire (icmpv6_header message checksum) ++ payload) found
@@ -55,7 +55,7 @@ made_of : {Part : Type 0} (variant : Part → Icmpv6Type) (part : Option Part) (
 made_of variant None other kind is same = cc
 made_of variant (Some p) other kind is same = made (variant p) other kind (is p) same
 
--- a number above the kinds is the kind of no message
+-- no message has a kind above the known kinds
 kind_beyond : (fields : EtherparseIcmpv6Header) → 12 ≤ fields.kind → message_in fields ≡ None
 kind_beyond fields beyond = grind (arith, nat_tests)
 
@@ -90,7 +90,7 @@ problem_listed : (code : ParameterProblemCode) → slice_get parameter_problem_c
 problem_listed problem.ErroneousHeaderField = refl
 problem_listed other = refl
 
--- the flags that are read from the sum of their bits
+-- each flag is read back from the sum of the bits of the flags
 router_flags : (managed other : Bool)
     → (is_set (from_bool managed * 128 + from_bool other * 64) 128 ≡ managed) × (is_set (from_bool managed * 128 + from_bool other * 64) 64 ≡ other)
 router_flags false false = (refl, refl)
@@ -111,7 +111,7 @@ neighbor_flags true false true = (refl, refl, refl)
 neighbor_flags true true false = (refl, refl, refl)
 neighbor_flags true true true = (refl, refl, refl)
 
--- the fields that are read for a message that is not raw are the fields of the message
+-- if a message is not `Unknown`, its header is read as this message again
 said_again : (message : Icmpv6Type) (checksum : ℕ) → (message_fields message).kind ≢ numbers.icmpv6_kind_unknown
     → message_in (header_read message (icmpv6_header message checksum)) ≡ Some message
 said_again (Unknown type code fields) checksum some = absurd (some refl)
@@ -127,7 +127,7 @@ said_again (NeighborAdvertisement header) checksum some =
     rw (flags.0, flags.1, flags.2) refl
 said_again other checksum some = refl
 
--- a message that is not raw is read back unchanged
+-- a message that is not `Unknown` is read back unchanged
 stays : (message : Icmpv6Type) → (message_fields message).kind ≢ numbers.icmpv6_kind_unknown → message_reads_back message ≡ message
 stays (Unknown type code fields) some = absurd (some refl)
 stays other some = refl
@@ -167,7 +167,7 @@ is_same fields message packet payload is four read accepted = same_within fields
 
 -- ---- the buffer
 
--- what is read from the first bytes of a buffer in which a header was written
+-- the first bytes of a buffer, after a header was written to it, are read as `ReadsBack` states
 front : (message : Icmpv6Type) (checksum : ℕ) (buffer : List ℕ) (len : ℕ) → FieldsFit message
     → ((payload : List ℕ) → part.IsReadAs (wire (icmpv6_header message checksum) ++ payload) (reads_back message checksum payload))
     → length (wire (icmpv6_header message checksum)) ≤ len

@@ -1,4 +1,4 @@
--- Laws of the payload's place in an IP packet.
+-- Laws of the place of the payload in an IP packet.
 use Rattle.std.proofs.Common.{◌≡◌, ℕ, ◌+◌, ◌-◌, ◌≤◌, ◌==◌, Bool, true, false, ◌&&◌, nat_le, if◌then◌else◌, List, length, take, drop, length-take, Option, Some, None, Result, Ok, Err, refl, sym, ap, ◌∙◌, arith}
 use Rattle.std.specs.Prelude.{slice_range}
 use Rattle.std.proofs.lemmas.List.{drop-take, take_min}
@@ -20,7 +20,7 @@ whole_front missing packet =
 counted_within : (missing : Bool) (packet : List ℕ) → length (counted missing packet) ≤ length packet
 counted_within missing packet = omega (arith, length-take (counted_len missing packet) packet)
 
--- the bytes after a front of the counted bytes
+-- a slice that ends with the counted bytes consists of the counted bytes after its start
 after_front : (missing : Bool) (packet : List ℕ) (from len : ℕ) → from + len ≡ length (counted missing packet)
     → slice_range packet from (from + len) ≡ drop from (counted missing packet)
 after_front missing packet from len ends =
@@ -30,7 +30,7 @@ after_front missing packet from len ends =
     ∙ ap (λ n. drop from (take n packet)) ends
     ∙ ap (drop from) (whole_front missing packet)
 
--- the fixed part of an IP header is complete in one of two cases
+-- if there is a fixed header, and the packet is too short for the one version, it is long enough for the other
 fixed_of : (four short six long : Bool) (a b fixed : Fixed)
     → (if four && short then Some a else if six && long then Some b else None) ≡ Some fixed → short ≡ false → long ≡ true
 fixed_of true true six long a b fixed is short = absurd (cc short)
@@ -49,7 +49,7 @@ is_long packet carried carries =
     (fixed_ipv4 packet) (fixed_ipv6 packet) (fixed_by_value carried.fixed_header) carries.fixed_header in
     grind (arith, nat_tests, long)
 
--- a success has one value
+-- the headers in a result, or other headers if it is an error
 value_of : Headers → Result Headers IpError → Headers
 value_of other (Ok headers) = headers
 value_of other (Err error) = other

@@ -14,7 +14,7 @@ use Rattle.etherparse_transport_c.specs.Errors.{Answers, of_ip}
 use Rattle.etherparse_transport_c.specs.Ipv4Header.{TestTells, header_refusal, refusal}
 use Rattle.etherparse_transport_c.specs.Numbers as numbers
 
--- bytes that are not refused contain a header without an error
+-- if the call in C accepts the bytes, the library in Rattle accepts their header
 no_error : (error : Option IpError) → option_map of_ip error ≡ None → error ≡ None
 no_error None none = refl
 no_error (Some error) none = cc

@@ -9,7 +9,7 @@ use Rattle.ip_part.specs.declared.transport.TransportInIp.{TransportInIp}
 use Rattle.etherparse_transport_c.specs.PacketVerdict.{of_transport, transport_refusal}
 use Rattle.etherparse_transport_c.proofs.PacketVerdictLemmas.{refusal_by_headers}
 
--- a truth value is told as 1 or 0
+-- the call in C reports true as 1, and false as 0
 pub as_number : (holds : Bool) (Holds : Type 0) (told : ℕ) → told ≡ from_bool holds → (IsTrue holds ↔ Holds)
     → ((told ≡ 1) × Holds) ⊎ ((told ≡ 0) × (Holds → ⊥))
 as_number true Holds told is whether = inl (is, whether.0 refl)

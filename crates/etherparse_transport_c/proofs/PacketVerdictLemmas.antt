@@ -8,13 +8,13 @@ use Rattle.etherparse_transport_c.specs.Ip.{found, transport_in}
 use Rattle.etherparse_transport_c.specs.PacketVerdict.{of_transport, refusal_of_carried}
 use Rattle.etherparse_transport_c.specs.declared.ip.EtherparseIpTransport.{EtherparseIpTransport}
 
--- a packet is refused as the transport in it is refused
+-- the refusal of a packet is the refusal of the transport that it carries
 pub refusal_by_headers : (packet : List ℕ) (carried : TransportInIp) (carries : Carries packet carried)
     → refusal_of_carried packet carried ≡ option_map (of_transport carries.headers.len) (transports.refusal carried)
 refusal_by_headers packet carried carries =
     rw (carries.read, carries.addresses, carries.protocol, carries.is_fragment, carries.is_cut_off, carries.payload) refl
 
--- what C is told about a transport is what the headers of its packet state
+-- the call in C reports about a transport what the headers of its packet state
 pub told_of_carried : (packet : List ℕ) (carried : TransportInIp) (carries : Carries packet carried) (told : EtherparseIpTransport)
     → ((before : EtherparseIpTransport) → told ≡ found carried.is_length_missing packet (headers_of carried.is_length_missing packet) before)
     → told ≡ transport_in carried.is_length_missing packet carries.headers

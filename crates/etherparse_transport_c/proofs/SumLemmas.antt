@@ -17,7 +17,7 @@ pub total_after_byte : (byte : ℕ) (bytes : List ℕ) → total (byte ∷ bytes
 total_after_byte byte [] = omega arith
 total_after_byte byte (low ∷ rest) = omega arith
 
--- the sum of bytes that move by one place is 256 times their sum, modulo 65535
+-- if bytes move by one place, their new sum is 256 times their old sum, modulo 65535
 total_moved : (bytes : List ℕ) → total bytes * 256 ≡ total (0 ∷ bytes) + first_bytes bytes * 65535
 total_moved [] = omega arith
 total_moved (high ∷ []) = omega arith
@@ -36,7 +36,7 @@ folded_times_in_sum value n = grind (arith, folded-none, folded-some)
 swapped_in_sum : (value n : ℕ) → folded (value + (n % 256 * 256 + n / 256)) ≡ folded (value + n * 256)
 swapped_in_sum value n = sym (folded_congruent (value + n * 256) (value + (n % 256 * 256 + n / 256)) (n / 256) (omega arith) (λ z. omega arith))
 
--- the sum of a part with its bytes swapped is the sum of the part at an odd place
+-- if the two bytes of a part's sum are swapped, the result is the sum of the part at an odd place
 pub swapped_sum : (value sum : ℕ) (bytes : List ℕ) → sum ≡ folded (0 + total bytes)
     → folded (value + total (to_le_bytes w16 sum)) ≡ folded (value + total (0 ∷ bytes))
 swapped_sum value sum bytes is =

@@ -1,4 +1,4 @@
--- The place of the cursor over elements after a call of `next`.
+-- The bytes that the iterator over elements has left after a call of `next`.
 use Rattle.std.proofs.Common.{◌≡◌, ℕ, ◌-◌, List, ◌++◌, length, take, drop, append_assoc, Option, None, Some, Ok, Err, ap, sym, ◌∙◌, subst}
 use Rattle.std.proofs.lemmas.List.{take-append-drop}
 use Rattle.tcp_part.specs.TcpOptions.{spelling}

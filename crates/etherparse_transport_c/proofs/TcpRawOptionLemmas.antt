@@ -1,10 +1,10 @@
--- The place of the cursor over options of any kind after a call of `next`.
+-- The bytes that the iterator over options of any kind has left after a call of `next`.
 use Rattle.std.proofs.Common.{◌≡◌, ℕ, ◌-◌, List, [], ◌++◌, length, take, drop, length-append, drop_of_length-le, append_assoc, Option, None, Some, Ok, Err, sym, ap, ◌∙◌, subst, arith}
 use Rattle.std.proofs.Math.Seq.{drop-append_seam}
 use Rattle.std.proofs.lemmas.List.{take-append-drop}
 use Rattle.tcp_part.specs.TcpRawOptions.{RawItem, ReadsRawNext, raw_spelling}
 
--- the bytes left after a front are the bytes at the end
+-- if bytes begin with `front`, the bytes after `front` are the last bytes
 pub after_front : (options front after : List ℕ) → options ≡ front ++ after → drop (length options - length after) options ≡ after
 after_front options front after whole =
     let len : length options - length after ≡ length front = omega (arith, ap length whole, length-append front after) in

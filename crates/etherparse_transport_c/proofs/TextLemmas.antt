@@ -1,4 +1,4 @@
--- Texts that are cut at their limit.
+-- Texts that are truncated at their maximum length.
 use Rattle.std.proofs.Common.{◌≡◌, ℕ, ◌+◌, ◌-◌, ◌≤◌, ◌<◌, Bool, true, false, List, [], ◌∷◌, ◌++◌, length, take, drop, slice_set, append-nil, length-append, refl, sym, ap, ◌∙◌, arith}
 use Rattle.std.proofs.lemmas.Bool.Decides.{nat_tests}
 use Rattle.std.proofs.lemmas.List.{append_assoc, drop_more, length-take-le, set_at, take-append-le, take_all}
@@ -7,7 +7,7 @@ use Rattle.etherparse_transport_c.proofs.IcmpLemmas.{take_past}
 use Rattle.etherparse_transport_c.specs.Errors.{at_front}
 use Rattle.etherparse_transport_c.specs.Text.{IsCut, max_text_len}
 
--- a text after bytes are appended, as many as fit
+-- appending as many bytes as fit to a truncated text gives the longer text, truncated
 appended_at : (text before bytes : List ℕ) (room : ℕ) (above : Bool) → nat_lt max_text_len (length before) ≡ above → IsCut text before
     → room + length text ≡ max_text_len → IsCut (text ++ take room bytes) (before ++ bytes)
 appended_at text before bytes room false is cut full =

@@ -22,7 +22,7 @@ use Rattle.etherparse_transport_c.specs.declared.udp.EtherparseUdpHeader.{Etherp
 use Rattle.etherparse_transport_c.proofs.AnswersLemmas.{answers_ok}
 use Rattle.etherparse_transport_c.proofs.ChecksumsLemmas.{length-with_checksum, take-with_checksum, total-with_checksum}
 
--- the sum of the two parts around the checksum is the sum of the packet with zeros instead of the checksum
+-- the sums of the bytes before and after the checksum give the sum of the packet with zeros instead of its checksum
 pub total_parts : (packet : List ℕ) → 8 ≤ length packet → total (take 6 packet) + total (drop 8 packet) ≡ total (with_checksum 6 packet 0)
 total_parts packet enough = omega (arith, total-with_checksum 6 packet 0 (omega arith) (omega (arith, enough)) (omega arith))
 
@@ -73,7 +73,7 @@ built_ipv6 source destination packet checksum enough counted small is =
       (omega (arith, len, counted), verifies (ipv6_pseudo_header source destination 17) packet checksum enough small is),
     )
 
--- ---- the test of bytes that a checksum was stored in
+-- ---- the test of bytes, after a checksum was stored in them
 
 -- the length field does not change, since it is before the checksum
 length_field-with_checksum : (bytes : List ℕ) (checksum : ℕ) → 8 ≤ length bytes
@@ -104,7 +104,7 @@ cut-with_checksum : (bytes : List ℕ) (checksum : ℕ) → 8 ≤ length bytes
     → cut (with_checksum 6 bytes checksum) ≡ with_checksum 6 (cut bytes) checksum
 cut-with_checksum bytes checksum enough = cut_as bytes checksum _ enough refl
 
--- two packets that differ only by the checksum are refused alike
+-- two packets that differ only in the checksum have the same refusal
 refusal-with_checksum : (value_type : ValueType) (limit : ℕ) (bytes : List ℕ) (checksum : ℕ) → 8 ≤ length bytes → 8 ≤ length (cut bytes)
     → checksum_refusal value_type limit (with_checksum 6 bytes checksum) ≡ checksum_refusal value_type limit bytes
 refusal-with_checksum value_type limit bytes checksum enough whole =
@@ -115,7 +115,7 @@ refusal-with_checksum value_type limit bytes checksum enough whole =
     let strict : strict_refusal (with_checksum 6 bytes checksum) ≡ strict_refusal bytes = rw (len, field) refl in
     rw (strict, cut_len) refl
 
--- a stored checksum is present
+-- after a checksum is stored, the packet has a checksum
 present : (bytes : List ℕ) (sum checksum : ℕ) → 8 ≤ length bytes → 8 ≤ length (cut bytes) → checksum < 65536 → checksum ≡ udp_checksum_of sum
     → has_no_checksum (cut (with_checksum 6 bytes checksum)) ≡ false
 present bytes sum checksum enough whole small is =
@@ -176,7 +176,7 @@ total_header (a ∷ (b ∷ (c ∷ []))) fits enough = absurd (omega arith)
 total_header (a ∷ (b ∷ (c ∷ (d ∷ [])))) fits enough = absurd (omega arith)
 total_header (a ∷ (b ∷ (c ∷ (d ∷ (e ∷ []))))) fits enough = absurd (omega arith)
 
--- if the length field counts the packet, both checksums are computed from the same sum
+-- if the length field is the length of the packet, the library in Rattle and the call in C sum the same bytes
 covers : (pseudo_header : ℕ → List ℕ) (packet : List ℕ) → IsBytes packet → 8 ≤ length packet → length_field packet ≡ length packet
     → total (pseudo_header (length packet)) + total (with_checksum 6 packet 0)
     ≡ udp.checksummed (pseudo_header (length_field packet)) (header_of packet) (drop 8 packet)
@@ -201,7 +201,7 @@ reads_back fields buffer decodes = ap fields_of (sym decodes.fields)
 
 -- ---- packets that are refused
 
--- a packet whose payload is too long for the pseudo header is refused with the error of its length
+-- if the payload is too long for the pseudo header, the packet is refused with the error about this length
 pub long_refused : (value_type : ValueType) (limit : ℕ) (bytes packet payload : List ℕ) (error : ValueTooBigError ℕ)
     → strict_refusal bytes ≡ None → packet ≡ cut bytes → payload ≡ drop 8 packet
     → too_big value_type limit (length payload) ≡ Some error → checksum_refusal value_type limit bytes ≡ Some (of_value error)

@@ -1,4 +1,4 @@
--- Laws of IP packets that are written: the header and the payload of the message are those of the definitions.
+-- Laws of IP packets that are written: the code finds the same header and payload in the message as the definitions.
 use Rattle.std.proofs.Common.{◌≡◌, ◌++◌, ℕ, List, length, drop, Option, None, sym, ap, ◌∙◌, subst}
 use Rattle.std.specs.Option.{option_map}
 use Rattle.ip_part.specs.Addresses.{Ipv4}
@@ -11,20 +11,20 @@ use Rattle.etherparse_transport_c.specs.declared.error.EtherparseError.{Etherpar
 use Rattle.etherparse_transport_c.specs.declared.write_packet.EtherparseIpv4Header.{EtherparseIpv4Header}
 use Rattle.etherparse_transport_c.specs.declared.write_packet.EtherparseIpv6Header.{EtherparseIpv6Header}
 
--- no refusal of the message, and none of the packet
+-- if neither the message nor the packet is refused, there is no refusal
 none_of : (message : Option EtherparseError) (packet : Option BuildSliceWriteError) → message ≡ None → packet ≡ None
     → first_refusal message (option_map of_build packet) ≡ None
 none_of message packet message_none packet_none =
     ap (λ first. first_refusal first (option_map of_build packet)) message_none ∙ ap (λ error. option_map of_build error) packet_none
 
--- bytes at the front of a buffer that no refusal keeps
+-- if nothing is refused, the new buffer begins with the bytes, and its old bytes follow
 kept : (refusal : Option EtherparseError) (bytes new old : List ℕ) (len : ℕ) → refusal ≡ None → len ≡ length bytes
     → new ≡ bytes ++ drop len old → new ≡ unless_refused refusal (at_front bytes old) old
 unfolding at_front
 kept refusal bytes new old len none len_is is =
     is ∙ ap (λ n. bytes ++ drop n old) len_is ∙ sym (ap (λ error. unless_refused error (bytes ++ drop (length bytes) old) old) none)
 
--- both parts of a message are those of the definitions
+-- a function of the header and the payload that the code finds has the value that it has for those in the definitions
 by_parts : {A : Type 0} (f : TransportHeader → List ℕ → A) (found header : TransportHeader) (rest payload : List ℕ) → found ≡ header
     → rest ≡ payload → f found rest ≡ f header payload
 by_parts f found header rest payload header_is payload_is = ap (λ h. f h rest) header_is ∙ ap (λ p. f header p) payload_is
@@ -67,7 +67,7 @@ ipv6_written header message found rest new old len message_none header_is payloa
     (none_of (message_refusal header.next_header (proto_over_ipv6 header.next_header) message) (ipv6_write_refusal its_header payload (length old)) message_none none)
     (len_is ∙ ap length bytes_are) (is ∙ ap (λ bytes. bytes ++ drop len old) bytes_are)
 
--- the packet with these parts is read back, with any padding after it
+-- the packet is read back as these parts, whatever padding follows it
 abbrev IsRead : EtherparseIpv4Header → TransportHeader → List ℕ → Type 0
 IsRead header found rest = (padding : List ℕ)
     → IsReadAs (ipv4_packet header.source header.destination header.time_to_live found rest ++ padding)

@@ -18,7 +18,7 @@ protocol_of number =
     else if number == numbers.protocol_icmpv6 then Some Icmpv6
     else None
 
--- the canonical header for accepted bytes of this protocol; if the protocol is unknown, it is empty
+-- the canonical header of accepted bytes of this protocol, or no bytes if the protocol is unknown
 abbrev pub canonical_bytes : Option Proto → List ℕ → List ℕ
 canonical_bytes None bytes = []
 canonical_bytes (Some protocol) bytes = take ((layout_of protocol bytes).header_len) (formats.canonical protocol bytes)

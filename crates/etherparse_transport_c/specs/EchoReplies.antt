@@ -7,15 +7,15 @@ use Rattle.etherparse_transport_c.specs.Errors.{of_answer_echo}
 use Rattle.etherparse_transport_c.specs.Numbers as numbers
 use Rattle.etherparse_transport_c.specs.declared.error.EtherparseError.{EtherparseError}
 
--- the refusal of a packet of either IP version, if its reply comes from the destination of the request
+-- the refusal of an echo request of either IP version, if the reply comes from the destination of the request
 abbrev pub refusal : List ℕ → Option EtherparseError
 refusal packet = option_map of_answer_echo (answer_refusal packet)
 
--- the refusal of an IPv4 packet, if its reply comes from this source
+-- the refusal of an echo request over IPv4, if the reply comes from this source
 abbrev pub ipv4_refusal : List ℕ → List ℕ → Option EtherparseError
 ipv4_refusal source packet = option_map of_answer_echo (ipv4_answer_refusal (Some source) packet)
 
--- the refusal of an IPv6 packet, if its reply comes from this source
+-- the refusal of an echo request over IPv6, if the reply comes from this source
 abbrev pub ipv6_refusal : List ℕ → List ℕ → Option EtherparseError
 ipv6_refusal source packet = option_map of_answer_echo (ipv6_answer_refusal (Some source) packet)
 
@@ -27,6 +27,6 @@ TellsWhether IsReply status = ((status ≡ numbers.status_ok) × IsReply) ⊎ ((
 abbrev pub ReplyTells : List ℕ → List ℕ → ℕ → Type 0
 ReplyTells request reply status = TellsWhether (IsReplyTo request reply) status
 
--- the status of the test whether `reply` is the reply to `request` from the address of any host
+-- the status of the test whether `reply` is the reply to `request`; the reply may come from the address of any host
 abbrev pub AnyReplyTells : List ℕ → List ℕ → ℕ → Type 0
 AnyReplyTells request reply status = TellsWhether (IsReplyFromAny request reply) status

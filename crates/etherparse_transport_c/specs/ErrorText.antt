@@ -34,7 +34,7 @@ use Rattle.transport_part.specs.declared.checksum_verdict.Untested.TheVariants.{
 use Rattle.etherparse_transport_c.specs.Numbers as numbers
 use Rattle.etherparse_transport_c.specs.declared.error.EtherparseError.{EtherparseError}
 
--- ---- texts in C that differ from the texts of the library
+-- ---- texts in C that differ from the texts of the library in Rattle
 
 -- the text of every wrong checksum
 abbrev pub wrong_checksum_text : List ℕ
@@ -45,8 +45,8 @@ abbrev pub echo_text_in_c : AnswerEchoError → List ℕ
 echo_text_in_c echo.Checksum = wrong_checksum_text
 echo_text_in_c error = answer_echo_text error
 
--- The text for a packet that is not translated. An IP version that the call does not accept has the same text in every call, since it has
--- the same status in every call.
+-- The text for a packet that is not translated. A refused IP version has the same text in every call, since it has the same status in every
+-- call.
 abbrev pub translate_text_in_c : ℕ → TranslateError → List ℕ
 translate_text_in_c other_version translate.OtherVersion = ip_text (ip.Version other_version)
 translate_text_in_c other_version error = translate_text error
@@ -60,15 +60,15 @@ buffer_text required_len len = concat (
 abbrev pub protocol_text : ℕ → List ℕ
 protocol_text number = concat (codes "Protocol Error: the call does not accept the protocol " ∷ decimal number ∷ codes "." ∷ [])
 
--- The text for a packet that is not written. A small buffer and a wrong protocol have the same text in every call, since they have the same
--- status in every call.
+-- The text of a call that writes no packet. A small buffer and a wrong protocol have the same texts in every call, since they have the same
+-- statuses in every call.
 abbrev pub build_text_in_c : BuildSliceWriteError → List ℕ
 build_text_in_c (build.Space required_len len) = buffer_text required_len len
 build_text_in_c build.Icmpv6InIpv4 = protocol_text numbers.protocol_icmpv6
 build_text_in_c build.Icmpv4InIpv6 = protocol_text numbers.protocol_icmpv4
 build_text_in_c error = build_text error
 
--- ---- the library's error that an error of C contains, or `None` for numbers that no call returns
+-- ---- the error of the library in Rattle for an error in C, or `None` if no call returns these numbers
 
 -- the layer with this number
 abbrev pub layer_at : ℕ → Option Layer
@@ -99,7 +99,7 @@ value_type_at number =
     else if number == numbers.value_icmpv6_payload_length then Some values.Icmpv6PayloadLength
     else None
 
--- the reason why a checksum is not tested, by the number of its verdict
+-- the reason why a checksum is not tested, given the number of the verdict
 abbrev pub untested_at : ℕ → Option reasons.Untested
 untested_at number =
     if number == numbers.verdict_untested_fragment then Some Fragment
@@ -165,7 +165,7 @@ ip_error_in error =
     else if error.status == numbers.status_ip_jumbo_payload_fragment then Some (ip.JumboPayloadFragment error.layer_start_offset)
     else None
 
--- the reason why an echo request is refused, by its status
+-- the reason why an echo request is refused, given the status
 abbrev pub answer_echo_error_in : EtherparseError → Option AnswerEchoError
 answer_echo_error_in error =
     if error.status == numbers.status_echo_fragment then Some echo.Fragment
@@ -192,12 +192,12 @@ abbrev pub text_or : {E : Type 0} → List ℕ → (E → List ℕ) → Option E
 text_or other text None = other
 text_or other text (Some error) = text error
 
--- the text for a checksum that is not tested, by the number of its verdict
+-- the text for a checksum that is not tested, given the number of the verdict
 abbrev pub untested_text_at : ℕ → List ℕ
 untested_text_at number = text_or (codes "Unknown error.") untested_text (untested_at number)
 
--- The text of an error that exists only in the library for C, or whose numbers no call returns. Statuses from 44 on are also here: they
--- were added later, so they are outside the ranges of `text_of`.
+-- The text of an error that exists only in C, or whose numbers no call returns. It is also the text of each status above 43: these statuses
+-- were added later, and the ranges in `text_of` do not include them.
 abbrev pub own_text : EtherparseError → List ℕ
 own_text error =
     if error.status == numbers.status_ok then codes "No error."
@@ -225,8 +225,8 @@ own_text error =
     else if error.status == numbers.status_icmp_error_source then error_about_text about.ErrorSource
     else codes "Unknown error."
 
--- The text for a value that is too big. In the library in Rattle, the payload length of a written packet is not a `ValueType`. So its text
--- is the text of a `BuildSliceWriteError`.
+-- The text for a value that is too big. In the library in Rattle, the payload length of a written packet is not a `ValueType`. So the text
+-- for this length is the text of a `BuildSliceWriteError`.
 abbrev pub value_text_in : EtherparseError → List ℕ
 value_text_in error =
     if error.value_type == numbers.value_ip_payload_length then build_text (build.PayloadLen error.actual error.max_allowed)

@@ -61,7 +61,7 @@ value_type_number values.TcpPayloadLengthIpv4 = numbers.value_tcp_payload_length
 value_type_number values.TcpPayloadLengthIpv6 = numbers.value_tcp_payload_length_ipv6
 value_type_number values.Icmpv6PayloadLength = numbers.value_icmpv6_payload_length
 
--- the number in C of the verdict on a checksum that is not tested for this reason
+-- the number in C of the verdict that a checksum is not tested for this reason
 abbrev pub untested_number : reasons.Untested → ℕ
 untested_number Fragment = numbers.verdict_untested_fragment
 untested_number CutOff = numbers.verdict_untested_cut_off
@@ -100,7 +100,7 @@ of_len error = record nothing {
   layer_start_offset = error.layer_start_offset;
 }
 
--- the error for a refused TCP header
+-- the error for a refused transport header: a wrong length, or a TCP data offset that is too small
 abbrev pub of_header_slice : HeaderSliceError → EtherparseError
 of_header_slice (Len error) = of_len error
 of_header_slice (Content (DataOffsetTooSmall data_offset)) = record nothing { status = numbers.status_data_offset; data_offset = data_offset }
@@ -201,13 +201,13 @@ of_translate other_version (translate.HeaderCutOff required_len len) =
 of_translate other_version translate.IcmpMessage = of_status numbers.status_translate_icmp_message
 of_translate other_version translate.QuotedPacket = of_status numbers.status_translate_quoted_packet
 
--- the error for a packet in which no checksum is stored; if its checksum is not tested, `actual` is the number of the verdict
+-- the error of a call that stores no checksum in a packet; if the checksum is not tested, `actual` is the number of the verdict
 abbrev pub of_write_checksum : WriteChecksumError → EtherparseError
 of_write_checksum (write.Ip error) = of_ip error
 of_write_checksum (write.Transport error) = of_header_slice error
 of_write_checksum (write.Untested why) = record nothing { status = numbers.status_checksum_untested; actual = untested_number why }
 
--- the error for a packet that is not written; ICMP of the other IP version has the error for a protocol that the call does not accept
+-- the error of a call that writes no packet; ICMP of the other IP version is a protocol that the call does not accept
 abbrev pub of_build : BuildSliceWriteError → EtherparseError
 of_build (build.Space required_len len) = of_buffer required_len len
 of_build (build.PayloadLen actual max_allowed) = record nothing {
@@ -252,7 +252,7 @@ Tells None true Valid status = status ≡ numbers.status_checksum_absent
 Tells None false Valid status = ((status ≡ numbers.status_ok) × Valid) ⊎ ((status ≡ numbers.status_checksum_wrong) × (Valid → ⊥))
 
 -- The error after a test that returned this status. If the packet is refused, it is the refusal. If the status is `OK`, the error is
--- unchanged. Otherwise it consists only of the status.
+-- unchanged. For any other status, the error consists only of the status.
 abbrev pub test_error : Option EtherparseError → ℕ → EtherparseError → EtherparseError
 test_error (Some error) status before = error
 test_error None status before = if status == numbers.status_ok then before else of_status status
@@ -261,7 +261,7 @@ test_error None status before = if status == numbers.status_ok then before else 
 abbrev pub Answers : (ℕ → Type 0) → ℕ → Type 0
 Answers Told status = Told status × ((other : ℕ) → Told other → other ≡ status)
 
--- the first of two refusals
+-- the first of two refusals, or `None` if neither refuses
 abbrev pub first_refusal : Option EtherparseError → Option EtherparseError → Option EtherparseError
 first_refusal (Some error) other = Some error
 first_refusal None other = other

@@ -13,6 +13,6 @@ abbrev pub of_lower_hop_limit : LowerHopLimitError → EtherparseError
 of_lower_hop_limit (Ip error) = of_ip error
 of_lower_hop_limit (Expired hop_limit) = record nothing { status = numbers.status_hop_limit_expired; actual = hop_limit }
 
--- the refusal of a packet
+-- the refusal to lower the hop limit of a packet
 abbrev pub refusal : List ℕ → Option EtherparseError
 refusal packet = option_map of_lower_hop_limit (lower_refusal packet)

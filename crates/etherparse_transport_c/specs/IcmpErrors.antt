@@ -14,7 +14,7 @@ use Rattle.etherparse_transport_c.specs.Errors.{of_buffer, of_ip, of_status}
 use Rattle.etherparse_transport_c.specs.Numbers as numbers
 use Rattle.etherparse_transport_c.specs.declared.error.EtherparseError.{EtherparseError}
 
--- the error if no ICMP error is written; the first argument is the IP version that the call does not accept
+-- the error of a call that writes no ICMP error; `other_version` is the IP version that the call does not accept
 abbrev pub of_error_about : ℕ → ErrorAboutError → EtherparseError
 of_error_about other_version NoErrorType = of_status numbers.status_no_icmp_error
 of_error_about other_version (Ip error) = of_ip error
@@ -26,7 +26,7 @@ of_error_about other_version PacketSource = of_status numbers.status_icmp_error_
 of_error_about other_version ErrorSource = of_status numbers.status_icmp_error_source
 of_error_about other_version (Space required_len len) = of_buffer required_len len
 
--- the text of this error; the other IP version and a buffer that is too small have the same text in every call
+-- the text of this error; the other IP version has one text in all calls, and so has a buffer that is too small
 abbrev pub error_about_text_in_c : ℕ → ErrorAboutError → List ℕ
 error_about_text_in_c other_version OtherVersion = ip_text (ip.Version other_version)
 error_about_text_in_c other_version (Space required_len len) = own_text (of_buffer required_len len)

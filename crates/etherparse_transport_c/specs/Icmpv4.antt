@@ -51,7 +51,7 @@ timestamp_fields kind message = record nothing {
   transmit_timestamp = message.transmit_timestamp;
 }
 
--- A header with the number of the kind, and with the fields that only this kind has. The code is not set here: `packet_of` sets `code_u8`.
+-- A header with the number of the kind, and with the fields that belong to this kind. The code is not set here: `packet_of` sets `code_u8`.
 abbrev pub message_fields : Icmpv4Type → EtherparseIcmpv4Header
 message_fields (Unknown type code fields) = record nothing { kind = numbers.icmpv4_kind_unknown }
 message_fields (EchoReply echo) = echo_fields numbers.icmpv4_kind_echo_reply echo
@@ -67,7 +67,7 @@ message_fields (TimestampReply message) = timestamp_fields numbers.icmpv4_kind_t
 abbrev pub refusal : List ℕ → Option EtherparseError
 refusal bytes = option_map of_len (icmpv4.refusal bytes)
 
--- a header with the checksum, type, code and four bytes of `common`, and all other fields of `fields`
+-- the header `fields`, but with the checksum, the type, the code and `bytes4to7` of `common`
 abbrev pub with_common : EtherparseIcmpv4Header → EtherparseIcmpv4Header → EtherparseIcmpv4Header
 with_common common fields = record fields {
   checksum = common.checksum;
@@ -95,11 +95,11 @@ TestTells bytes status = Tells (refusal bytes) false (IsValidIcmpv4 bytes) statu
 
 -- ---- writing
 
--- the first bytes of a header in which this is the MTU of the next hop
+-- the first 8 bytes of a header with this MTU of the next hop; all other bytes are 0
 abbrev pub with_next_hop_mtu : ℕ → List ℕ
 with_next_hop_mtu mtu = replicate 6 0 ++ to_be_bytes w16 mtu
 
--- the first bytes of a header in which this is the pointer
+-- the first 5 bytes of a header with this pointer; all other bytes are 0
 abbrev pub with_pointer : ℕ → List ℕ
 with_pointer pointer = replicate 4 0 ++ (pointer ∷ [])
 
@@ -117,7 +117,7 @@ timestamp_in fields = record {
   transmit_timestamp = fields.transmit_timestamp;
 }
 
--- the message with these fields, or `None` if the kind is unknown, or if the code is unknown for this kind
+-- the message with these fields; it is `None` if no kind has this number, or if the kind does not have this code
 abbrev pub message_in : EtherparseIcmpv4Header → Option Icmpv4Type
 message_in fields =
     if fields.kind == numbers.icmpv4_kind_unknown then Some (Unknown fields.type_u8 fields.code_u8 fields.bytes4to7)
@@ -143,8 +143,8 @@ write_refusal checksum (Some message) room = no_room (length (header_bytes check
 
 -- ---- reading a written header
 
--- The header that is read after this message was written. The checksum and the message are as the library reads them. The type, the code
--- and the four bytes after the checksum are as they were written.
+-- The header that is read after this message was written. The checksum and the message come from `found`, which the library in Rattle
+-- reads. The type, the code and the four bytes after the checksum are as they were written.
 abbrev pub header_read : Icmpv4Type → Icmpv4Header → EtherparseIcmpv4Header
 header_read message found = record (message_fields found.icmp_type) {
   checksum = found.checksum;
@@ -153,7 +153,7 @@ header_read message found = record (message_fields found.icmp_type) {
   bytes4to7 = take 4 (icmpv4.written message).fields;
 }
 
--- the call for C reads the same as the library in Rattle: it refuses the packet with this error, or it reads this header and this payload
+-- the call in C does what the library in Rattle does: it refuses the packet with this error, or it reads this header and this payload
 abbrev pub IsReadAs : Icmpv4Type → List ℕ → Result (Icmpv4Header × List ℕ) LenError → Type 0
 IsReadAs message packet (Err error) = refusal packet ≡ Some (of_len error)
 IsReadAs message packet (Ok found) = (refusal packet ≡ None) × (packet_of packet ≡ record {
@@ -162,15 +162,15 @@ IsReadAs message packet (Ok found) = (refusal packet ≡ None) × (packet_of pac
   payload_len = length found.1;
 })
 
--- Assume that the packet begins with the header of this message and checksum. Then the library reads the packet as the same message. An
+-- Assume that the packet begins with the header of this message and checksum. Then the same message is read, with two exceptions. An
 -- `Unknown` message whose type and code have a variant is read as that variant. A timestamp message that is not 20 bytes long is refused.
 abbrev pub ReadsBack : ℕ → Option Icmpv4Type → List ℕ → Type 0
 ReadsBack checksum None packet = ⊤
 ReadsBack checksum (Some message) packet =
     IsReadAs message packet (reads_back message checksum (drop (length (header_bytes checksum (Some message))) packet))
 
--- The header that was read equals the header that was written. The checksum is equal. If the written kind is known, the kind and the fields
--- of the kind are equal. If it is unknown, the type, the code and the four bytes after the checksum are equal.
+-- The header that was read (`read`) is the header that was written (`fields`). The checksum is equal. If the written kind is not 0, the
+-- kind and its fields are equal. If the written kind is 0, the type, the code and the four bytes after the checksum are equal.
 pub record IsSameHeader (fields read : EtherparseIcmpv4Header) : Type 0 where
   pub checksum : read.checksum ≡ fields.checksum
   pub kind : fields.kind ≢ numbers.icmpv4_kind_unknown → read.kind ≡ fields.kind

@@ -35,7 +35,7 @@ nothing = record {
   bytes4to7 = replicate 4 0;
 }
 
--- a message that has no field except its kind
+-- the header of a message that has no field except its kind
 abbrev pub bare : ℕ → EtherparseIcmpv6Header
 bare kind = record nothing { kind = kind }
 
@@ -51,7 +51,7 @@ router_flags header = icmpv6.router_advertisement_flags header
 abbrev pub neighbor_flags : NeighborAdvertisementHeader → ℕ
 neighbor_flags header = icmpv6.neighbor_advertisement_flags header
 
--- A header with the number of the kind, and with the fields that only this kind has. The code is not set here: `packet_of` sets `code_u8`.
+-- A header with the number of the kind, and with the fields that belong to this kind. The code is not set here: `packet_of` sets `code_u8`.
 abbrev pub message_fields : Icmpv6Type → EtherparseIcmpv6Header
 message_fields (Unknown type code fields) = bare numbers.icmpv6_kind_unknown
 message_fields (DestinationUnreachable code) = bare numbers.icmpv6_kind_destination_unreachable
@@ -74,7 +74,7 @@ message_fields Redirect = bare numbers.icmpv6_kind_redirect
 abbrev pub refusal : List ℕ → Option EtherparseError
 refusal bytes = option_map of_len (icmpv6.refusal bytes)
 
--- a header with the checksum, type, code and four bytes of `common`, and all other fields of `fields`
+-- the header `fields`, but with the checksum, the type, the code and `bytes4to7` of `common`
 abbrev pub with_common : EtherparseIcmpv6Header → EtherparseIcmpv6Header → EtherparseIcmpv6Header
 with_common common fields = record fields {
   checksum = common.checksum;
@@ -127,7 +127,7 @@ neighbor_in fields = record {
   override_flag = is_set fields.flags numbers.icmpv6_neighbor_override;
 }
 
--- the message with these fields, or `None` if the kind is unknown, or if the code is unknown for this kind
+-- the message with these fields; it is `None` if no kind has this number, or if the kind does not have this code
 abbrev pub message_in : EtherparseIcmpv6Header → Option Icmpv6Type
 message_in fields =
     if fields.kind == numbers.icmpv6_kind_unknown then Some (Unknown fields.type_u8 fields.code_u8 fields.bytes4to7)
@@ -156,8 +156,8 @@ write_refusal checksum (Some message) room = no_room (length (header_bytes check
 
 -- ---- reading a written header
 
--- The header that is read after this message was written. The checksum and the message are as the library reads them. The type, the code
--- and the four bytes after the checksum are as they were written.
+-- The header that is read after this message was written. The checksum and the message come from `found`, which the library in Rattle
+-- reads. The type, the code and the four bytes after the checksum are as they were written.
 abbrev pub header_read : Icmpv6Type → Icmpv6Header → EtherparseIcmpv6Header
 header_read message found = record (message_fields found.icmp_type) {
   checksum = found.checksum;
@@ -166,7 +166,7 @@ header_read message found = record (message_fields found.icmp_type) {
   bytes4to7 = take 4 (icmpv6.written message).fields;
 }
 
--- the call for C reads the same as the library in Rattle: it refuses the packet with this error, or it reads this header and this payload
+-- the call in C does what the library in Rattle does: it refuses the packet with this error, or it reads this header and this payload
 abbrev pub IsReadAs : Icmpv6Type → List ℕ → Result (Icmpv6Header × List ℕ) LenError → Type 0
 IsReadAs message packet (Err error) = refusal packet ≡ Some (of_len error)
 IsReadAs message packet (Ok found) = (refusal packet ≡ None) × (packet_of packet ≡ record {
@@ -175,15 +175,15 @@ IsReadAs message packet (Ok found) = (refusal packet ≡ None) × (packet_of pac
   payload_len = length found.1;
 })
 
--- Assume that the packet begins with the header of this message and checksum. Then the library reads the packet as the same message. An
+-- Assume that the packet begins with the header of this message and checksum. Then the same message is read, with two exceptions. An
 -- `Unknown` message whose type and code have a variant is read as that variant. A packet that is too long is refused.
 abbrev pub ReadsBack : ℕ → Option Icmpv6Type → List ℕ → Type 0
 ReadsBack checksum None packet = ⊤
 ReadsBack checksum (Some message) packet =
     IsReadAs message packet (reads_back message checksum (drop (length (header_bytes checksum (Some message))) packet))
 
--- The header that was read equals the header that was written. The checksum is equal. If the written kind is known, the kind and the fields
--- of the kind are equal. If it is unknown, the type, the code and the four bytes after the checksum are equal.
+-- The header that was read (`read`) is the header that was written (`fields`). The checksum is equal. If the written kind is not 0, the
+-- kind and its fields are equal. If the written kind is 0, the type, the code and the four bytes after the checksum are equal.
 pub record IsSameHeader (fields read : EtherparseIcmpv6Header) : Type 0 where
   pub checksum : read.checksum ≡ fields.checksum
   pub kind : fields.kind ≢ numbers.icmpv6_kind_unknown → read.kind ≡ fields.kind

@@ -66,7 +66,7 @@ ipv4_fields packet = record {
   traffic_class = slice_index packet 1;
 }
 
--- a number in the fragment header of an IPv6 packet, or 0 if it has no fragment header
+-- a number that is read from the fragment header of an IPv6 packet, or 0 if the packet has no fragment header
 abbrev pub in_fragment_header : (List ℕ → ℕ) → Option (List ℕ) → ℕ
 in_fragment_header number None = 0
 in_fragment_header number (Some header) = number header
@@ -80,21 +80,20 @@ ipv6_fields packet = record {
   traffic_class = be_number packet 0 2 / 16 % 256;
 }
 
--- the fields of the IP header of either version
+-- the fields of an IPv4 or IPv6 header
 abbrev pub header_fields : List ℕ → HeaderFields
 header_fields packet = if version packet == 4 then ipv4_fields packet else ipv6_fields packet
 
 -- ---- the transport
 
--- the number of hops that are left, from the fixed part of an IP header; `None` does not occur, since each accepted packet contains this
--- part
+-- The number of hops that are left, from the fixed part of an IP header. Each accepted packet contains this part, so `None` does not occur.
 abbrev pub hop_limit_in : Option Fixed → ℕ
 hop_limit_in (Some (fixed.Ipv4 source destination time_to_live protocol)) = time_to_live
 hop_limit_in (Some (fixed.Ipv6 source destination hop_limit next_header)) = hop_limit
 hop_limit_in None = 0
 
--- The result of reading a packet with these headers. The payload begins after the headers, and ends with the last byte that the IP header
--- counts.
+-- The result of reading a packet with these headers. The payload begins after the headers. It ends with the last byte that the IP header
+-- counts, or with the packet if the packet is cut off.
 abbrev pub transport_in : Bool → List ℕ → Headers → EtherparseIpTransport
 transport_in is_length_missing packet headers = record {
   version = version_of headers.addresses;
@@ -115,12 +114,13 @@ transport_in is_length_missing packet headers = record {
   traffic_class = (header_fields packet).traffic_class;
 }
 
--- the value after the call: the result of reading a packet with these headers, or the value before if the headers are refused
+-- the value after the call: the result of reading a packet with these headers, or the old value if the headers are refused
 abbrev pub found : Bool → List ℕ → Result Headers IpError → EtherparseIpTransport → EtherparseIpTransport
 found is_length_missing packet (Ok headers) before = transport_in is_length_missing packet headers
 found is_length_missing packet (Err error) before = before
 
--- The payload is a part of the packet. It ends with the last byte that the IP header counts, and is the payload that the library finds.
+-- The payload is a part of the packet, and is the payload that the library in Rattle finds. It ends with the last byte that the IP header
+-- counts, or with the packet if the packet is cut off.
 pub record HasPayload (is_length_missing : Bool) (packet : List ℕ) (transport : EtherparseIpTransport) : Type 0 where
   pub ends : transport.payload_offset + transport.payload_len ≡ length (counted is_length_missing packet)
   pub within : transport.payload_offset + transport.payload_len ≤ length packet

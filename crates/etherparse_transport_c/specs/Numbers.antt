@@ -2,7 +2,7 @@
 -- numbers. A name in C has the prefix `ETHERPARSE_`. The name of `status_ok` is `ETHERPARSE_OK`, without `STATUS_`.
 use Rattle.std.specs.Prelude.{ℕ}
 
--- ---- statuses, which calls return; 25 to 30 are reserved for headers of IP
+-- ---- statuses, which calls return; 25 to 30 are reserved for IP headers
 
 abbrev pub status_ok : ℕ
 status_ok = 0
@@ -114,11 +114,12 @@ status_no_icmp_error = 38
 abbrev pub status_translate_has_options : ℕ
 status_translate_has_options = 39
 
--- not translated: the protocol is not UDP, TCP, or the ICMP of the IP version; it covers the addresses, or a port is replaced
+-- The packet is not translated: its protocol is not UDP, TCP, or the ICMP of its IP version. In addition, a port is replaced, or the
+-- protocol covers the addresses.
 abbrev pub status_translate_protocol : ℕ
 status_translate_protocol = 40
 
--- not translated: the packet ends within its transport header
+-- not translated: the packet ends within the first 8 bytes of its transport header
 abbrev pub status_translate_header_cut_off : ℕ
 status_translate_header_cut_off = 41
 
@@ -150,7 +151,7 @@ status_hop_limit_expired = 47
 abbrev pub status_icmp_error_later_fragment : ℕ
 status_icmp_error_later_fragment = 48
 
--- the packet is an ICMP error or may be one, so no ICMP error is written about it
+-- the packet is an ICMP error, an ICMPv6 redirect, or an ICMP message whose type is cut off, so no ICMP error is written about it
 abbrev pub status_icmp_error_about_error : ℕ
 status_icmp_error_about_error = 49
 
@@ -166,7 +167,7 @@ status_icmp_error_packet_source = 51
 abbrev pub status_icmp_error_source : ℕ
 status_icmp_error_source = 52
 
--- ---- layers whose length can be wrong; 8 and above are reserved for headers of IP
+-- ---- layers whose length can be wrong; 8 and above are reserved for IP headers
 
 abbrev pub layer_udp_header : ℕ
 layer_udp_header = 1
@@ -218,8 +219,8 @@ value_icmpv6_payload_length = 5
 abbrev pub value_ip_payload_length : ℕ
 value_ip_payload_length = 6
 
--- ---- flags of a TCP header (RFC 9293, section 3.1; RFC 3168, section 6.1; RFC 3540, section 9): eight flags have their bits in byte 13.
--- NS, which is bit 0 of byte 12, has the next higher bit.
+-- ---- flags of a TCP header (RFC 9293, section 3.1; RFC 3168, section 6.1; RFC 3540, section 9): NS has bit 0x100. The other eight flags
+-- have the same bits as in byte 13 of the header.
 
 abbrev pub tcp_fin : ℕ
 tcp_fin = 0x001
@@ -252,7 +253,7 @@ tcp_ns = 0x100
 abbrev pub tcp_flags : ℕ
 tcp_flags = 0x1ff
 
--- ---- kinds of TCP options, as they are registered (RFC 9293, section 3.1; RFC 7323, sections 2.2 and 3.2; RFC 2018, sections 2 and 3)
+-- ---- kinds of TCP options, as IANA registers them (RFC 9293, section 3.1; RFC 7323, sections 2.2 and 3.2; RFC 2018, sections 2 and 3)
 
 abbrev pub tcp_option_noop : ℕ
 tcp_option_noop = 1
@@ -370,7 +371,7 @@ protocol_udp = 17
 abbrev pub protocol_icmpv6 : ℕ
 protocol_icmpv6 = 58
 
--- ---- verdicts on the checksum of an IP packet; from 16 on a verdict is a reason not to test the checksum
+-- ---- verdicts on the checksum of an IP packet; a verdict of 16 or more is a reason why the checksum is not tested
 
 abbrev pub verdict_right : ℕ
 verdict_right = 1

@@ -18,7 +18,7 @@ abbrev pub IsAccepted : List ℕ → Type 0
 IsAccepted packet = (why : WriteChecksumError) → ¬ IsRefusedFor packet why
 
 -- The status and the error of the call that stores a checksum. If the packet is accepted, the status is `OK`, and the error is unchanged.
--- If it is refused, the status and the error are those of the reason.
+-- If the packet is refused for a reason, the status and the error state this reason.
 abbrev pub StoreTells : List ℕ → ℕ → EtherparseError → EtherparseError → Type 0
 StoreTells packet status error before =
     (IsAccepted packet × (status ≡ numbers.status_ok) × (error ≡ before))
@@ -37,7 +37,7 @@ pub record IsTold (packet : List ℕ) (told : ℕ) : Type 0 where
   pub length : carried.is_length_missing ≡ false
   pub tells : ((told ≡ 1) × HasPartial carried) ⊎ ((told ≡ 0) × (HasPartial carried → ⊥))
 
--- if the packet is accepted, `told` is the result; if the packet is refused, `told` is unchanged
+-- if the packet is accepted, `told` is the result of the test; if the packet is refused, `told` is unchanged
 abbrev pub TellsPartial : Option EtherparseError → List ℕ → ℕ → ℕ → Type 0
 TellsPartial None packet told before = IsTold packet told
 TellsPartial (Some error) packet told before = told ≡ before

@@ -106,7 +106,7 @@ pub record IsJudged (is_length_missing : Bool) (packet : List ℕ) (told : Ether
   pub tells : told ≡ packet_in is_length_missing packet carries.headers (kept carried) verdict
   pub payload : HasPayload is_length_missing packet told.transport
 
--- if the packet is accepted, `told` is the result; if the packet is refused, `told` is unchanged
+-- if the packet is accepted, `told` is the result of the call; if the packet is refused, `told` is unchanged
 abbrev pub Judges : Option EtherparseError → Bool → List ℕ → EtherparseIpPacket → EtherparseIpPacket → Type 0
 Judges None is_length_missing packet told before = IsJudged is_length_missing packet told
 Judges (Some error) is_length_missing packet told before = told ≡ before

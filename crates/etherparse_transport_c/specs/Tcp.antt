@@ -24,7 +24,7 @@ use Rattle.etherparse_transport_c.specs.declared.tcp_option.EtherparseTcpRawOpti
 
 -- ---- headers
 
--- the nine flags as one number: NS is bit 0x100, and the other flags have the bits that they have in byte 13
+-- the nine flags as one number: NS is bit 0x100, and the other flags have the same bits as in byte 13 of the header
 abbrev pub flags_of : TcpHeader → ℕ
 flags_of header = from_bool header.ns * 256 + tcp.flags_byte header
 
@@ -109,7 +109,7 @@ header_bytes bytes = take ((tcp.layout_of bytes).header_len) bytes
 abbrev pub payload_bytes : List ℕ → List ℕ
 payload_bytes bytes = drop ((tcp.layout_of bytes).header_len) bytes
 
--- the refusal of a call about checksums: the segment is refused, or it is too long for the length field of a pseudo header
+-- the refusal to compute or test a checksum: the segment is refused, or it is too long for the length field of the pseudo header
 abbrev pub checksum_refusal : ValueType → ℕ → List ℕ → Option EtherparseError
 checksum_refusal value_type limit bytes = first_refusal (refusal bytes)
     (option_map of_value (too_big value_type (limit - length (header_bytes bytes)) (length (payload_bytes bytes))))
@@ -169,8 +169,8 @@ item_error (Some (Err error)) before = of_option error
 item_error (Some (Ok element)) before = before
 item_error None before = of_status numbers.status_options_end
 
--- A call read the option at the place `from`, and moved the place to `to`. The item is what `next` returns for the bytes that begin at
--- `from`. The item determines the status, the option and the error.
+-- A call read the option at the place `from`, and moved the place to `to`. The item is what `next` of the library in Rattle returns for the
+-- bytes that begin at `from`. The item determines the status, the option and the error.
 pub record ReadsFrom (options : List ℕ) (from to status : ℕ) (option option_before : EtherparseTcpOption) (error error_before : EtherparseError) : Type 0 where
   pub item : Option Item
   pub within : to ≤ length options
@@ -181,7 +181,7 @@ pub record ReadsFrom (options : List ℕ) (from to status : ℕ) (option option_
 
 -- ---- options of any kind
 
--- the option in the form of the C struct, given the place at which its value ends
+-- the option in the form of the C struct; its value ends at the place `to`
 abbrev pub raw_option_of : RawOption → ℕ → EtherparseTcpRawOption
 raw_option_of option to =
     record { kind = option.kind; value_offset = to - length option.value; value_len = length option.value }
@@ -204,8 +204,8 @@ raw_item_error (Some (Err error)) before = of_raw_option error
 raw_item_error (Some (Ok option)) before = before
 raw_item_error None before = of_status numbers.status_options_end
 
--- A call read the option of any kind at the place `from`, and moved the place to `to`. The item is what `next` returns for the bytes that
--- begin at `from`. The item determines the status, the option and the error.
+-- A call read the option of any kind at the place `from`, and moved the place to `to`. The item is what `next` of the library in Rattle
+-- returns for the bytes that begin at `from`. The item determines the status, the option and the error.
 pub record ReadsRawFrom (options : List ℕ) (from to status : ℕ) (option option_before : EtherparseTcpRawOption) (error error_before : EtherparseError) : Type 0 where
   pub item : Option RawItem
   pub within : to ≤ length options

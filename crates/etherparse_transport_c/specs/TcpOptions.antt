@@ -19,12 +19,12 @@ value option place = slice_index option.values place
 abbrev pub bare_in : EtherparseTcpOption → TcpOptionElement → Option TcpOptionElement
 bare_in option element = if option.value_count == 0 then Some element else None
 
--- the maximum segment size, if the option has exactly one value, and it fits in 16 bits (RFC 9293, section 3.1)
+-- the maximum segment size, if the option has exactly one value, which fits in 16 bits (RFC 9293, section 3.1)
 abbrev pub size_in : EtherparseTcpOption → Option TcpOptionElement
 size_in option =
     if option.value_count == 1 && not (nat_lt 0xffff (value option 0)) then Some (MaximumSegmentSize (value option 0)) else None
 
--- the window scale, if the option has exactly one value, and it fits in 8 bits (RFC 7323, section 2.2)
+-- the window scale, if the option has exactly one value, which fits in 8 bits (RFC 7323, section 2.2)
 abbrev pub shift_in : EtherparseTcpOption → Option TcpOptionElement
 shift_in option =
     if option.value_count == 1 && not (nat_lt 0xff (value option 0)) then Some (WindowScale (value option 0)) else None
@@ -66,14 +66,14 @@ is_known kind =
     kind == numbers.tcp_option_noop || (kind == numbers.tcp_option_maximum_segment_size || (kind == numbers.tcp_option_window_scale
     || (kind == numbers.tcp_option_sack_permitted || (kind == numbers.tcp_option_sack || kind == numbers.tcp_option_timestamp))))
 
--- the error for an option without an element: its kind is unknown, or an option of its kind can't have its values
+-- the error for an option without an element: its kind is unknown, or its values are wrong for its kind
 abbrev pub no_element : EtherparseTcpOption → EtherparseError
 no_element option = if is_known option.kind then of_option_values option.kind else of_option_kind option.kind
 
 -- ---- several options
 
--- Appends the element of an option to the elements `found`, and passes them to `further`, which goes on with the next options. If the
--- option has no element, the result is the error for this option.
+-- Appends the element of an option to the elements `found`, and passes the longer list to `further`, which appends the elements of the next
+-- options. If the option has no element, the result is the error for this option.
 abbrev pub gathered_next : (List TcpOptionElement → Result (List TcpOptionElement) EtherparseError) → List TcpOptionElement
     → EtherparseTcpOption → Option TcpOptionElement → Result (List TcpOptionElement) EtherparseError
 gathered_next further found option None = Err (no_element option)
@@ -84,17 +84,18 @@ abbrev pub gathered : List TcpOptionElement → List EtherparseTcpOption → Res
 gathered found [] = Ok found
 gathered found (option ∷ options) = gathered_next (λ longer. gathered longer options) found option (element_in option)
 
--- the refusal of options, by the result of `gathered`: its error, or an error if the elements have more than 40 bytes
+-- the refusal of options, given the result of `gathered`: its error, or an error if the elements have more than 40 bytes
 abbrev pub refusal_of : Result (List TcpOptionElement) EtherparseError → Option EtherparseError
 refusal_of (Ok elements) = option_map of_options (too_long (saturated (length (join elements))))
 refusal_of (Err error) = Some error
 
--- the bytes of the elements that `gathered` returned, padded with zeros to whole words of four bytes; empty if it returned an error
+-- the bytes of the elements that `gathered` returned, padded with zeros to whole words of four bytes; no bytes if it returned an error
 abbrev pub bytes_of : Result (List TcpOptionElement) EtherparseError → List ℕ
 bytes_of (Ok elements) = pad (join elements)
 bytes_of (Err error) = []
 
--- the refusal of these options: the error for the first option with a wrong kind or value, or an error if all have more than 40 bytes
+-- the refusal of these options: the error for the first option with a wrong kind or value, or an error if all options have more than 40
+-- bytes
 abbrev pub options_refusal : List EtherparseTcpOption → Option EtherparseError
 options_refusal options = refusal_of (gathered [] options)
 

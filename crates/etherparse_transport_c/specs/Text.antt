@@ -6,7 +6,7 @@ use Rattle.etherparse_transport_c.specs.Errors.{at_front}
 abbrev pub max_text_len : ℕ
 max_text_len = 256
 
--- the text is the whole text, or its first `max_text_len` bytes
+-- `text` is `whole`, or the first `max_text_len` bytes of `whole` if it is longer
 abbrev pub IsCut : List ℕ → List ℕ → Type 0
 IsCut text whole = text ≡ take max_text_len whole
 

@@ -42,12 +42,12 @@ abbrev pub ipv6_refusal_with : EtherparseIpv6Translation → EtherparseIpv6Trans
 ipv6_refusal_with translation quoted packet =
     option_map (of_translate 4) (ipv6.ipv6_refusal_with (ipv6_translation translation) (ipv6_translation quoted) packet)
 
--- the refusal to translate an IPv4 packet by this translation; in a quoted packet, the new source replaces the destination, and the new
--- destination replaces the source
+-- The refusal to translate an IPv4 packet by this translation. In a quoted packet the new source replaces the destination, and the new
+-- destination replaces the source.
 abbrev pub ipv4_refusal : EtherparseIpv4Translation → List ℕ → Option EtherparseError
 ipv4_refusal translation packet = option_map (of_translate 6) (ipv4.ipv4_refusal (ipv4_translation translation) packet)
 
--- the refusal to translate an IPv6 packet by this translation; in a quoted packet, the new source replaces the destination, and the new
--- destination replaces the source
+-- The refusal to translate an IPv6 packet by this translation. In a quoted packet the new source replaces the destination, and the new
+-- destination replaces the source.
 abbrev pub ipv6_refusal : EtherparseIpv6Translation → List ℕ → Option EtherparseError
 ipv6_refusal translation packet = option_map (of_translate 4) (ipv6.ipv6_refusal (ipv6_translation translation) packet)

@@ -56,19 +56,19 @@ packet_in packet = record {
 
 -- ---- checksums
 
--- the refusal of a call about checksums: the packet is refused, or its payload is longer than this limit
+-- the refusal to compute or test a checksum: the packet is refused, or its payload is longer than `limit`
 abbrev pub checksum_refusal : ValueType → ℕ → List ℕ → Option EtherparseError
 checksum_refusal value_type limit bytes =
     first_refusal (packet_refusal bytes) (option_map of_value (too_big value_type limit (length (cut bytes) - 8)))
 
--- The sum from which the checksum of a packet over IPv4 is computed. It covers the pseudo header and the packet. The pseudo header contains
--- the number of bytes of the packet. The checksum of the packet, bytes 6 and 7, counts as zeros.
+-- The sum from which the checksum of a packet over IPv4 is computed. It covers the pseudo header and the packet. The length in the pseudo
+-- header is the number of bytes of the packet. The checksum field, bytes 6 and 7, counts as zeros.
 abbrev pub checksummed_ipv4 : List ℕ → List ℕ → List ℕ → ℕ
 checksummed_ipv4 source destination packet =
     total (ipv4_pseudo_header source destination numbers.protocol_udp (length packet)) + total (with_checksum 6 packet 0)
 
--- The sum from which the checksum of a packet over IPv6 is computed. It covers the pseudo header and the packet. The pseudo header contains
--- the number of bytes of the packet. The checksum of the packet, bytes 6 and 7, counts as zeros.
+-- The sum from which the checksum of a packet over IPv6 is computed. It covers the pseudo header and the packet. The length in the pseudo
+-- header is the number of bytes of the packet. The checksum field, bytes 6 and 7, counts as zeros.
 abbrev pub checksummed_ipv6 : List ℕ → List ℕ → List ℕ → ℕ
 checksummed_ipv6 source destination packet =
     total (ipv6_pseudo_header source destination numbers.protocol_udp (length packet)) + total (with_checksum 6 packet 0)

@@ -20,7 +20,7 @@ use Rattle.etherparse_transport_c.specs.declared.write_packet.EtherparseIpv6Head
 
 -- ---- the message
 
--- the protocol with this number, or `None` if the call for IPv4 does not accept it
+-- the protocol with this number, or `None` if the call that writes an IPv4 packet does not accept it
 abbrev pub proto_over_ipv4 : ℕ → Option Proto
 proto_over_ipv4 number =
     if number == numbers.protocol_udp then Some protos.Udp
@@ -28,7 +28,7 @@ proto_over_ipv4 number =
     else if number == numbers.protocol_icmpv4 then Some protos.Icmpv4
     else None
 
--- the protocol with this number, or `None` if the call for IPv6 does not accept it
+-- the protocol with this number, or `None` if the call that writes an IPv6 packet does not accept it
 abbrev pub proto_over_ipv6 : ℕ → Option Proto
 proto_over_ipv6 number =
     if number == numbers.protocol_udp then Some protos.Udp
@@ -70,13 +70,13 @@ abbrev pub ipv6_bytes : EtherparseIpv6Header → List ℕ → List ℕ
 ipv6_bytes header message = ipv6_packet header.source header.destination header.hop_limit
     (header_at (proto_over_ipv6 header.next_header) message) (payload_at (proto_over_ipv6 header.next_header) message)
 
--- the first refusal that applies: of the message, or of the IPv4 packet in a buffer of `room` bytes
+-- the first refusal that applies: the message is refused, or the IPv4 packet can't be written to a buffer of `room` bytes
 abbrev pub ipv4_refusal : EtherparseIpv4Header → List ℕ → ℕ → Option EtherparseError
 ipv4_refusal header message room = first_refusal (message_refusal header.protocol (proto_over_ipv4 header.protocol) message)
     (option_map of_build (ipv4_write_refusal (header_at (proto_over_ipv4 header.protocol) message)
     (payload_at (proto_over_ipv4 header.protocol) message) room))
 
--- the first refusal that applies: of the message, or of the IPv6 packet in a buffer of `room` bytes
+-- the first refusal that applies: the message is refused, or the IPv6 packet can't be written to a buffer of `room` bytes
 abbrev pub ipv6_refusal : EtherparseIpv6Header → List ℕ → ℕ → Option EtherparseError
 ipv6_refusal header message room = first_refusal (message_refusal header.next_header (proto_over_ipv6 header.next_header) message)
     (option_map of_build (ipv6_write_refusal (header_at (proto_over_ipv6 header.next_header) message)

@@ -6,7 +6,7 @@ ghost use Rattle.word_sum.specs.UpdatedChecksum.{PartReplaced, TurnsIntoBy, upda
 use crate::sum::added;
 use etherparse_transport::checksum_change::ChecksumChange;
 
-/// A change of the bytes that a checksum covers: some bytes are replaced by others (RFC 1624). Each pair of numbers is a valid change.
+/// A replacement of some of the bytes that a checksum covers (RFC 1624). Every pair of numbers is a valid change.
 #[repr(C)]
 #[derive(Clone, Copy)]
 pub struct EtherparseChecksumChange {
@@ -16,7 +16,7 @@ pub struct EtherparseChecksumChange {
     pub added: u16,
 }
 
-/// Returns the change as a value of the library in Rattle.
+/// Converts the change to the type of `etherparse_transport`.
 fn change_of(change: EtherparseChecksumChange) -> ChecksumChange
     ensures removed { removed_value result ≡ change.removed }
     ensures added { added_value result ≡ change.added }
@@ -35,9 +35,9 @@ pub extern "C" fn etherparse_checksum_change_new() -> EtherparseChecksumChange
     }
 }
 
-/// Returns `change`, extended by one more replacement: the old bytes are replaced by the new bytes (RFC 1624). The old and the new bytes
-/// must begin at an even place of the bytes that the checksum covers. Their lengths must be both even, or both odd. The lengths can differ,
-/// for example if a pseudo header of IPv4 replaces a pseudo header of IPv6.
+/// Returns `change` with one more replacement: `new` replaces `old` (RFC 1624). The replaced bytes must begin at an even place in the bytes
+/// that the checksum covers. Both lengths must be even, or both must be odd. The lengths can differ, for example if a pseudo header of IPv4
+/// replaces a pseudo header of IPv6.
 #[unsafe(no_mangle)]
 pub extern "C" fn etherparse_checksum_change_replace(
     change: EtherparseChecksumChange,
@@ -45,7 +45,8 @@ pub extern "C" fn etherparse_checksum_change_replace(
     new: &[u8],
 ) -> EtherparseChecksumChange
     ensures value { result ≡ record { removed = folded (change.removed + total old.now); added = folded (change.added + total new.now) } }
-    // The result is right for every even place at which the new bytes replace the old bytes.
+    // If `change` describes how a packet changed so far, the result also describes this replacement. The replacement can be at any even
+    // place.
     ensures replaces { (packet : ℕ) (between changed : List ℕ) → PartReplaced old.now new.now between changed
         → TurnsIntoBy change.removed change.added packet (total between) → TurnsIntoBy result.removed result.added packet (total changed) }
 {
@@ -69,9 +70,9 @@ pub extern "C" fn etherparse_checksum_change_reversed(
     }
 }
 
-/// Returns the checksum of the changed packet. `checksum` is the checksum before the change, as TCP, ICMP and the IPv4 header store it (RFC
-/// 1624, section 3, equation 3). The result is wrong in one case: if all bytes that the checksum covers are zeros after the change, it is 0
-/// instead of 65535.
+/// Returns the checksum of the changed packet (RFC 1624, section 3, equation 3). `checksum` is the checksum before the change. It must be
+/// in the form that TCP, ICMP and the IPv4 header use. If it is right, the result is right too, with one exception. If all bytes that the
+/// checksum covers are zeros after the change, the result is 0 instead of 65535.
 #[unsafe(no_mangle)]
 pub extern "C" fn etherparse_checksum_change_apply(
     change: EtherparseChecksumChange,
@@ -81,16 +82,16 @@ pub extern "C" fn etherparse_checksum_change_apply(
     // A right checksum becomes the right checksum of the changed packet, unless all bytes of the changed packet are zeros.
     ensures updated { (packet changed : ℕ) → TurnsIntoBy change.removed change.added packet changed → checksum ≡ checksum_of packet →
         (result ≡ checksum_of changed) ↔ (changed ≢ 0) }
-    // If a receiver accepts the packet, it accepts the changed packet, unless all bytes of the changed packet, checksum included, are
-    // zeros.
+    // A receiver that accepts the packet also accepts the changed packet. The exception is a changed packet that consists of zeros,
+    // checksum included.
     ensures verifies { (packet changed : ℕ) → TurnsIntoBy change.removed change.added packet changed → IsAllOnes (packet + checksum) →
         (IsAllOnes (changed + result)) ↔ (changed + result ≢ 0) }
 {
     change_of(change).apply(checksum)
 }
 
-/// Returns the checksum of the changed packet. `checksum` is the checksum before the change, as UDP stores it (RFC 768). A value of 0 means
-/// that the packet has no checksum, and it stays 0. No other checksum becomes 0.
+/// Returns the checksum of the changed packet. `checksum` is the checksum before the change, in the form that UDP uses (RFC 768). A
+/// checksum of 0 means that the packet has no checksum, and stays 0. No other checksum becomes 0.
 #[unsafe(no_mangle)]
 pub extern "C" fn etherparse_checksum_change_apply_udp(
     change: EtherparseChecksumChange,
@@ -101,7 +102,7 @@ pub extern "C" fn etherparse_checksum_change_apply_udp(
     // The new checksum is right exactly if the old checksum was right.
     ensures updated { (packet changed : ℕ) → TurnsIntoBy change.removed change.added packet changed →
         (result ≡ udp_checksum_of changed) ↔ (checksum ≡ udp_checksum_of packet) }
-    // If the checksum is not 0, a receiver accepts the changed packet exactly if it accepts the packet.
+    // If the checksum is not 0, a receiver accepts the changed packet exactly if it accepted the original packet.
     ensures verifies { (packet changed : ℕ) → TurnsIntoBy change.removed change.added packet changed → checksum ≢ 0 →
         (IsAllOnes (changed + result)) ↔ (IsAllOnes (packet + checksum)) }
 {

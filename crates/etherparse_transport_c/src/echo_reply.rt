@@ -15,18 +15,23 @@ use etherparse_transport::ip::{
     answer_echo, answer_echo_ipv4, answer_echo_ipv6, is_reply_from_any, is_reply_to,
 };
 
-/// Turns the echo request in an IP packet of either version into its reply, in place. The reply goes from the destination of the request to
-/// its source. The reply is as long as the request. Bytes after the packet are unchanged.
+/// Turns an echo request over IPv4 or IPv6 into its reply, in place, and writes the length of the reply to `reply_len`. The destination of
+/// the request becomes the source of the reply, and the source becomes the destination. The time to live or hop limit of the reply is
+/// `hop_limit`. The reply is as long as the request. Bytes after the packet are unchanged.
 ///
 /// # Errors
 ///
 /// The status is `OK`, or the first of these that applies:
-/// - A status of `etherparse_transport_in_ip`.
-/// - `ECHO_FRAGMENT` for a fragment, and `ECHO_NO_REQUEST` if the protocol is not ICMP.
+/// - An error of `etherparse_transport_in_ip`.
+/// - `ECHO_FRAGMENT` for a fragment.
+/// - `ECHO_NO_REQUEST` if the protocol is not the ICMP of this IP version.
 /// - `ECHO_HAS_OPTIONS` for IPv4 options, an authentication header, or IPv6 extension headers.
-/// - `LENGTH`, as the call that reads the message returns it, and `ECHO_NO_REQUEST` if the message is not an echo request.
-/// - `CHECKSUM_WRONG`, and over IPv4 `ECHO_HEADER_CHECKSUM_WRONG`, if a checksum is wrong.
-/// - `ECHO_REQUEST_SOURCE` or `ECHO_REPLY_SOURCE` if the source of the request or reply is not the address of one host.
+/// - `LENGTH` if the call that reads the message returns it.
+/// - `ECHO_NO_REQUEST` if the message is not an echo request.
+/// - `CHECKSUM_WRONG` if the checksum of the message is wrong.
+/// - `ECHO_HEADER_CHECKSUM_WRONG` if the checksum of the IPv4 header is wrong.
+/// - `ECHO_REQUEST_SOURCE` if the source of the request is not the address of one host.
+/// - `ECHO_REPLY_SOURCE` if the source of the reply is not the address of one host.
 ///
 /// After an error `error` contains the reason, and `packet` and `reply_len` are unchanged.
 #[unsafe(no_mangle)]
@@ -53,12 +58,12 @@ pub extern "C" fn etherparse_echo_answer(
     }
 }
 
-/// Turns the echo request in an IPv4 packet into its reply, like `etherparse_echo_answer`. The source of the reply is `source`. If the
-/// request was sent to a multicast or broadcast address, pass an address of the host as `source`.
+/// Turns an echo request over IPv4 into its reply, like `etherparse_echo_answer`. The source of the reply is `source`. For a request to a
+/// multicast or broadcast address, pass an address of the replying host as `source`.
 ///
 /// # Errors
 ///
-/// The statuses of `etherparse_echo_answer`. An IPv6 packet is refused with `ECHO_NO_REQUEST`.
+/// The statuses of `etherparse_echo_answer`. The call also returns `ECHO_NO_REQUEST` for an IPv6 packet.
 #[unsafe(no_mangle)]
 pub extern "C" fn etherparse_echo_answer_ipv4(
     packet: &mut [u8],
@@ -85,12 +90,13 @@ pub extern "C" fn etherparse_echo_answer_ipv4(
     }
 }
 
-/// Turns the echo request in an IPv6 packet into its reply, like `etherparse_echo_answer`. The source of the reply is `source`. If the
-/// request was sent to a multicast address, pass an address of the host as `source`.
+/// Turns an echo request over IPv6 into its reply, like `etherparse_echo_answer`. The source of the reply is `source`. For a request to a
+/// multicast address, pass an address of the replying host as `source`.
 ///
 /// # Errors
 ///
-/// The statuses of `etherparse_echo_answer`, except `ECHO_HEADER_CHECKSUM_WRONG`. An IPv4 packet is refused with `ECHO_NO_REQUEST`.
+/// The statuses of `etherparse_echo_answer`, except `ECHO_HEADER_CHECKSUM_WRONG`. The call also returns `ECHO_NO_REQUEST` for an IPv4
+/// packet.
 #[unsafe(no_mangle)]
 pub extern "C" fn etherparse_echo_answer_ipv6(
     packet: &mut [u8],
@@ -141,9 +147,9 @@ pub extern "C" fn etherparse_echo_is_reply(
     }
 }
 
-/// Tests whether `reply` is the reply to the echo request in `request`. The reply may come from any address of one host: a host that
-/// receives a request to an anycast address replies from its unicast address (RFC 4443, section 4.2). Otherwise the call does what
-/// `etherparse_echo_is_reply` does.
+/// Tests whether `reply` is the reply to the echo request in `request`. The source of the reply may be the address of any host. For
+/// example, a host replies from its unicast address to a request to an anycast address (RFC 4443, section 4.2). Otherwise the call does
+/// what `etherparse_echo_is_reply` does.
 ///
 /// # Errors
 ///

@@ -18,7 +18,7 @@ use etherparse_transport::{
     IpNumber, LenSource, TcpOptionReadError, TcpOptionWriteError, Untested,
 };
 
-/// Returns the layer with this number.
+/// Returns the layer with this number, or `None` if no layer has it.
 fn layer(number: u32) -> Option<Layer>
     ensures { result ≡ specs.layer_at number }
 {
@@ -34,7 +34,7 @@ fn layer(number: u32) -> Option<Layer>
     }
 }
 
-/// Returns the source of a length with this number.
+/// Returns the source of a length with this number, or `None` if no source has it.
 fn len_source(number: u32) -> Option<LenSource>
     ensures { result ≡ specs.len_source_at number }
 {
@@ -45,7 +45,7 @@ fn len_source(number: u32) -> Option<LenSource>
     }
 }
 
-/// Returns the kind of value with this number.
+/// Returns the kind of value with this number, or `None` if no kind has it.
 fn value_type(number: u32) -> Option<ValueType>
     ensures { result ≡ specs.value_type_at number }
 {
@@ -70,7 +70,7 @@ fn byte(number: usize) -> Option<u8>
     }
 }
 
-/// Returns the library's error about a length, or `None` if the layer or the source of the length is unknown.
+/// Returns the `LenError` for this error, or `None` if the layer or the source of the length is unknown.
 fn len_error(error: &EtherparseError) -> Option<LenError>
     ensures { result ≡ specs.len_error_in error.now }
 {
@@ -86,7 +86,7 @@ fn len_error(error: &EtherparseError) -> Option<LenError>
     }
 }
 
-/// Returns the library's error about a value that is too big, or `None` if the kind of the value is unknown.
+/// Returns the `ValueTooBigError` for this error, or `None` if the kind of the value is unknown.
 fn value_error(error: &EtherparseError) -> Option<ValueTooBigError<usize>>
     ensures { result ≡ specs.value_error_in error.now }
 {
@@ -207,8 +207,8 @@ fn translate_error(error: &EtherparseError) -> Option<TranslateError>
     }
 }
 
-/// Returns the reason why a checksum was not tested, by the number of its verdict. Returns `None` if no verdict with this number has a
-/// reason.
+/// Returns the reason why a checksum was not tested. `number` is the number of the verdict. The result is `None` if the verdict with this
+/// number states no reason.
 fn untested(number: usize) -> Option<Untested>
     ensures { result ≡ specs.untested_at number }
 {
@@ -235,7 +235,7 @@ fn untested_text(number: usize) -> ErrorText
 
 /// Returns the text of an error in each of these cases:
 /// - The error exists only in the library for C.
-/// - The status is above 43. It was added later, so it is outside the ranges of statuses in `text`.
+/// - The status is above 43. These statuses were added later, and the ranges in `text` do not include them.
 /// - No call returns an error with this status and these numbers.
 fn own_text(error: &EtherparseError) -> ErrorText
     ensures { reads_as result ≡ specs.own_text error.now }
@@ -316,8 +316,8 @@ fn value_text(error: &EtherparseError) -> ErrorText
     }
 }
 
-/// Returns the text of an error. Most errors have the same text in the Rattle library. A wrong checksum, a small buffer and a protocol that
-/// is not accepted have only one text, whichever call returns the error.
+/// Returns the text of an error. Most texts are the same as in `etherparse_transport`. Every call has the same text for a wrong checksum,
+/// for a small buffer, and for a refused protocol.
 fn text(error: &EtherparseError) -> ErrorText
     ensures { reads_as result ≡ text_of error.now }
 {
@@ -356,9 +356,8 @@ fn text(error: &EtherparseError) -> ErrorText
     }
 }
 
-/// Writes the text of an error in ASCII, with a zero byte at its end. Returns the length of the text without the zero
-/// byte, at most 256. If the buffer is too small, the call writes the beginning of the text and the zero byte. It
-/// writes nothing to an empty buffer.
+/// Writes the text of an error in ASCII, with a zero byte at its end. Returns the length of the whole text, without the zero byte. It is at
+/// most 256. If the buffer is too small, the call writes the beginning of the text and the zero byte. It writes nothing to an empty buffer.
 #[unsafe(no_mangle)]
 pub extern "C" fn etherparse_error_text(error: &EtherparseError, buffer: &mut [Char]) -> usize
     ensures len { result ≡ length (take max_text_len (text_of error.now)) }

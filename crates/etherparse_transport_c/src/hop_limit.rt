@@ -15,17 +15,18 @@ use etherparse_transport::err::packet::LowerHopLimitError;
 use etherparse_transport::ip::lower_hop_limit;
 
 /// Lowers the time to live of an IPv4 packet, or the hop limit of an IPv6 packet, by one. A router does this before it forwards a packet
-/// (RFC 1812, section 5.3.1; RFC 8200, section 3). The checksum of an IPv4 header is updated (RFC 1624): a right checksum stays right, and
-/// a wrong checksum stays wrong. No other byte changes. Only the IP header is read, but not its total length or payload length.
+/// (RFC 1812, section 5.3.1; RFC 8200, section 3). The call updates the checksum of an IPv4 header (RFC 1624). A right checksum stays
+/// right, and a wrong checksum stays wrong. No other byte changes. The call reads only the IP header, and ignores its total length or
+/// payload length.
 ///
 /// # Errors
 ///
 /// The status is `OK`, or the first of these that applies:
 /// - `IP_HEADER_CUT_OFF` if there are no bytes.
 /// - `IP_VERSION` if the version is neither 4 nor 6.
-/// - `IP_HEADER_CUT_OFF` if there are fewer than 20 bytes of IPv4 or 40 of IPv6.
-/// - `IP_HEADER_LENGTH` if the header length of IPv4 is below 20 bytes.
-/// - `IP_HEADER_CUT_OFF` if there are fewer bytes than the header length of IPv4.
+/// - `IP_HEADER_CUT_OFF` if an IPv4 packet has fewer than 20 bytes, or an IPv6 packet fewer than 40 bytes.
+/// - `IP_HEADER_LENGTH` if the header length of an IPv4 packet is below 20 bytes.
+/// - `IP_HEADER_CUT_OFF` if an IPv4 packet has fewer bytes than its header length states.
 /// - `HOP_LIMIT_EXPIRED` if the hop limit is 0 or 1. The error contains the hop limit.
 ///
 /// After an error `error` contains the reason, and `packet` is unchanged.
@@ -34,7 +35,7 @@ pub extern "C" fn etherparse_hop_limit_lower(packet: &mut [u8], error: ErrorPlac
     ensures status { result.status ≡ status_of (refusal packet.old) }
     ensures error { Leaves error result (unwrap_or (refusal packet.old) error.before) }
     ensures packet { packet.new ≡ unless_refused (refusal packet.old) (lowered packet.old) packet.old }
-    // A receiver accepts the new IPv4 header exactly if it accepts the old header.
+    // A receiver accepts the new IPv4 header exactly if it accepted the old header.
     ensures header { version packet.old ≡ 4 → refusal packet.old ≡ None → IsHeaderAccepted packet.old packet.new }
 {
     match lower_hop_limit(packet) {

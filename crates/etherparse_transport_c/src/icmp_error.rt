@@ -15,17 +15,18 @@ use crate::status;
 use etherparse_transport::err::packet::ErrorAboutError;
 use etherparse_transport::ip::{IpError, icmpv4_error_about, icmpv6_error_about};
 
-/// Writes an ICMPv4 error about a packet into the buffer, and its length to `written`. The error is an IPv4 packet from `source` to the
-/// source of the packet, with both checksums (RFC 792; RFC 1122, section 3.2.2). It has at most 576 bytes (RFC 1812, section 4.3.2.3), and
-/// quotes as many of the first bytes of the packet as fit. The checksum in `message` is not used.
+/// Writes an ICMPv4 error about `packet` to `buffer`, and the length of the error to `written` (RFC 792; RFC 1122, section 3.2.2). The
+/// error is a whole IPv4 packet from `source` to the source of `packet`. Both checksums are right. The error has at most 576 bytes (RFC
+/// 1812, section 4.3.2.3). It quotes as many of the first bytes of `packet` as fit. The call ignores the checksum in `message`.
 ///
 /// # Errors
 ///
 /// The status is `OK`, or the first of these that applies:
-/// - `MESSAGE_UNKNOWN` if no message has this kind and this code.
+/// - `MESSAGE_UNKNOWN` if no message has the kind and the code of `message`.
 /// - `NO_ICMP_ERROR` for any kind except destination unreachable, redirect, time exceeded and parameter problem. The call also returns it
 ///   for a redirect whose gateway is not the address of one host.
-/// - A status of `etherparse_transport_in_ip_lax`, and `IP_VERSION` for an IPv6 packet.
+/// - An error of `etherparse_transport_in_ip_lax`.
+/// - `IP_VERSION` for an IPv6 packet.
 /// - `ICMP_ERROR_LATER_FRAGMENT` for a fragment with an offset above 0.
 /// - `ICMP_ERROR_ABOUT_ERROR` if the packet is an ICMPv4 error, or an ICMPv4 message whose type is cut off.
 /// - `ICMP_ERROR_ABOUT_GROUP` if the destination in the IP header is 255.255.255.255 or a multicast address.
@@ -69,20 +70,21 @@ pub extern "C" fn etherparse_icmpv4_error_about(
     }
 }
 
-/// Writes an ICMPv6 error about a packet into the buffer, and its length to `written`. The error is an IPv6 packet from `source` to the
-/// source of the packet, with its checksum (RFC 4443, sections 2.4 and 3). It has at most 1,280 bytes, and quotes as many of the first
-/// bytes of the packet as fit. The checksum in `message` is not used.
+/// Writes an ICMPv6 error about `packet` to `buffer`, and the length of the error to `written` (RFC 4443, sections 2.4 and 3). The error is
+/// a whole IPv6 packet from `source` to the source of `packet`. Its checksum is right. The error has at most 1,280 bytes. It quotes as many
+/// of the first bytes of `packet` as fit. The call ignores the checksum in `message`.
 ///
 /// # Errors
 ///
 /// The status is `OK`, or the first of these that applies:
-/// - `MESSAGE_UNKNOWN` if no message has this kind and this code.
+/// - `MESSAGE_UNKNOWN` if no message has the kind and the code of `message`.
 /// - `NO_ICMP_ERROR` for any kind except destination unreachable, packet too big, time exceeded and parameter problem.
-/// - A status of `etherparse_transport_in_ip_lax`, and `IP_VERSION` for an IPv4 packet.
+/// - An error of `etherparse_transport_in_ip_lax`.
+/// - `IP_VERSION` for an IPv4 packet.
 /// - `ICMP_ERROR_LATER_FRAGMENT` for a fragment with an offset above 0.
 /// - `ICMP_ERROR_ABOUT_ERROR` if the packet is an ICMPv6 error, a redirect, or an ICMPv6 message whose type is cut off.
-/// - `ICMP_ERROR_ABOUT_GROUP` if the destination in the IP header is a multicast address. A packet too big message and a parameter problem
-///   of code 2 are written nevertheless.
+/// - `ICMP_ERROR_ABOUT_GROUP` if the destination in the IP header is a multicast address. But the call writes a packet too big message, and
+///   a parameter problem of code 2.
 /// - `ICMP_ERROR_PACKET_SOURCE` if the source in the IP header is not the address of one host.
 /// - `ICMP_ERROR_SOURCE` if `source` is not the address of one host.
 /// - `BUFFER_TOO_SMALL` if the buffer is shorter than the error.
@@ -117,7 +119,7 @@ pub extern "C" fn etherparse_icmpv6_error_about(
     }
 }
 
-/// Returns the error if no ICMP error is written. `other_version` is the IP version that the call does not accept.
+/// Returns the error of a call that writes no ICMP error. `other_version` is the IP version that the call does not accept.
 fn of_error_about(error: &ErrorAboutError, other_version: u8) -> EtherparseError
     ensures numbers { result ≡ specs.of_error_about other_version error.now }
     ensures text { text_of result ≡ error_about_text_in_c other_version error.now }

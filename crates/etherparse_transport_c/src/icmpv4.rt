@@ -27,7 +27,7 @@ use etherparse_transport::{IcmpEchoHeader, Icmpv4Header, Icmpv4Slice, Icmpv4Type
 #[repr(C)]
 #[derive(Clone, Copy)]
 pub struct EtherparseIcmpv4Header {
-    /// The kind of the message: a number of `icmpv4_kind`.
+    /// The kind of the message. The module `icmpv4_kind` lists the numbers.
     pub kind: u32,
     /// In a timestamp message or reply: the time at which the sender last touched the message.
     pub originate_timestamp: u32,
@@ -41,8 +41,8 @@ pub struct EtherparseIcmpv4Header {
     pub id: u16,
     /// In an echo or timestamp message, and in its reply: the sequence number.
     pub sequence_number: u16,
-    /// In a destination unreachable message of code 4, fragmentation needed: the MTU of the next hop, in bytes (RFC 1191, section 4). It is
-    /// 0 if the router does not report the MTU.
+    /// In a destination unreachable message of code 4 (fragmentation needed): the MTU of the next hop, in bytes (RFC 1191, section 4). It
+    /// is 0 if the router does not report the MTU.
     pub next_hop_mtu: u16,
     /// The type.
     pub type_u8: u8,
@@ -50,8 +50,8 @@ pub struct EtherparseIcmpv4Header {
     pub code_u8: u8,
     /// In a parameter problem message of code 0: the place of the error in the original datagram, in bytes.
     pub pointer: u8,
-    /// The four bytes after the checksum. They are set for every message that is read. They are written for kind 0, and for a redirect
-    /// message, in which they are the gateway's address.
+    /// The four bytes after the checksum. A call that reads a message sets them for every kind. A call that writes a header uses them only
+    /// for kind 0 and for a redirect. In a redirect they are the gateway's address.
     pub bytes4to7: [u8; 4],
 }
 
@@ -144,7 +144,7 @@ fn set_message(icmp_type: &Icmpv4Type, header: &mut EtherparseIcmpv4Header)
     }
 }
 
-/// Sets the fields of a message that was read.
+/// Sets `read` to the header of a message, and to the place and the length of its payload.
 fn set_packet(slice: &Icmpv4Slice<'_>, read: &mut EtherparseIcmpv4Packet)
     requires { HasWholeHeader slice.now }
     ensures { read.new ≡ packet_of slice.now }
@@ -164,12 +164,12 @@ fn set_packet(slice: &Icmpv4Slice<'_>, read: &mut EtherparseIcmpv4Packet)
     set_message(&slice.icmp_type(), &mut read.header);
 }
 
-/// Reads the message that consists of all these bytes (RFC 792).
+/// Reads an ICMPv4 message, which consists of all passed bytes (RFC 792).
 ///
 /// # Errors
 ///
-/// The status is `OK` or `LENGTH`. It is `LENGTH` if there are fewer than 8 bytes. A timestamp message or reply with code 0 must have
-/// exactly 20 bytes.
+/// The status is `OK` or `LENGTH`. It is `LENGTH` if there are fewer than 8 bytes. It is also `LENGTH` if a timestamp message or reply with
+/// code 0 does not have exactly 20 bytes.
 #[unsafe(no_mangle)]
 pub extern "C" fn etherparse_icmpv4_packet_read(
     bytes: &[u8],
@@ -189,14 +189,14 @@ pub extern "C" fn etherparse_icmpv4_packet_read(
     }
 }
 
-/// Returns the meaning of this code of a destination unreachable message, if the code is known.
+/// Returns the meaning of this code of a destination unreachable message, or `None` if the code is unknown.
 fn dest_unreachable(code_u8: u8, next_hop_mtu: u16) -> Option<DestUnreachableHeader>
     ensures { result ≡ listed dest_unreachable_formats code_u8 (specs.with_next_hop_mtu next_hop_mtu) }
 {
     DestUnreachableHeader::from_values(code_u8, next_hop_mtu)
 }
 
-/// Returns the meaning of this code of a parameter problem message, if the code is known.
+/// Returns the meaning of this code of a parameter problem message, or `None` if the code is unknown.
 fn parameter_problem(code_u8: u8, pointer: u8) -> Option<ParameterProblemHeader>
     ensures { result ≡ listed parameter_problem_formats code_u8 (specs.with_pointer pointer) }
 {
@@ -226,7 +226,7 @@ fn timestamp_of(fields: &EtherparseIcmpv4Header) -> TimestampMessage
     }
 }
 
-/// Returns the message with these fields. It is `None` if the kind is unknown, or if the code is unknown for this kind.
+/// Returns the message with these fields. It is `None` if no kind has this number, or if the kind does not have this code.
 pub(crate) fn message_of(fields: &EtherparseIcmpv4Header) -> Option<Icmpv4Type>
     ensures { result ≡ message_in fields.now }
 {
@@ -265,13 +265,14 @@ pub(crate) fn message_of(fields: &EtherparseIcmpv4Header) -> Option<Icmpv4Type>
     }
 }
 
-/// Writes a header (RFC 792). The kind determines the type. For kind 0, `type_u8`, `code_u8` and `bytes4to7` are written, and for a
-/// redirect also `bytes4to7`. If a kind has only one code, the code is 0.
+/// Writes a header to `buffer`, and its length to `written` (RFC 792). The kind determines the type. The call writes `code_u8` if the kind
+/// has several codes, and code 0 otherwise. For a redirect it also writes `bytes4to7`. For kind 0 it writes `type_u8`, `code_u8` and
+/// `bytes4to7`.
 ///
 /// # Errors
 ///
 /// The status is `OK`, or the first of these that applies:
-/// - `MESSAGE_UNKNOWN` if the kind is unknown, or if it has several codes and `code_u8` is not one of them.
+/// - `MESSAGE_UNKNOWN` if no kind has this number, or if the kind has several codes and `code_u8` is none of them.
 /// - `BUFFER_TOO_SMALL` if the buffer is shorter than the header.
 #[unsafe(no_mangle)]
 pub extern "C" fn etherparse_icmpv4_header_write(
@@ -286,8 +287,8 @@ pub extern "C" fn etherparse_icmpv4_header_write(
         (at_front (header_bytes fields.now.checksum (message_in fields.now)) buffer.old) buffer.old }
     ensures written { written.new ≡ unless_refused (write_refusal fields.now.checksum (message_in fields.now) (length buffer.old))
         (length (header_bytes fields.now.checksum (message_in fields.now))) written.old }
-    // The written header is read back, whatever bytes follow it. If the header and the bytes after it are accepted as a message, the
-    // message has this header.
+    // The written header is read back, whatever bytes of the buffer follow it. If a call accepts the header and these bytes as a message,
+    // the message has the written header.
     ensures reads_back { write_refusal fields.now.checksum (message_in fields.now) (length buffer.old) ≡ None
         → (len : ℕ) → written.new ≤ len → len ≤ length buffer.new → ReadsBack fields.now.checksum (message_in fields.now) (take len buffer.new) }
     ensures same { write_refusal fields.now.checksum (message_in fields.now) (length buffer.old) ≡ None
@@ -306,13 +307,13 @@ pub extern "C" fn etherparse_icmpv4_header_write(
     }
 }
 
-/// Computes the checksum of a message. Its checksum field is ignored.
+/// Computes the checksum of a message. The checksum in the message is ignored.
 fn packet_checksum(packet: &Icmpv4Slice<'_>) -> u16
     requires { HasWholeHeader packet.now }
     ensures sum { result ≡ checksum_of (total (with_checksum 2 packet.now 0)) }
     ensures valid { IsValidIcmpv4 (with_checksum 2 packet.now result) }
 {
-    // An `Unknown` message is written with exactly the bytes that were read, whatever its type is.
+    // As an `Unknown` message, a header of any type is written with exactly the bytes that were read.
     let message = Icmpv4Type::Unknown {
         type_u8: packet.type_u8(),
         code_u8: packet.code_u8(),
@@ -321,7 +322,7 @@ fn packet_checksum(packet: &Icmpv4Slice<'_>) -> u16
     message.calc_checksum(&packet.slice()[Icmpv4Header::MIN_LEN..])
 }
 
-/// Computes the checksum of the message that consists of these bytes. Its checksum field is ignored.
+/// Computes the checksum of the message that consists of these bytes. The checksum in the message is ignored.
 fn checksum_of_packet(bytes: &[u8]) -> Result<u16, EtherparseError>
     ensures refused { RefusesExactly result (refusal bytes.now) }
     ensures header { IfOk result (λ _. 8 ≤ length bytes.now) }
@@ -335,12 +336,13 @@ fn checksum_of_packet(bytes: &[u8]) -> Result<u16, EtherparseError>
     }
 }
 
-/// Computes the checksum to store in the message that consists of all these bytes (RFC 792). Its checksum field is ignored.
+/// Computes the right checksum of an ICMPv4 message, which consists of all passed bytes (RFC 792). The call ignores the checksum in the
+/// message.
 ///
 /// # Errors
 ///
-/// The status is `OK` or `LENGTH`. It is `LENGTH` if there are fewer than 8 bytes. A timestamp message or reply with code 0 must have
-/// exactly 20 bytes.
+/// The status is `OK` or `LENGTH`. It is `LENGTH` if there are fewer than 8 bytes. It is also `LENGTH` if a timestamp message or reply with
+/// code 0 does not have exactly 20 bytes.
 #[unsafe(no_mangle)]
 pub extern "C" fn etherparse_icmpv4_checksum(
     bytes: &[u8],
@@ -364,12 +366,12 @@ pub extern "C" fn etherparse_icmpv4_checksum(
     }
 }
 
-/// Stores the checksum of `etherparse_icmpv4_checksum` in bytes 2 and 3, and changes no other byte.
+/// Stores the right checksum in bytes 2 and 3, as `etherparse_icmpv4_checksum` computes it. No other byte changes.
 ///
 /// # Errors
 ///
-/// The status is `OK` or `LENGTH`. It is `LENGTH` if there are fewer than 8 bytes. A timestamp message or reply with code 0 must have
-/// exactly 20 bytes.
+/// The status is `OK` or `LENGTH`. It is `LENGTH` if there are fewer than 8 bytes. It is also `LENGTH` if a timestamp message or reply with
+/// code 0 does not have exactly 20 bytes.
 #[unsafe(no_mangle)]
 pub extern "C" fn etherparse_icmpv4_checksum_store(bytes: &mut [u8], error: ErrorPlace) -> Answer
     ensures status { result.status ≡ status_of (refusal bytes.old) }
@@ -388,12 +390,12 @@ pub extern "C" fn etherparse_icmpv4_checksum_store(bytes: &mut [u8], error: Erro
     }
 }
 
-/// Tests the checksum of the message that consists of all these bytes (RFC 792).
+/// Tests the checksum of an ICMPv4 message, which consists of all passed bytes (RFC 792).
 ///
 /// # Errors
 ///
 /// The status is `OK` if the checksum is right, otherwise the first of these that applies:
-/// - `LENGTH` if there are fewer than 8 bytes. A timestamp message or reply with code 0 must have exactly 20 bytes.
+/// - `LENGTH` if there are fewer than 8 bytes, or if a timestamp message or reply with code 0 does not have exactly 20 bytes.
 /// - `CHECKSUM_WRONG` if the checksum is wrong.
 #[unsafe(no_mangle)]
 pub extern "C" fn etherparse_icmpv4_checksum_test(bytes: &[u8], error: ErrorPlace) -> Answer

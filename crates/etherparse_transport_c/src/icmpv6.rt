@@ -26,7 +26,7 @@ use etherparse_transport::{IcmpEchoHeader, Icmpv6Header, Icmpv6Slice, Icmpv6Type
 #[repr(C)]
 #[derive(Clone, Copy)]
 pub struct EtherparseIcmpv6Header {
-    /// The kind of the message: a number of `icmpv6_kind`.
+    /// The kind of the message. The module `icmpv6_kind` lists the numbers.
     pub kind: u32,
     /// In a packet too big message: the MTU of the next link, in bytes (RFC 4443, section 3.2).
     pub mtu: u32,
@@ -43,13 +43,14 @@ pub struct EtherparseIcmpv6Header {
     pub router_lifetime: u16,
     /// In a router advertisement: the hop limit that the router proposes, or 0 if it proposes no hop limit (RFC 4861, section 4.2).
     pub cur_hop_limit: u8,
-    /// In a router or neighbor advertisement: the flags, with the bits that they have in the packet. The module `icmpv6_flag` lists them.
+    /// In a router or neighbor advertisement: the flags, each at its bit in the packet. The module `icmpv6_flag` lists them.
     pub flags: u8,
     /// The type.
     pub type_u8: u8,
     /// The code.
     pub code_u8: u8,
-    /// The four bytes after the checksum. They are set for every message that is read, and are written only for kind 0.
+    /// The four bytes after the checksum. A call that reads a message sets them for every kind. A call that writes a header uses them only
+    /// for kind 0.
     pub bytes4to7: [u8; 4],
 }
 
@@ -142,7 +143,7 @@ fn set_message(icmp_type: &Icmpv6Type, header: &mut EtherparseIcmpv6Header)
     }
 }
 
-/// Sets the fields of a message that was read.
+/// Sets `read` to the header of a message, and to the place and the length of its payload.
 fn set_packet(slice: &Icmpv6Slice<'_>, read: &mut EtherparseIcmpv6Packet)
     ensures { read.new ≡ packet_of slice.now }
 {
@@ -160,7 +161,7 @@ fn set_packet(slice: &Icmpv6Slice<'_>, read: &mut EtherparseIcmpv6Packet)
     set_message(&slice.icmp_type(), &mut read.header);
 }
 
-/// Reads the message that consists of all these bytes (RFC 4443, section 2.1).
+/// Reads an ICMPv6 message, which consists of all passed bytes (RFC 4443, section 2.1).
 ///
 /// # Errors
 ///
@@ -201,7 +202,7 @@ fn has(flags: u8, bit: u8) -> bool
     flags & bit != 0
 }
 
-/// Returns the message with these fields. It is `None` if the kind is unknown, or if the code is unknown for this kind.
+/// Returns the message with these fields. It is `None` if no kind has this number, or if the kind does not have this code.
 pub(crate) fn message_of(fields: &EtherparseIcmpv6Header) -> Option<Icmpv6Type>
     ensures { result ≡ message_in fields.now }
 {
@@ -251,13 +252,13 @@ pub(crate) fn message_of(fields: &EtherparseIcmpv6Header) -> Option<Icmpv6Type>
     }
 }
 
-/// Writes a header (RFC 4443, section 2.1). The kind determines the type. For kind 0, `type_u8`, `code_u8` and `bytes4to7` are written. If
-/// a kind has only one code, the code is 0.
+/// Writes a header to `buffer`, and its length to `written` (RFC 4443, section 2.1). The kind determines the type. The call writes
+/// `code_u8` if the kind has several codes, and code 0 otherwise. For kind 0 it writes `type_u8`, `code_u8` and `bytes4to7`.
 ///
 /// # Errors
 ///
 /// The status is `OK`, or the first of these that applies:
-/// - `MESSAGE_UNKNOWN` if the kind is unknown, or if it has several codes and `code_u8` is not one of them.
+/// - `MESSAGE_UNKNOWN` if no kind has this number, or if the kind has several codes and `code_u8` is none of them.
 /// - `BUFFER_TOO_SMALL` if the buffer is shorter than 8 bytes.
 #[unsafe(no_mangle)]
 pub extern "C" fn etherparse_icmpv6_header_write(
@@ -272,8 +273,8 @@ pub extern "C" fn etherparse_icmpv6_header_write(
         (at_front (header_bytes fields.now.checksum (message_in fields.now)) buffer.old) buffer.old }
     ensures written { written.new ≡ unless_refused (write_refusal fields.now.checksum (message_in fields.now) (length buffer.old))
         (length (header_bytes fields.now.checksum (message_in fields.now))) written.old }
-    // The written header is read back, whatever bytes follow it. If the header and the bytes after it are accepted as a message, the
-    // message has this header.
+    // The written header is read back, whatever bytes of the buffer follow it. If a call accepts the header and these bytes as a message,
+    // the message has the written header.
     ensures reads_back { write_refusal fields.now.checksum (message_in fields.now) (length buffer.old) ≡ None
         → (len : ℕ) → written.new ≤ len → len ≤ length buffer.new → ReadsBack fields.now.checksum (message_in fields.now) (take len buffer.new) }
     ensures same { write_refusal fields.now.checksum (message_in fields.now) (length buffer.old) ≡ None
@@ -292,7 +293,8 @@ pub extern "C" fn etherparse_icmpv6_header_write(
     }
 }
 
-/// Computes the checksum of a message. Its checksum field is ignored. The message was read, so it is not too long.
+/// Computes the checksum of a message. The checksum in the message is ignored. The result is never an error, since a message that was read
+/// is not too long.
 fn packet_checksum(
     packet: &Icmpv6Slice<'_>,
     source: [u8; 16],
@@ -304,7 +306,7 @@ fn packet_checksum(
         (total (pseudo_header source destination (length packet.now)) + total (with_checksum 2 packet.now 0))) }
     ensures valid { IfOk result (λ checksum. IsValidIcmpv6 source destination (with_checksum 2 packet.now checksum)) }
 {
-    // An `Unknown` message is written with exactly the bytes that were read, whatever its type is.
+    // As an `Unknown` message, a header of any type is written with exactly the bytes that were read.
     let message = Icmpv6Type::Unknown {
         type_u8: packet.type_u8(),
         code_u8: packet.code_u8(),
@@ -314,7 +316,7 @@ fn packet_checksum(
     message.calc_checksum(source, destination, payload)
 }
 
-/// Computes the checksum of the message that consists of these bytes. Its checksum field is ignored.
+/// Computes the checksum of the message that consists of these bytes. The checksum in the message is ignored.
 fn checksum_of_packet(
     bytes: &[u8],
     source: &[u8; 16],
@@ -336,7 +338,8 @@ fn checksum_of_packet(
     }
 }
 
-/// Computes the checksum to store in the message that consists of all these bytes (RFC 4443, section 2.3). Its checksum field is ignored.
+/// Computes the right checksum of an ICMPv6 message, which consists of all passed bytes (RFC 4443, section 2.3). The call ignores the
+/// checksum in the message.
 ///
 /// # Errors
 ///
@@ -367,7 +370,7 @@ pub extern "C" fn etherparse_icmpv6_checksum(
     }
 }
 
-/// Stores the checksum of `etherparse_icmpv6_checksum` in bytes 2 and 3, and changes no other byte.
+/// Stores the right checksum in bytes 2 and 3, as `etherparse_icmpv6_checksum` computes it. No other byte changes.
 ///
 /// # Errors
 ///
@@ -395,7 +398,7 @@ pub extern "C" fn etherparse_icmpv6_checksum_store(
     }
 }
 
-/// Tests the checksum of the message that consists of all these bytes (RFC 4443, section 2.3).
+/// Tests the checksum of an ICMPv6 message, which consists of all passed bytes (RFC 4443, section 2.3).
 ///
 /// # Errors
 ///

@@ -1,11 +1,11 @@
-//! The flags of ICMPv6 advertisements in the interface to C. They have the bits that they have in a packet.
+//! The flags of ICMPv6 advertisements in the interface to C. Each flag has the same bit as in a packet.
 
 use etherparse_transport::icmpv6::{NeighborAdvertisementHeader, RouterAdvertisementHeader};
 
-/// Addresses are available by DHCPv6 (RFC 4861, section 4.2).
+/// Addresses are available through DHCPv6 (RFC 4861, section 4.2).
 pub const ROUTER_MANAGED: u8 = RouterAdvertisementHeader::MANAGED_ADDRESS_CONFIG_MASK;
 
-/// Other configuration is available by DHCPv6 (RFC 4861, section 4.2).
+/// Other configuration is available through DHCPv6 (RFC 4861, section 4.2).
 pub const ROUTER_OTHER_CONFIG: u8 = RouterAdvertisementHeader::OTHER_CONFIG_MASK;
 
 /// The sender is a router (RFC 4861, section 4.4).

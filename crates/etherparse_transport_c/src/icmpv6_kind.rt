@@ -1,6 +1,6 @@
-//! The numbers of the kinds of ICMPv6 messages. They are part of the interface to C. The meaning of a number never changes.
+//! Numbers for the kinds of ICMPv6 messages, in the interface to C. The meaning of a number never changes.
 
-/// A message with a type or code that is not listed here.
+/// A message whose type and code belong to none of the other kinds.
 pub const UNKNOWN: u32 = 0;
 
 /// A destination unreachable message (RFC 4443, section 3.1).

@@ -14,13 +14,13 @@ use etherparse_transport::ip::{
 };
 use reassembly::ipv6_fragment_header;
 
-/// An IP packet that was read: its addresses, and the place of its payload (RFC 791, section 3.1; RFC 8200, sections 3 and 4).
+/// The fields of an IP packet that was read, and the place of its payload (RFC 791, section 3.1; RFC 8200, sections 3 and 4).
 #[repr(C)]
 #[derive(Clone, Copy)]
 pub struct EtherparseIpTransport {
     /// The version, 4 or 6.
     pub version: u32,
-    /// The number of the payload's protocol in IP headers.
+    /// The protocol of the payload, as its number in IP headers.
     pub protocol: u32,
     /// The place at which the payload begins, in bytes from the first byte of the packet.
     pub payload_offset: usize,
@@ -36,17 +36,17 @@ pub struct EtherparseIpTransport {
     /// The source that the checksum covers: the source in the IP header, or a home address (RFC 6275). An IPv4 address is in the first four
     /// bytes, and the other bytes are 0.
     pub source: [u8; 16],
-    /// The final destination, which the checksum covers. It is stored as the source is. All bytes are 0 if it is not known.
+    /// The final destination, which the checksum covers. It has the same form as `source`. All bytes are 0 if it is not known.
     pub destination: [u8; 16],
     /// 1 if the IP header states no length, otherwise 0. If it is 1, all passed bytes belong to the packet. It can be 1 only after a call
     /// whose name ends in `_lax`.
     pub is_length_missing: u32,
-    /// 1 if the packet is a later fragment, otherwise 0. The offset of a later fragment is above 0. Its payload is a later part of the
-    /// whole payload, so it does not begin with a transport header.
+    /// 1 if the packet is a fragment with an offset above 0, otherwise 0. The payload of such a fragment does not begin with a transport
+    /// header, since it is a later part of the whole payload.
     pub is_later_fragment: u32,
     /// The number of hops that are left: the time to live of IPv4, or the hop limit of IPv6.
     pub hop_limit: u32,
-    /// If the packet is a fragment: the place of its payload in the whole payload, in bytes. Otherwise it is 0.
+    /// The place of a fragment's payload in the payload of the whole packet, in bytes. It is 0 if the packet is not a fragment.
     pub fragment_offset: u32,
     /// The identification, which all fragments of one packet share: 16 bits over IPv4, and 32 bits in the fragment header of IPv6. It is 0
     /// over IPv6 without a fragment header.
@@ -79,7 +79,7 @@ const DONT_FRAGMENT: u8 = 0x40;
 /// The unit of a fragment offset, in bytes (RFC 791, section 3.1; RFC 8200, section 4.5).
 const FRAGMENT_UNIT: u32 = 8;
 
-/// Returns an IPv4 address in 16 bytes.
+/// Returns 16 bytes: an IPv4 address, and twelve zeros after it.
 #[inline(always)]
 pub(crate) fn ipv4_address(address: &[u8; 4]) -> [u8; 16]
     ensures { result ≡ specs.ipv4_address address.now }
@@ -88,7 +88,7 @@ pub(crate) fn ipv4_address(address: &[u8; 4]) -> [u8; 16]
     [a, b, c, d, 0, 0, 0, 0, 0, 0, 0, 0, 0, 0, 0, 0]
 }
 
-/// Returns the version of these addresses.
+/// Returns the IP version of these addresses.
 #[inline(always)]
 pub(crate) fn version(addresses: IpAddresses<'_>) -> u32
     ensures { result ≡ version_of (by_value addresses.entry) }
@@ -238,7 +238,7 @@ fn find(bytes: &[u8], transport: &mut EtherparseIpTransport, error: ErrorPlace) 
     }
 }
 
-/// Does what `find` does, but is never inlined.
+/// Does what `find` does, but is never inlined. It is for all packets except IPv4 packets without options.
 #[inline(never)]
 fn find_apart(bytes: &[u8], transport: &mut EtherparseIpTransport, error: ErrorPlace) -> Answer
     ensures status { result.status ≡ status_of (refusal bytes.now) }
@@ -252,14 +252,13 @@ fn find_apart(bytes: &[u8], transport: &mut EtherparseIpTransport, error: ErrorP
 
 /// Finds the transport in the IP packet at the front of some bytes. The transport follows the options and the extension headers (RFC 791,
 /// section 3.1; RFC 8200, sections 3 and 4). The IP header states the length of the packet. All bytes after the packet are padding. The
-/// payload is a part of `bytes`. No checksum is tested.
+/// call tests no checksum.
 ///
 /// # Errors
 ///
-/// The status is `OK`, `IP_HEADER_CUT_OFF`, `IP_VERSION`, `IP_HEADER_LENGTH`, `IP_TOTAL_LENGTH`, `IP_PACKET_CUT_OFF`,
-/// `IP_EXTENSION_CUT_OFF`, `IP_JUMBO_PAYLOAD_MISSING`, `IP_JUMBO_PAYLOAD_LENGTH`, `IP_JUMBO_PAYLOAD_UNEXPECTED` or
-/// `IP_JUMBO_PAYLOAD_FRAGMENT`. The module `status` describes them. After an error `error` contains the reason, and `transport` is
-/// unchanged.
+/// The status is `OK` or one of these, which the module `status` describes: `IP_HEADER_CUT_OFF`, `IP_VERSION`, `IP_HEADER_LENGTH`,
+/// `IP_TOTAL_LENGTH`, `IP_PACKET_CUT_OFF`, `IP_EXTENSION_CUT_OFF`, `IP_JUMBO_PAYLOAD_MISSING`, `IP_JUMBO_PAYLOAD_LENGTH`,
+/// `IP_JUMBO_PAYLOAD_UNEXPECTED` or `IP_JUMBO_PAYLOAD_FRAGMENT`. After an error `error` contains the reason, and `transport` is unchanged.
 #[unsafe(no_mangle)]
 pub extern "C" fn etherparse_transport_in_ip(
     bytes: &[u8],
@@ -272,8 +271,8 @@ pub extern "C" fn etherparse_transport_in_ip(
         (found false bytes.now (headers_of false bytes.now) transport.old) transport.old }
     ensures payload { refusal bytes.now ≡ None → HasPayload false bytes.now transport.new }
 {
-    // perf: the code is compiled once more for packets without options. This copy saves one register instead of six, and takes 6.5 ns
-    // instead of 10.7 (27 Nov 2026).
+    // perf: IPv4 packets without options have their own copy of the compiled code. The copy saves one register instead of six, and takes
+    // 6.5 ns instead of 10.7 ns (27 Nov 2026).
     if !bytes.is_empty() && bytes[0] == IPV4_WITHOUT_OPTIONS {
         find(bytes, transport, error)
     } else {
@@ -299,7 +298,7 @@ fn find_lax(bytes: &[u8], transport: &mut EtherparseIpTransport, error: ErrorPla
     }
 }
 
-/// Does what `find_lax` does, but is never inlined.
+/// Does what `find_lax` does, but is never inlined. It is for all packets except IPv4 packets without options.
 #[inline(never)]
 fn find_lax_apart(bytes: &[u8], transport: &mut EtherparseIpTransport, error: ErrorPlace) -> Answer
     ensures status { result.status ≡ status_of (lax_refusal bytes.now) }
@@ -312,8 +311,9 @@ fn find_lax_apart(bytes: &[u8], transport: &mut EtherparseIpTransport, error: Er
 }
 
 /// Does what `etherparse_transport_in_ip` does, but also accepts an IP packet that is cut off, or whose header states no length. If the
-/// header counts more bytes than were passed, the payload ends with the passed bytes, and `is_cut_off` is 1. If the header states no
-/// length, as described at `transport_in_ip_lax`, all passed bytes belong to the packet, and `is_length_missing` is 1.
+/// header counts more bytes than were passed, the payload ends with the last passed byte, and `is_cut_off` is 1. If the header states no
+/// length, all passed bytes belong to the packet, and `is_length_missing` is 1. The call `transport_in_ip_lax` of `etherparse_transport`
+/// describes when a header states no length.
 ///
 /// # Errors
 ///
@@ -331,7 +331,7 @@ pub extern "C" fn etherparse_transport_in_ip_lax(
         (found (lacks_len bytes.now) bytes.now (headers_of (lacks_len bytes.now) bytes.now) transport.old) transport.old }
     ensures payload { lax_refusal bytes.now ≡ None → HasPayload (lacks_len bytes.now) bytes.now transport.new }
 {
-    // perf: the code is compiled twice, as in `etherparse_transport_in_ip`.
+    // perf: IPv4 packets without options have their own copy of the compiled code, as in `etherparse_transport_in_ip`.
     if !bytes.is_empty() && bytes[0] == IPV4_WITHOUT_OPTIONS {
         find_lax(bytes, transport, error)
     } else {

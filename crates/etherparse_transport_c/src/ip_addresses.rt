@@ -66,7 +66,7 @@ fn addresses(bytes: &[u8]) -> Result<EtherparseIpAddresses, EtherparseError>
 }
 
 /// Reads the addresses of the IP header at the front of these bytes (RFC 791, section 3.1; RFC 8200, section 3). Options and extension
-/// headers are not read. If they contain a source route, a routing header or a home address, the checksum may cover other addresses.
+/// headers are not read. If the packet has a source route, a routing header or a home address, its checksum may cover other addresses.
 /// `etherparse_transport_in_ip` returns the addresses that the checksum covers.
 ///
 /// # Errors
@@ -74,9 +74,9 @@ fn addresses(bytes: &[u8]) -> Result<EtherparseIpAddresses, EtherparseError>
 /// The status is `OK`, or the first of these that applies:
 /// - `IP_HEADER_CUT_OFF` if there are no bytes.
 /// - `IP_VERSION` if the version is neither 4 nor 6.
-/// - `IP_HEADER_CUT_OFF` if there are fewer than 20 bytes of IPv4 or 40 of IPv6.
-/// - `IP_HEADER_LENGTH` if the header length of IPv4 is below 20 bytes.
-/// - `IP_HEADER_CUT_OFF` if there are fewer bytes than the header length of IPv4.
+/// - `IP_HEADER_CUT_OFF` if an IPv4 packet has fewer than 20 bytes, or an IPv6 packet fewer than 40 bytes.
+/// - `IP_HEADER_LENGTH` if the header length of an IPv4 packet is below 20 bytes.
+/// - `IP_HEADER_CUT_OFF` if an IPv4 packet has fewer bytes than its header length states.
 #[unsafe(no_mangle)]
 pub extern "C" fn etherparse_ip_header_addresses(
     bytes: &[u8],

@@ -49,7 +49,7 @@ fn missing_header(bytes: &[u8]) -> IpError
     }
 }
 
-/// Returns the IPv4 header at the front of these bytes. It includes the options.
+/// Returns the IPv4 header at the front of these bytes, options included.
 pub(crate) fn header(bytes: &[u8]) -> Result<Ipv4HeaderSlice<'_>, EtherparseError>
     ensures refused { RefusesExactly result (refusal bytes.now) }
     ensures kept { IfOk result (λ header. header ≡ ipv4_header bytes.now) }
@@ -60,7 +60,7 @@ pub(crate) fn header(bytes: &[u8]) -> Result<Ipv4HeaderSlice<'_>, EtherparseErro
     }
 }
 
-/// Computes the checksum of a header. Its checksum field is ignored.
+/// Computes the checksum of a header. The checksum in the header is ignored.
 fn checksum_of_header(header: &[u8]) -> u16
     requires { 20 ≤ length header.now }
     ensures sum { result ≡ checksum_of (total (with_checksum 10 header.now 0)) }
@@ -72,7 +72,7 @@ fn checksum_of_header(header: &[u8]) -> u16
         .ones_complement()
 }
 
-/// Computes the checksum of the header at the front of these bytes. Its checksum field is ignored.
+/// Computes the checksum of the header at the front of these bytes. The checksum in the header is ignored.
 fn computed(bytes: &[u8]) -> Result<u16, EtherparseError>
     ensures refused { RefusesExactly result (refusal bytes.now) }
     ensures room { IfOk result (λ _. 20 ≤ length bytes.now) }
@@ -86,8 +86,8 @@ fn computed(bytes: &[u8]) -> Result<u16, EtherparseError>
     }
 }
 
-/// Computes the checksum to store in the IPv4 header at the front of these bytes (RFC 791, section 3.1). Its checksum field and the bytes
-/// after the header are ignored.
+/// Computes the right checksum of the IPv4 header at the front of these bytes (RFC 791, section 3.1). The call ignores the checksum in the
+/// header, and the bytes after the header.
 ///
 /// # Errors
 ///
@@ -120,11 +120,11 @@ pub extern "C" fn etherparse_ipv4_header_checksum(
     }
 }
 
-/// Stores the checksum of `etherparse_ipv4_header_checksum` in bytes 10 and 11, and changes no other byte.
+/// Stores the right checksum in bytes 10 and 11, as `etherparse_ipv4_header_checksum` computes it. No other byte changes.
 ///
 /// # Errors
 ///
-/// The statuses are those of `etherparse_ipv4_header_checksum`. After an error the bytes are unchanged.
+/// The statuses of `etherparse_ipv4_header_checksum`. After an error the bytes are unchanged.
 #[unsafe(no_mangle)]
 pub extern "C" fn etherparse_ipv4_header_checksum_store(
     bytes: &mut [u8],
@@ -149,8 +149,8 @@ pub extern "C" fn etherparse_ipv4_header_checksum_store(
 ///
 /// # Errors
 ///
-/// The status is `OK` if the checksum is right. Otherwise it is the first status of `etherparse_ipv4_header_checksum` that applies, or
-/// `CHECKSUM_WRONG`.
+/// If `etherparse_ipv4_header_checksum` refuses the bytes, this call returns the same status. Otherwise the status is `OK` if the checksum
+/// is right, and `CHECKSUM_WRONG` if it is wrong.
 #[unsafe(no_mangle)]
 pub extern "C" fn etherparse_ipv4_header_checksum_test(bytes: &[u8], error: ErrorPlace) -> Answer
     ensures status { TestTells bytes.now result.status }

@@ -1,4 +1,4 @@
-//! The numbers of the layers whose length can be wrong. They are part of the interface to C. The meaning of a number never changes.
+//! Numbers for the layers whose length can be wrong, in the interface to C. The meaning of a number never changes.
 
 /// The header of a UDP packet.
 pub const UDP_HEADER: u32 = 1;

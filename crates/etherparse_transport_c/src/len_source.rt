@@ -1,4 +1,4 @@
-//! The numbers of the sources that state a length. They are part of the interface to C. The meaning of a number never changes.
+//! Numbers for the sources that can state a length, in the interface to C. The meaning of a number never changes.
 
 /// The number of bytes that the caller passed.
 pub const SLICE: u32 = 1;

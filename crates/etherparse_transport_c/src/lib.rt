@@ -1,10 +1,10 @@
 //! The transport layer for C and for every language that calls C: UDP, TCP, ICMPv4, ICMPv6, the Internet checksum, and the transport in an
 //! IP packet.
 //!
-//! Each export is a thin wrapper of a call of `etherparse_transport`. The clauses of the export use the definitions of that call. They
-//! state the status, the error, and everything that the export writes. No export has a precondition: every input that a caller can get
-//! wrong has a status. The error is passed as an `ErrorPlace`, which contains a pointer that may be NULL. The `Answer` returns the memory
-//! that the pointer points to. `include/etherparse_transport.h` declares the exports, and describes what a caller in C must ensure.
+//! Each export is a thin wrapper of a call of `etherparse_transport`. The contract of the export uses the definitions of that call. It
+//! states the status, the error, and everything that the export writes. No export has a precondition: for each wrong input it returns a
+//! status. The caller passes a pointer to an error, or NULL, as an `ErrorPlace`. The `Answer` gives the error back to the caller.
+//! `include/etherparse_transport.h` declares the exports, and describes what a caller in C must ensure.
 #![tactic(auto)]
 
 mod answer;

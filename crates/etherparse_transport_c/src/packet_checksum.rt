@@ -16,16 +16,16 @@ use crate::packet_verdict::of_transport;
 use etherparse_transport::err::tcp::HeaderSliceError;
 use etherparse_transport::ip::{TransportInIp, transport_in_ip, transport_slice, write_checksum};
 
-/// Stores the right checksum of UDP, TCP or ICMP in an IP packet of either version, and writes it to `checksum`. The checksum that the
-/// packet contains before the call does not matter. Afterwards `etherparse_packet_verdict` returns the verdict `RIGHT`. A partial checksum
-/// becomes a whole checksum. A UDP packet over IPv4 without a checksum gets a checksum. No other byte changes. The checksum of the IPv4
-/// header is not tested.
+/// Stores the right checksum of UDP, TCP or ICMP in an IPv4 or IPv6 packet, and writes it to `checksum`. The packet may contain any
+/// checksum before the call. After the call `etherparse_packet_verdict` returns the verdict `RIGHT`. A partial checksum becomes a whole
+/// checksum. A UDP packet over IPv4 without a checksum gets a checksum. No other byte changes. The checksum of the IPv4 header is not
+/// tested.
 ///
 /// # Errors
 ///
 /// The status is `OK`, or the first of these that applies:
-/// - A status of `etherparse_transport_in_ip`.
-/// - `LENGTH` or `DATA_OFFSET`, as the call that reads a packet of this protocol returns it.
+/// - An error of `etherparse_transport_in_ip`.
+/// - `LENGTH` or `DATA_OFFSET` if the call that reads a packet of this protocol returns it.
 /// - `CHECKSUM_UNTESTED` if `etherparse_packet_verdict` does not test the checksum. The error contains the verdict.
 ///
 /// After an error `error` contains the reason, and `packet` and `checksum` are unchanged.
@@ -39,7 +39,7 @@ pub extern "C" fn etherparse_packet_checksum_store(
     ensures pointer { result.pointer ≡ error.pointer }
     ensures unchanged { (why : WriteChecksumError) → IsRefusedFor packet.old why → (packet.new ≡ packet.old) × (checksum.new ≡ checksum.old) }
     ensures written { IsAccepted packet.old → IsWritten packet.old checksum.new packet.new }
-    // Afterwards the verdict is `RIGHT`.
+    // After the call the verdict is `RIGHT`.
     ensures right { IsAccepted packet.old → HasVerdict packet.new verdicts.Right }
     // A right checksum stays, and a wrong or partial checksum becomes the expected checksum.
     ensures chosen { IsAccepted packet.old → (verdict : ChecksumVerdict) → HasChecksum verdict → HasVerdict packet.old verdict →
@@ -67,13 +67,13 @@ fn has_partial(carried: &TransportInIp<'_>) -> Result<bool, HeaderSliceError>
 }
 
 /// Tests whether the checksum of UDP, TCP or ICMPv6 in an IP packet is partial, and writes 1 or 0 to `is_partial`. A partial checksum is
-/// the sum of only the pseudo header. A host leaves the rest to its network card (checksum offload). So a packet from a socket of the same
-/// host often contains a partial checksum. Call `etherparse_packet_checksum_store` to complete it before the packet is changed or
-/// forwarded. The payload is not read. The call writes 0 for a fragment, and for any other protocol.
+/// the sum of only the pseudo header. A host leaves the rest of the sum to its network card (checksum offload). So a packet from a socket
+/// of the same host often contains a partial checksum. Complete it with `etherparse_packet_checksum_store` before you change or forward the
+/// packet. The payload is not read. The call writes 0 for a fragment, and for any other protocol.
 ///
 /// # Errors
 ///
-/// The status is a status of `etherparse_packet_verdict`. After an error `error` contains the reason, and `is_partial` is unchanged.
+/// The statuses of `etherparse_packet_verdict`. After an error `error` contains the reason, and `is_partial` is unchanged.
 #[unsafe(no_mangle)]
 pub extern "C" fn etherparse_packet_checksum_is_partial(
     bytes: &[u8],

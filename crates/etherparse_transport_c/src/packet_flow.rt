@@ -13,7 +13,7 @@ use crate::error::of_ip;
 use crate::ip::{destination, source, version};
 use etherparse_transport::ip::{FlowEnds, PacketFlow, flow};
 
-/// The ends of a flow, as one of its packets names them.
+/// The two ends of a flow, as one of its packets contains them: addresses, and ports or identifiers.
 #[repr(C)]
 #[derive(Clone, Copy)]
 pub struct EtherparseFlowEnds {
@@ -37,7 +37,7 @@ pub struct EtherparseFlowEnds {
     pub destination_port: u16,
     /// The source that the checksum covers. An IPv4 address is in the first four bytes, and the other bytes are 0.
     pub source: [u8; 16],
-    /// The final destination, which the checksum covers. It is stored as the source is. All bytes are 0 if it is not known.
+    /// The final destination, which the checksum covers. It has the same form as `source`. All bytes are 0 if it is not known.
     pub destination: [u8; 16],
 }
 
@@ -47,8 +47,8 @@ pub struct EtherparseFlowEnds {
 pub struct EtherparsePacketFlow {
     /// The ends of the packet itself.
     pub ends: EtherparseFlowEnds,
-    /// The ends of the packet that an ICMP error quotes, which went in the other direction. If no packet is quoted, every field is 0,
-    /// including `quoted.version`.
+    /// If the packet is an ICMP error: the ends of the packet that it quotes. The quoted packet went in the other direction. If no packet
+    /// is quoted, every field is 0.
     pub quoted: EtherparseFlowEnds,
 }
 
@@ -100,14 +100,15 @@ fn told(found: &PacketFlow<'_>) -> EtherparsePacketFlow
     }
 }
 
-/// Finds the flow that an IP packet of either version belongs to: its addresses, its protocol, and its ports or the identifier of an ICMP
-/// query (RFC 3022, section 4; RFC 5508). For an ICMP error, the call also finds the flow of the quoted packet. The packet may be cut off
-/// or state no length, as for `etherparse_transport_in_ip_lax`. No checksum is tested.
+/// Finds the flow that an IPv4 or IPv6 packet belongs to: its addresses, its protocol, and its ports or the identifier of an ICMP query
+/// (RFC 3022, section 4; RFC 5508). For an ICMP error, the call also finds the flow of the quoted packet. The packet may be cut off or
+/// state no length, as for `etherparse_transport_in_ip_lax`. No checksum is tested.
 ///
 /// # Errors
 ///
-/// The statuses of `etherparse_transport_in_ip_lax`. After an error `error` contains the reason, and `flow_of_packet` is unchanged. A
-/// transport header or quoted packet that can't be read is not an error. Then the ports are not known, or all fields of `quoted` are 0.
+/// The statuses of `etherparse_transport_in_ip_lax`. After an error `error` contains the reason, and `flow_of_packet` is unchanged. If the
+/// transport header can't be read, the ports are not known. If the quoted packet can't be read, all fields of `quoted` are 0. Neither is an
+/// error.
 #[unsafe(no_mangle)]
 pub extern "C" fn etherparse_flow(
     bytes: &[u8],

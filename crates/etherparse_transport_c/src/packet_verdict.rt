@@ -117,13 +117,13 @@ fn judge(
     }
 }
 
-/// Finds the transport in the IP packet at the front of some bytes, as `etherparse_transport_in_ip` does. Then it tests the checksum.
-/// Afterwards `packet` contains the verdict, and the right checksum if the stored checksum is wrong or partial.
+/// Finds the transport in the IP packet at the front of some bytes, as `etherparse_transport_in_ip` does. Then the call tests the checksum.
+/// After the call `packet` contains the verdict, and the right checksum if the stored checksum is wrong or partial.
 ///
 /// # Errors
 ///
-/// The status is a status of `etherparse_transport_in_ip`. It can also be `LENGTH` or `DATA_OFFSET`, as the call that reads a packet of
-/// this protocol returns it. After an error `error` contains the reason, and `packet` is unchanged.
+/// The status is a status of `etherparse_transport_in_ip`. It is `LENGTH` or `DATA_OFFSET` if the call that reads a packet of this protocol
+/// returns it. After an error `error` contains the reason, and `packet` is unchanged.
 #[unsafe(no_mangle)]
 pub extern "C" fn etherparse_packet_verdict(
     bytes: &[u8],
@@ -140,8 +140,8 @@ pub extern "C" fn etherparse_packet_verdict(
     }
 }
 
-/// Finds the transport in a packet that may be cut off or state no length, as `etherparse_transport_in_ip_lax` does. Then it tests the
-/// checksum, but not if the packet is cut off. A UDP packet that is cut off is read as `etherparse_udp_packet_read_lax` reads it.
+/// Finds the transport in a packet that may be cut off or state no length, as `etherparse_transport_in_ip_lax` does. Then the call tests
+/// the checksum, unless the packet is cut off. It reads a UDP packet that is cut off as `etherparse_udp_packet_read_lax` does.
 ///
 /// # Errors
 ///

@@ -8,9 +8,9 @@ use crate::error::{of_len, of_status};
 use crate::status;
 use etherparse_transport::{Icmpv4Header, Icmpv4Slice, Icmpv6Header, Icmpv6Slice};
 
-/// Finds the packet that an ICMPv4 error quotes, and writes its place in the message to `offset`, and its length to `len`. An error is a
-/// destination unreachable, source quench, redirect, time exceeded or parameter problem message. The quoted packet ends with the message,
-/// or earlier if a length field of RFC 4884 states a smaller length. A length below 128 bytes is ignored.
+/// Finds the packet that an ICMPv4 error quotes. The call writes the place of the quoted packet in the message to `offset`, and its length
+/// to `len`. An error is a destination unreachable, source quench, redirect, time exceeded or parameter problem message. The quoted packet
+/// ends with the message, or earlier if the length field of RFC 4884 states a smaller length. A length field below 128 bytes is ignored.
 ///
 /// # Errors
 ///
@@ -43,9 +43,9 @@ pub extern "C" fn etherparse_icmpv4_quoted_packet(
     }
 }
 
-/// Finds the packet that an ICMPv6 error quotes, and writes its place in the message to `offset`, and its length to `len`. Each message
-/// with a type below 128 is an error. The quoted packet ends with the message, or earlier if a length field of RFC 4884 states a smaller
-/// length. A length below 128 bytes is ignored.
+/// Finds the packet that an ICMPv6 error quotes. The call writes the place of the quoted packet in the message to `offset`, and its length
+/// to `len`. Each message with a type below 128 is an error. The quoted packet ends with the message, or earlier if the length field of RFC
+/// 4884 states a smaller length. A length field below 128 bytes is ignored.
 ///
 /// # Errors
 ///

@@ -1,9 +1,9 @@
-//! The numbers that a call returns. They are part of the interface to C. The meaning of a number never changes.
+//! Numbers for the statuses that calls return, in the interface to C. The meaning of a number never changes.
 
 /// The call succeeded.
 pub const OK: u32 = 0;
 
-/// A length is too short or too long.
+/// A packet, a header or a message is too short or too long.
 pub const LENGTH: u32 = 1;
 
 /// The data offset of a TCP header counts fewer than five words.
@@ -30,7 +30,7 @@ pub const FLAGS_UNKNOWN: u32 = 8;
 /// The call does not accept the protocol: it is not UDP, TCP or ICMP, or it is ICMP of the other IP version.
 pub const PROTOCOL_UNKNOWN: u32 = 9;
 
-/// No option is left: the option bytes end here, or the option that ends the list follows.
+/// No option is left: the option bytes end here, or the next option ends the list.
 pub const OPTIONS_END: u32 = 10;
 
 /// Fewer bytes are left than the option needs.
@@ -45,8 +45,8 @@ pub const OPTION_UNKNOWN: u32 = 13;
 /// The kind of the message is unknown, or the code is unknown for this kind.
 pub const MESSAGE_UNKNOWN: u32 = 14;
 
-/// The bytes end within the IP header, or there are no bytes. If the hop-by-hop options must contain the length, the bytes may also end
-/// within these options.
+/// The bytes end within the IP header, or there are no bytes. The status also means that the bytes end within hop-by-hop options that must
+/// state the length of the packet.
 pub const IP_HEADER_CUT_OFF: u32 = 15;
 
 /// The version of an IP packet is neither 4 nor 6.
@@ -97,15 +97,18 @@ pub const ECHO_REQUEST_SOURCE: u32 = 36;
 /// The source of the reply to an echo request is not the address of one host.
 pub const ECHO_REPLY_SOURCE: u32 = 37;
 
-/// The ICMP message is not an error. A call that writes an ICMP error returns this status for more messages: for kind 0, and for a redirect
+/// The ICMP message is not an error. A call that writes an ICMP error also returns this status for kind 0. It returns it too for a redirect
 /// whose gateway is not the address of one host.
 pub const NO_ICMP_ERROR: u32 = 38;
 
 /// No call returns this status. It is reserved for the translation of a packet with IPv4 options.
 pub const TRANSLATE_HAS_OPTIONS: u32 = 39;
 
-/// The packet is not translated, because its protocol is not UDP, TCP, or the ICMP of its IP version. Such a packet is refused only if a
-/// port is replaced, or if the protocol covers the addresses.
+/// The packet is not translated, because its protocol is not UDP, TCP, or the ICMP of its IP version. One of these also applies:
+/// - A port is replaced.
+/// - The protocol covers the addresses with a checksum or an authentication.
+/// - The protocol is the ICMP of the other IP version.
+/// - The protocol is an IPv6 extension header that the call does not skip.
 pub const TRANSLATE_PROTOCOL: u32 = 40;
 
 /// The packet is not translated, because it ends within the first 8 bytes of its transport header.

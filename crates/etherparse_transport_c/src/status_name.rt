@@ -62,8 +62,9 @@ fn name(status: u32) -> &'static str
     }
 }
 
-/// Writes the name of a status, as the C header spells it, with a zero byte at its end. Returns the length of the name without the zero
-/// byte. If the buffer is too small, the call writes the beginning of the name and the zero byte. It writes nothing to an empty buffer.
+/// Writes the name of a status, as the C header spells it, with a zero byte at its end. Returns the length of the whole name, without the
+/// zero byte. If the buffer is too small, the call writes the beginning of the name and the zero byte. It writes nothing to an empty
+/// buffer.
 #[unsafe(no_mangle)]
 pub extern "C" fn etherparse_status_name(status: u32, buffer: &mut [Char]) -> usize
     ensures len { result ≡ length (status_name status) }

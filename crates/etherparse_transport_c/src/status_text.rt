@@ -80,8 +80,8 @@ fn meaning(status: u32) -> &'static str
     }
 }
 
-/// Writes the meaning of a status in a few words, with a zero byte at its end. Returns the length of the text without the zero byte. If the
-/// buffer is too small, the call writes the beginning of the text and the zero byte. It writes nothing to an empty buffer.
+/// Writes the meaning of a status in a few words, with a zero byte at its end. Returns the length of the whole text, without the zero byte.
+/// If the buffer is too small, the call writes the beginning of the text and the zero byte. It writes nothing to an empty buffer.
 #[unsafe(no_mangle)]
 pub extern "C" fn etherparse_status_text(status: u32, buffer: &mut [Char]) -> usize
     ensures len { result ≡ length (status_text status) }

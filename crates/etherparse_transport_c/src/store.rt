@@ -1,7 +1,7 @@
 ghost use Rattle.std.specs.Prelude.{◌≡◌, ◌+◌, ◌≤◌, length};
 ghost use Rattle.etherparse_transport_c.specs.Checksums.{with_checksum};
 
-/// Stores a checksum in the two bytes at a place, high byte first.
+/// Stores a checksum in the two bytes that begin at `place`, high byte first.
 #[tactic(auto, unfolding(crate::specs::Checksums::with_checksum))]
 pub(crate) fn store(bytes: &mut [u8], place: usize, checksum: u16)
     requires { place + 2 ≤ length bytes.old }

@@ -13,7 +13,7 @@ pub struct EtherparseSum {
     pub value: u16,
 }
 
-/// Returns the sum as a value of the library in Rattle.
+/// Converts the sum to the type of `etherparse_transport`.
 fn sum_of(value: u16) -> Sum16BitWords
     ensures { sum_value result ≡ value }
 {
@@ -55,14 +55,14 @@ pub extern "C" fn etherparse_sum_add_at(
     bytes: &[u8],
 ) -> EtherparseSum
     ensures value { result.value ≡ folded (sum.value + total_at offset bytes.now) }
-    // If the sum is the sum of the bytes before this part, the result is the sum of these bytes and this part.
+    // If `sum` covers all bytes before this part, the result covers those bytes and this part.
     ensures joins { (before : List ℕ) → length before % 2 ≡ offset % 2 → sum.value ≡ folded (total before) →
         result.value ≡ folded (total (before ++ bytes.now)) }
 {
     if offset % 2 == 0 {
         return etherparse_sum_add(sum, bytes);
     }
-    // If the part begins at an odd place, each byte is in the other half of its word. So the two bytes of the part's sum are exchanged.
+    // If the part begins at an odd place, each byte is in the other half of its word. So the two bytes of the part's sum are swapped.
     EtherparseSum {
         value: added(sum.value, &added(0, bytes).to_le_bytes()),
     }

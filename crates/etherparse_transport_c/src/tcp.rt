@@ -97,8 +97,8 @@ fn packet(segment: &TcpSlice<'_>) -> EtherparseTcpPacket
     }
 }
 
-/// Reads the header with its options at the front of some bytes (RFC 9293, section 3.1). The bytes after the header are
-/// the payload.
+/// Reads a TCP segment, which consists of all passed bytes (RFC 9293, section 3.1). The bytes after the header and its options are the
+/// payload.
 ///
 /// # Errors
 ///
@@ -164,7 +164,8 @@ fn made_header(fields: &EtherparseTcpHeader, options: &[u8]) -> Result<TcpHeader
     Ok(header)
 }
 
-/// Writes a header with these option bytes (RFC 9293, section 3.1). The call pads the options with zeros to whole words of four bytes.
+/// Writes a header with its options to `buffer`, and its length to `written` (RFC 9293, section 3.1). The call pads the options with zeros
+/// to whole words of four bytes.
 ///
 /// # Errors
 ///
@@ -196,7 +197,7 @@ pub extern "C" fn etherparse_tcp_header_write(
     }
 }
 
-/// Returns the header at the front of some bytes, with the given fields and its own options.
+/// Returns the header with `fields`, and with the options of the header at the front of `bytes`.
 fn changed_header(fields: &EtherparseTcpHeader, bytes: &[u8]) -> Result<TcpHeader, EtherparseError>
     ensures refused { RefusesExactly result (store_refusal fields.now bytes.now) }
     ensures made { IfOk result (λ header. header ≡ header_in fields.now (options_of bytes.now)) }
@@ -208,13 +209,13 @@ fn changed_header(fields: &EtherparseTcpHeader, bytes: &[u8]) -> Result<TcpHeade
     }
 }
 
-/// Stores a header in the segment at the front of some bytes (RFC 9293, section 3.1). The options and the payload are unchanged, and the
-/// reserved bits of the header are cleared.
+/// Writes `fields` to the header at the front of a segment (RFC 9293, section 3.1). The options and the payload are unchanged. The call
+/// clears the reserved bits of the header.
 ///
 /// # Errors
 ///
 /// The status is `OK`, or the first of these that applies:
-/// - `LENGTH` or `DATA_OFFSET`, as `etherparse_tcp_packet_read` returns it.
+/// - `LENGTH` or `DATA_OFFSET` if `etherparse_tcp_packet_read` returns it.
 /// - `FLAGS_UNKNOWN` if `fields.flags` is above 0x1FF.
 #[unsafe(no_mangle)]
 pub extern "C" fn etherparse_tcp_header_store(
@@ -239,7 +240,7 @@ pub extern "C" fn etherparse_tcp_header_store(
     }
 }
 
-/// Computes the checksum of a segment over IPv4. The segment consists of all bytes. Its checksum field is ignored.
+/// Computes the checksum of a segment over IPv4, which consists of all bytes. The checksum in the segment is ignored.
 fn checksum_ipv4(
     bytes: &[u8],
     source: &[u8; 4],
@@ -264,13 +265,13 @@ fn checksum_ipv4(
     }
 }
 
-/// Computes the checksum to store in a segment over IPv4 (RFC 9293, section 3.1). The segment consists of all bytes. Its checksum field is
-/// ignored.
+/// Computes the right checksum of a segment over IPv4 (RFC 9293, section 3.1). The segment consists of all passed bytes. The call ignores
+/// the checksum in the segment.
 ///
 /// # Errors
 ///
 /// The status is `OK`, or the first of these that applies:
-/// - `LENGTH` or `DATA_OFFSET` as `etherparse_tcp_packet_read` returns it.
+/// - `LENGTH` or `DATA_OFFSET` if `etherparse_tcp_packet_read` returns it.
 /// - `VALUE_TOO_BIG` if the segment is longer than 65,535 bytes.
 #[unsafe(no_mangle)]
 pub extern "C" fn etherparse_tcp_checksum_ipv4(
@@ -300,12 +301,12 @@ pub extern "C" fn etherparse_tcp_checksum_ipv4(
     }
 }
 
-/// Stores the checksum of `etherparse_tcp_checksum_ipv4` in bytes 16 and 17, and changes no other byte.
+/// Stores the right checksum in bytes 16 and 17, as `etherparse_tcp_checksum_ipv4` computes it. No other byte changes.
 ///
 /// # Errors
 ///
 /// The status is `OK`, or the first of these that applies:
-/// - `LENGTH` or `DATA_OFFSET` as `etherparse_tcp_packet_read` returns it.
+/// - `LENGTH` or `DATA_OFFSET` if `etherparse_tcp_packet_read` returns it.
 /// - `VALUE_TOO_BIG` if the segment is longer than 65,535 bytes.
 #[unsafe(no_mangle)]
 pub extern "C" fn etherparse_tcp_checksum_store_ipv4(
@@ -331,7 +332,7 @@ pub extern "C" fn etherparse_tcp_checksum_store_ipv4(
     }
 }
 
-/// Computes the checksum of a segment over IPv6. The segment consists of all bytes. Its checksum field is ignored.
+/// Computes the checksum of a segment over IPv6, which consists of all bytes. The checksum in the segment is ignored.
 fn checksum_ipv6(
     bytes: &[u8],
     source: &[u8; 16],
@@ -356,13 +357,13 @@ fn checksum_ipv6(
     }
 }
 
-/// Computes the checksum to store in a segment over IPv6 (RFC 9293, section 3.1; RFC 8200, section 8.1). The segment consists of all bytes.
-/// Its checksum field is ignored.
+/// Computes the right checksum of a segment over IPv6 (RFC 9293, section 3.1; RFC 8200, section 8.1). The segment consists of all passed
+/// bytes. The call ignores the checksum in the segment.
 ///
 /// # Errors
 ///
 /// The status is `OK`, or the first of these that applies:
-/// - `LENGTH` or `DATA_OFFSET` as `etherparse_tcp_packet_read` returns it.
+/// - `LENGTH` or `DATA_OFFSET` if `etherparse_tcp_packet_read` returns it.
 /// - `VALUE_TOO_BIG` if the segment is longer than 4,294,967,295 bytes.
 #[unsafe(no_mangle)]
 pub extern "C" fn etherparse_tcp_checksum_ipv6(
@@ -392,12 +393,12 @@ pub extern "C" fn etherparse_tcp_checksum_ipv6(
     }
 }
 
-/// Stores the checksum of `etherparse_tcp_checksum_ipv6` in bytes 16 and 17, and changes no other byte.
+/// Stores the right checksum in bytes 16 and 17, as `etherparse_tcp_checksum_ipv6` computes it. No other byte changes.
 ///
 /// # Errors
 ///
 /// The status is `OK`, or the first of these that applies:
-/// - `LENGTH` or `DATA_OFFSET` as `etherparse_tcp_packet_read` returns it.
+/// - `LENGTH` or `DATA_OFFSET` if `etherparse_tcp_packet_read` returns it.
 /// - `VALUE_TOO_BIG` if the segment is longer than 4,294,967,295 bytes.
 #[unsafe(no_mangle)]
 pub extern "C" fn etherparse_tcp_checksum_store_ipv6(
@@ -423,7 +424,8 @@ pub extern "C" fn etherparse_tcp_checksum_store_ipv6(
     }
 }
 
-/// Returns the header and the payload of a segment. A segment that is too long for the length field of the pseudo header is refused.
+/// Returns the header and the payload of a segment. A segment longer than `limit` is refused. `limit` is the greatest number in the length
+/// field of the pseudo header.
 fn counted_parts<'a>(
     bytes: &'a [u8],
     limit: usize,
@@ -446,12 +448,12 @@ fn counted_parts<'a>(
     }
 }
 
-/// Tests the checksum of a segment over IPv4 (RFC 9293, section 3.1). The segment consists of all bytes.
+/// Tests the checksum of a segment over IPv4 (RFC 9293, section 3.1). The segment consists of all passed bytes.
 ///
 /// # Errors
 ///
 /// The status is `OK` if the checksum is right, otherwise the first of these that applies:
-/// - `LENGTH` or `DATA_OFFSET` as `etherparse_tcp_packet_read` returns it.
+/// - `LENGTH` or `DATA_OFFSET` if `etherparse_tcp_packet_read` returns it.
 /// - `VALUE_TOO_BIG` if the segment is longer than 65,535 bytes.
 /// - `CHECKSUM_WRONG` if the checksum is wrong.
 #[unsafe(no_mangle)]
@@ -473,12 +475,12 @@ pub extern "C" fn etherparse_tcp_checksum_test_ipv4(
     }
 }
 
-/// Tests the checksum of a segment over IPv6 (RFC 9293, section 3.1; RFC 8200, section 8.1). The segment consists of all bytes.
+/// Tests the checksum of a segment over IPv6 (RFC 9293, section 3.1; RFC 8200, section 8.1). The segment consists of all passed bytes.
 ///
 /// # Errors
 ///
 /// The status is `OK` if the checksum is right, otherwise the first of these that applies:
-/// - `LENGTH` or `DATA_OFFSET` as `etherparse_tcp_packet_read` returns it.
+/// - `LENGTH` or `DATA_OFFSET` if `etherparse_tcp_packet_read` returns it.
 /// - `VALUE_TOO_BIG` if the segment is longer than 4,294,967,295 bytes.
 /// - `CHECKSUM_WRONG` if the checksum is wrong.
 #[unsafe(no_mangle)]

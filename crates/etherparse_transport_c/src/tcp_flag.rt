@@ -1,5 +1,5 @@
-//! The flags of a TCP header, in the interface to C. NS is bit 0x100. The other flags have the bits that they have in byte 13. The meaning
-//! of a bit never changes.
+//! The flags of a TCP header, in the interface to C. NS is bit 0x100. The other flags have the same bits as in byte 13 of the header. The
+//! meaning of a bit never changes.
 
 /// The sender sends no more data (RFC 9293, section 3.1).
 pub const FIN: u16 = 0x001;

@@ -43,7 +43,7 @@ fn put(text: &mut Text, words: &str)
     put_bytes(text, words.as_bytes());
 }
 
-/// Appends a digit.
+/// Appends a digit, if the text has room for it.
 fn put_digit(text: &mut Text, digit: usize)
     requires { digit < 10 }
     ensures { (before : List ℕ) → IsCut text.old.items before → IsCut text.new.items (before ++ ((48 + digit) ∷ [])) }
@@ -77,8 +77,8 @@ pub(crate) fn cut(error: &ErrorText) -> Text
     text
 }
 
-/// Writes a text and a zero byte to a buffer, and returns the length of the whole text. If the buffer is too small, only the beginning of
-/// the text is written.
+/// Writes a text and a zero byte to a buffer, and returns the length of the whole text. If the buffer is too small, the function writes the
+/// beginning of the text and the zero byte. It writes nothing to an empty buffer.
 pub(crate) fn put_string(text: &[u8], buffer: &mut [Char]) -> usize
     ensures len { result ≡ length text.now }
     ensures buffer { buffer.new ≡ with_string text.now buffer.old }

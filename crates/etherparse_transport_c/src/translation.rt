@@ -63,7 +63,7 @@ fn if_set<T: Copy>(flag: u8, value: T) -> Option<T>
     if flag == 0 { None } else { Some(value) }
 }
 
-/// Returns a translation of IPv4 as a value of the library in Rattle.
+/// Converts a translation of IPv4 to the type of `etherparse_transport`.
 fn of_ipv4(translation: &EtherparseIpv4Translation) -> Ipv4Translation
     ensures { result ≡ ipv4_translation translation.now }
 {
@@ -78,7 +78,7 @@ fn of_ipv4(translation: &EtherparseIpv4Translation) -> Ipv4Translation
     }
 }
 
-/// Returns a translation of IPv6 as a value of the library in Rattle.
+/// Converts a translation of IPv6 to the type of `etherparse_transport`.
 fn of_ipv6(translation: &EtherparseIpv6Translation) -> Ipv6Translation
     ensures { result ≡ ipv6_translation translation.now }
 {
@@ -93,16 +93,18 @@ fn of_ipv6(translation: &EtherparseIpv6Translation) -> Ipv6Translation
     }
 }
 
-/// Translates an IPv4 packet in place. The call replaces its addresses, and its ports or the identifier of an ICMP query. It updates its
-/// checksums (RFC 3022; RFC 1624; RFC 5508). In the packet that an ICMP error quotes, the call replaces the destination by the new source,
-/// and the source by the new destination. In a later fragment only the addresses are replaced.
+/// Translates an IPv4 packet in place (RFC 3022; RFC 5508). The call replaces addresses, and ports or the identifier of an ICMP query. It
+/// updates the checksums (RFC 1624). In the packet that an ICMP error quotes, the new source replaces the destination, and the new
+/// destination replaces the source. In a later fragment the call replaces only the addresses.
 ///
 /// # Errors
 ///
 /// The status is `OK`, or the first of these that applies:
-/// - A status of `etherparse_transport_in_ip_lax`.
-/// - `IP_VERSION` for an IPv6 packet, and `TRANSLATE_SOURCE_ROUTE` for a loose or strict source route.
-/// - `TRANSLATE_PROTOCOL` if the protocol is not UDP, TCP or ICMPv4, and either a port is replaced or the protocol covers the addresses.
+/// - An error of `etherparse_transport_in_ip_lax`.
+/// - `IP_VERSION` for an IPv6 packet.
+/// - `TRANSLATE_SOURCE_ROUTE` for a loose or strict source route.
+/// - `TRANSLATE_PROTOCOL` if the protocol is not UDP, TCP or ICMPv4, and a port is replaced. The call also returns it for ICMPv6, and for a
+///   protocol that covers the addresses with a checksum or an authentication.
 /// - `TRANSLATE_HEADER_CUT_OFF` if the packet contains fewer than 8 bytes of UDP, TCP or ICMP.
 /// - `TRANSLATE_ICMP_MESSAGE` for a redirect, and for an ICMP message that is neither a query nor an error.
 /// - `TRANSLATE_QUOTED_PACKET` if the packet that an ICMP error quotes can't be translated.
@@ -149,14 +151,14 @@ pub extern "C" fn etherparse_translate_ipv6(
     }
 }
 
-/// Translates an IPv4 packet in place. If it is an ICMP error, `quoted` replaces values in the packet that it quotes. `quoted.source` is
-/// the new source of the quoted packet, which went in the other direction (RFC 5508, section 4). If no packet is quoted, `quoted` is not
-/// used. Otherwise the call does what `etherparse_translate_ipv4` does.
+/// Translates an IPv4 packet in place, like `etherparse_translate_ipv4`. If the packet is an ICMP error, `quoted` contains the values to
+/// replace in the packet that it quotes. `quoted.source` is the new source of the quoted packet, which went in the other direction (RFC
+/// 5508, section 4). If no packet is quoted, `quoted` is not used.
 ///
 /// # Errors
 ///
-/// The statuses of `etherparse_translate_ipv4`. If `quoted` replaces a port, the quoted packet must be UDP, TCP or ICMP. After an
-/// error `error` contains the reason, and `packet` is unchanged.
+/// The statuses of `etherparse_translate_ipv4`. If `quoted` replaces a port, and the quoted packet is not UDP, TCP or ICMP, the status is
+/// `TRANSLATE_QUOTED_PACKET`. After an error `error` contains the reason, and `packet` is unchanged.
 #[unsafe(no_mangle)]
 pub extern "C" fn etherparse_translate_ipv4_with_quoted(
     packet: &mut [u8],
@@ -175,13 +177,13 @@ pub extern "C" fn etherparse_translate_ipv4_with_quoted(
     }
 }
 
-/// Translates an IPv6 packet in place. If it is an ICMP error, `quoted` replaces values in the packet that it quotes, as in
-/// `etherparse_translate_ipv4_with_quoted`.
+/// Translates an IPv6 packet in place, like `etherparse_translate_ipv6`. If the packet is an ICMP error, `quoted` contains the values to
+/// replace in the packet that it quotes, as in `etherparse_translate_ipv4_with_quoted`.
 ///
 /// # Errors
 ///
-/// The statuses of `etherparse_translate_ipv6`. If `quoted` replaces a port, the quoted packet must be UDP, TCP or ICMP. After an
-/// error `error` contains the reason, and `packet` is unchanged.
+/// The statuses of `etherparse_translate_ipv6`. If `quoted` replaces a port, and the quoted packet is not UDP, TCP or ICMP, the status is
+/// `TRANSLATE_QUOTED_PACKET`. After an error `error` contains the reason, and `packet` is unchanged.
 #[unsafe(no_mangle)]
 pub extern "C" fn etherparse_translate_ipv6_with_quoted(
     packet: &mut [u8],

@@ -52,10 +52,12 @@ pub struct EtherparseUdpPacket {
     pub payload_len_source: u32,
 }
 
-/// The length of the longest UDP payload that a pseudo header of IPv4 can count, in bytes. Its length field has 16 bits.
+/// The length of the longest UDP payload over IPv4, in bytes. The length field of the pseudo header has 16 bits, and counts the UDP header
+/// too.
 const MAX_PAYLOAD_LEN_IPV4: usize = u16::MAX as usize - UdpHeader::LEN;
 
-/// The length of the longest UDP payload that a pseudo header of IPv6 can count, in bytes. Its length field has 32 bits.
+/// The length of the longest UDP payload over IPv6, in bytes. The length field of the pseudo header has 32 bits, and counts the UDP header
+/// too.
 const MAX_PAYLOAD_LEN_IPV6: usize = u32::MAX as usize - UdpHeader::LEN;
 
 /// Returns the header with these fields.
@@ -160,9 +162,9 @@ pub extern "C" fn etherparse_udp_header_write(
     write(&header(fields).to_bytes(), buffer, written, error)
 }
 
-/// Returns the packet at the front of some bytes. A payload longer than this limit is refused.
-// perf: if it is not inlined, its result is stored in parts and loaded as a whole, for which the processor waits. The test of a checksum
-// over 11 bytes takes 93 instead of 140 instructions (29 Nov 2026).
+/// Returns the packet at the front of some bytes. A payload longer than `limit` is refused.
+// perf: without inlining, the result is stored in parts and loaded as a whole, and the processor waits for this load. With inlining, the
+// test of a checksum over 11 bytes takes 93 instructions instead of 140 (29 Nov 2026).
 #[inline(always)]
 fn counted_packet(
     bytes: &[u8],
@@ -181,8 +183,8 @@ fn counted_packet(
     }
 }
 
-/// Computes the checksum of a packet over IPv4. Its checksum field is ignored. The pseudo header contains the number of bytes of the
-/// packet.
+/// Computes the checksum of a packet over IPv4. The checksum in the packet is ignored. The length in the pseudo header is the number of
+/// bytes of the packet.
 fn computed_ipv4(source: [u8; 4], destination: [u8; 4], packet: &[u8]) -> u16
     requires header { 8 ≤ length packet.now }
     requires counted { length packet.now ≤ max_len_over_ipv4 }
@@ -195,7 +197,7 @@ fn computed_ipv4(source: [u8; 4], destination: [u8; 4], packet: &[u8]) -> u16
         .to_ones_complement_with_no_zero()
 }
 
-/// Computes the checksum that `computed_ipv4` computes. Its contract states what a receiver accepts.
+/// Does what `computed_ipv4` does. The contract also states that a receiver accepts the packet with this checksum.
 fn packet_checksum_ipv4(source: [u8; 4], destination: [u8; 4], packet: &UdpSlice<'_>) -> u16
     requires header { 8 ≤ length packet.now }
     requires counted { length packet.now ≤ max_len_over_ipv4 }
@@ -207,8 +209,8 @@ fn packet_checksum_ipv4(source: [u8; 4], destination: [u8; 4], packet: &UdpSlice
     computed_ipv4(source, destination, packet.slice())
 }
 
-/// Computes the checksum of a packet over IPv6. Its checksum field is ignored. The pseudo header contains the number of bytes of the
-/// packet.
+/// Computes the checksum of a packet over IPv6. The checksum in the packet is ignored. The length in the pseudo header is the number of
+/// bytes of the packet.
 fn computed_ipv6(source: [u8; 16], destination: [u8; 16], packet: &[u8]) -> u16
     requires header { 8 ≤ length packet.now }
     requires counted { length packet.now ≤ max_len_over_ipv6 }
@@ -221,7 +223,7 @@ fn computed_ipv6(source: [u8; 16], destination: [u8; 16], packet: &[u8]) -> u16
         .to_ones_complement_with_no_zero()
 }
 
-/// Computes the checksum that `computed_ipv6` computes. Its contract states what a receiver accepts.
+/// Does what `computed_ipv6` does. The contract also states that a receiver accepts the packet with this checksum.
 fn packet_checksum_ipv6(source: [u8; 16], destination: [u8; 16], packet: &UdpSlice<'_>) -> u16
     requires header { 8 ≤ length packet.now }
     requires counted { length packet.now ≤ max_len_over_ipv6 }
@@ -233,7 +235,7 @@ fn packet_checksum_ipv6(source: [u8; 16], destination: [u8; 16], packet: &UdpSli
     computed_ipv6(source, destination, packet.slice())
 }
 
-/// Computes the checksum of the UDP packet at the front of some bytes, over IPv4. The checksum field of the packet is ignored.
+/// Computes the checksum of the UDP packet at the front of some bytes, over IPv4. The checksum in the packet is ignored.
 fn checksum_ipv4(
     bytes: &[u8],
     source: &[u8; 4],
@@ -253,14 +255,14 @@ fn checksum_ipv4(
     }
 }
 
-/// Computes the checksum to store in the packet at the front of some bytes, over IPv4 (RFC 768). The packet ends where
-/// `etherparse_udp_packet_read` finds its end. Its checksum field is ignored. The pseudo header contains the number of bytes of the packet,
-/// even if the length field is 0.
+/// Computes the right checksum of the packet at the front of some bytes, over IPv4 (RFC 768). The packet ends where
+/// `etherparse_udp_packet_read` finds its end. The call ignores the checksum in the packet. The length in the pseudo header is the number
+/// of bytes of the packet, even if the length field is 0.
 ///
 /// # Errors
 ///
 /// The status is `OK`, or the first of these that applies:
-/// - `LENGTH`, as `etherparse_udp_packet_read` returns it.
+/// - `LENGTH` if `etherparse_udp_packet_read` returns it.
 /// - `VALUE_TOO_BIG` if the payload is longer than 65,527 bytes.
 #[unsafe(no_mangle)]
 pub extern "C" fn etherparse_udp_checksum_ipv4(
@@ -293,12 +295,12 @@ pub extern "C" fn etherparse_udp_checksum_ipv4(
     }
 }
 
-/// Stores the checksum of `etherparse_udp_checksum_ipv4` in bytes 6 and 7, and changes no other byte.
+/// Stores the right checksum in bytes 6 and 7, as `etherparse_udp_checksum_ipv4` computes it. No other byte changes.
 ///
 /// # Errors
 ///
 /// The status is `OK`, or the first of these that applies:
-/// - `LENGTH` as `etherparse_udp_packet_read` returns it.
+/// - `LENGTH` if `etherparse_udp_packet_read` returns it.
 /// - `VALUE_TOO_BIG` if the payload is longer than 65,527 bytes.
 #[unsafe(no_mangle)]
 pub extern "C" fn etherparse_udp_checksum_store_ipv4(
@@ -324,7 +326,7 @@ pub extern "C" fn etherparse_udp_checksum_store_ipv4(
     }
 }
 
-/// Computes the checksum of the UDP packet at the front of some bytes, over IPv6. The checksum field of the packet is ignored.
+/// Computes the checksum of the UDP packet at the front of some bytes, over IPv6. The checksum in the packet is ignored.
 fn checksum_ipv6(
     bytes: &[u8],
     source: &[u8; 16],
@@ -344,14 +346,14 @@ fn checksum_ipv6(
     }
 }
 
-/// Computes the checksum to store in the packet at the front of some bytes, over IPv6 (RFC 768; RFC 8200, section 8.1). The packet ends
-/// where `etherparse_udp_packet_read` finds its end. Its checksum field is ignored. The pseudo header contains the number of bytes of the
-/// packet, even if the length field is 0.
+/// Computes the right checksum of the packet at the front of some bytes, over IPv6 (RFC 768; RFC 8200, section 8.1). The packet ends where
+/// `etherparse_udp_packet_read` finds its end. The call ignores the checksum in the packet. The length in the pseudo header is the number
+/// of bytes of the packet, even if the length field is 0.
 ///
 /// # Errors
 ///
 /// The status is `OK`, or the first of these that applies:
-/// - `LENGTH`, as `etherparse_udp_packet_read` returns it.
+/// - `LENGTH` if `etherparse_udp_packet_read` returns it.
 /// - `VALUE_TOO_BIG` if the payload is longer than 4,294,967,287 bytes.
 #[unsafe(no_mangle)]
 pub extern "C" fn etherparse_udp_checksum_ipv6(
@@ -384,12 +386,12 @@ pub extern "C" fn etherparse_udp_checksum_ipv6(
     }
 }
 
-/// Stores the checksum of `etherparse_udp_checksum_ipv6` in bytes 6 and 7, and changes no other byte.
+/// Stores the right checksum in bytes 6 and 7, as `etherparse_udp_checksum_ipv6` computes it. No other byte changes.
 ///
 /// # Errors
 ///
 /// The status is `OK`, or the first of these that applies:
-/// - `LENGTH` as `etherparse_udp_packet_read` returns it.
+/// - `LENGTH` if `etherparse_udp_packet_read` returns it.
 /// - `VALUE_TOO_BIG` if the payload is longer than 4,294,967,287 bytes.
 #[unsafe(no_mangle)]
 pub extern "C" fn etherparse_udp_checksum_store_ipv6(
@@ -420,7 +422,7 @@ pub extern "C" fn etherparse_udp_checksum_store_ipv6(
 /// # Errors
 ///
 /// The status is `OK` if the checksum is right, otherwise the first of these that applies:
-/// - `LENGTH` as `etherparse_udp_packet_read` returns it.
+/// - `LENGTH` if `etherparse_udp_packet_read` returns it.
 /// - `VALUE_TOO_BIG` if the payload is longer than 65,527 bytes.
 /// - `CHECKSUM_ABSENT` if the checksum field is 0.
 /// - `CHECKSUM_WRONG` if the checksum is wrong.
@@ -451,7 +453,7 @@ pub extern "C" fn etherparse_udp_checksum_test_ipv4(
 /// # Errors
 ///
 /// The status is `OK` if the checksum is right, otherwise the first of these that applies:
-/// - `LENGTH` as `etherparse_udp_packet_read` returns it.
+/// - `LENGTH` if `etherparse_udp_packet_read` returns it.
 /// - `VALUE_TOO_BIG` if the payload is longer than 4,294,967,287 bytes.
 /// - `CHECKSUM_ABSENT` if the checksum field is 0.
 /// - `CHECKSUM_WRONG` if the checksum is wrong.

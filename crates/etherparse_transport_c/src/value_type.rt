@@ -1,4 +1,4 @@
-//! The numbers of the values that can be too big. They are part of the interface to C. The meaning of a number never changes.
+//! Numbers for the kinds of values that can be too big, in the interface to C. The meaning of a number never changes.
 
 /// The length of a UDP payload over IPv4.
 pub const UDP_PAYLOAD_LENGTH_IPV4: u32 = 1;
@@ -15,5 +15,5 @@ pub const TCP_PAYLOAD_LENGTH_IPV6: u32 = 4;
 /// The length of an ICMPv6 payload.
 pub const ICMPV6_PAYLOAD_LENGTH: u32 = 5;
 
-/// The length of the payload after a transport header in a packet that is written.
+/// The length of the payload after the transport header, if a call writes an IP packet.
 pub const IP_PAYLOAD_LENGTH: u32 = 6;

@@ -6,7 +6,7 @@ use crate::answer::{Answer, ErrorPlace, accept, refuse};
 use crate::error::of_status;
 use crate::status;
 
-/// Returns the status of a checksum that was tested: `OK` or `CHECKSUM_WRONG`. If the checksum is wrong, the error is written.
+/// Returns `OK` if a tested checksum is right, and `CHECKSUM_WRONG` if it is wrong. If it is wrong, the function also writes the error.
 pub(crate) fn verdict(valid: bool, error: ErrorPlace) -> Answer
     ensures status { result.status ≡ (if valid then numbers.status_ok else numbers.status_checksum_wrong) }
     ensures error { Leaves error result (test_error None result.status error.before) }

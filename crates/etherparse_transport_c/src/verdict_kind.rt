@@ -1,4 +1,4 @@
-//! The numbers of the verdicts on the checksum of an IP packet. They are part of the interface to C. The meaning of a number never changes.
+//! Numbers for the verdicts on the checksum of an IP packet, in the interface to C. The meaning of a number never changes.
 
 /// The checksum is right.
 pub const RIGHT: u32 = 1;

@@ -26,8 +26,9 @@ fn name(verdict: u32) -> &'static str
     }
 }
 
-/// Writes the name of a verdict, as the C header spells it, with a zero byte at its end. Returns the length of the name without the zero
-/// byte. If the buffer is too small, the call writes the beginning of the name and the zero byte. It writes nothing to an empty buffer.
+/// Writes the name of a verdict, as the C header spells it, with a zero byte at its end. Returns the length of the whole name, without the
+/// zero byte. If the buffer is too small, the call writes the beginning of the name and the zero byte. It writes nothing to an empty
+/// buffer.
 #[unsafe(no_mangle)]
 pub extern "C" fn etherparse_verdict_name(verdict: u32, buffer: &mut [Char]) -> usize
     ensures len { result ≡ length (verdict_name verdict) }

@@ -65,8 +65,8 @@ fn proto_in_ipv6(number: u8) -> Option<Proto>
     }
 }
 
-/// Returns the transport header at the front of a message, and the bytes after it. `proto` is the protocol with this number, or `None` if
-/// the call does not accept it.
+/// Returns the transport header at the front of a message, and the bytes after it. `proto` is the protocol with the number `number`, or
+/// `None` if the call does not accept this protocol.
 fn read_message(
     number: u8,
     proto: Option<Proto>,
@@ -88,14 +88,14 @@ fn read_message(
 /// Writes an IPv4 packet to the front of a buffer (RFC 791, section 3.1): an IP header without options, and the message after it. The
 /// message is a transport header and its payload. The call computes both checksums, the total length, and the length field of UDP. It
 /// ignores the checksum and the UDP length in the message. It clears the reserved bits of the transport header. The flag "don't fragment"
-/// is set, and identification, type of service and fragment offset are 0. Afterwards `etherparse_packet_verdict` returns the verdict
+/// is set, and identification, type of service and fragment offset are 0. After the call `etherparse_packet_verdict` returns the verdict
 /// `RIGHT`.
 ///
 /// # Errors
 ///
 /// The status is `OK`, or the first of these that applies:
 /// - `PROTOCOL_UNKNOWN` if `header.protocol` is not UDP, TCP or ICMPv4.
-/// - `LENGTH` or `DATA_OFFSET` as the call that reads a header of the protocol returns it. The length field of UDP is not checked.
+/// - `LENGTH` or `DATA_OFFSET` if the call that reads a packet of this protocol returns it. But the length field of UDP is not checked.
 /// - `VALUE_TOO_BIG` if the packet would be longer than 65,535 bytes.
 /// - `BUFFER_TOO_SMALL` if the buffer is shorter than the packet.
 ///
@@ -115,7 +115,7 @@ pub extern "C" fn etherparse_write_packet_ipv4(
         (at_front (ipv4_bytes header.now message.now) buffer.old) buffer.old }
     ensures written { written.new ≡ unless_refused (ipv4_refusal header.now message.now (length buffer.old))
         (length (ipv4_bytes header.now message.now)) written.old }
-    // If any padding follows the packet, it is still read as its parts, and its checksum is right.
+    // The packet is read as the parts that were written, and its transport checksum is right. Padding after the packet changes nothing.
     ensures read { ipv4_refusal header.now message.now (length buffer.old) ≡ None → (padding : List ℕ) →
         IsReadAs (ipv4_bytes header.now message.now ++ padding) (addresses.Ipv4 header.now.source header.now.destination)
         (sent_over_ipv4 header.now.source header.now.destination (header_at (proto_over_ipv4 header.now.protocol) message.now)
@@ -150,7 +150,7 @@ pub extern "C" fn etherparse_write_packet_ipv4(
 ///
 /// The status is `OK`, or the first of these that applies:
 /// - `PROTOCOL_UNKNOWN` if `header.next_header` is not UDP, TCP or ICMPv6.
-/// - `LENGTH` or `DATA_OFFSET` as the call that reads a header of the protocol returns it. The length field of UDP is not checked.
+/// - `LENGTH` or `DATA_OFFSET` if the call that reads a packet of this protocol returns it. But the length field of UDP is not checked.
 /// - `VALUE_TOO_BIG` if the message is longer than 65,535 bytes.
 /// - `BUFFER_TOO_SMALL` if the buffer is shorter than the packet.
 ///
@@ -170,7 +170,7 @@ pub extern "C" fn etherparse_write_packet_ipv6(
         (at_front (ipv6_bytes header.now message.now) buffer.old) buffer.old }
     ensures written { written.new ≡ unless_refused (ipv6_refusal header.now message.now (length buffer.old))
         (length (ipv6_bytes header.now message.now)) written.old }
-    // If any padding follows the packet, it is still read as its parts, and its checksum is right.
+    // The packet is read as the parts that were written, and its transport checksum is right. Padding after the packet changes nothing.
     ensures read { ipv6_refusal header.now message.now (length buffer.old) ≡ None → (padding : List ℕ) →
         IsReadAs (ipv6_bytes header.now message.now ++ padding) (addresses.Ipv6 header.now.source (Some header.now.destination))
         (sent_over_ipv6 header.now.source header.now.destination (header_at (proto_over_ipv6 header.now.next_header) message.now)

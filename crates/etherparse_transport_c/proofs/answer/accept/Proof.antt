@@ -1,4 +1,4 @@
--- `accept` does not change the memory to which the pointer points, and gives it back.
+-- `accept` gives back the memory that the pointer points to, and does not change it.
 use Rattle.std.proofs.Common.{◌≡◌, [], ◌∷◌, ◌++◌, refl, lit<, List}
 use mir.Syntax.{Fn}
 use mir.Val.{Val}
@@ -40,7 +40,7 @@ accept_spec 𝓤 𝓛 𝓜 𝓡 wired =
     let r : (answer.the_row).Denot = record { status = 0; pointer = place.pointer; error = place.before } in
     qed 𝓛 ((raw (alive 𝓛 f.signature z.0.0 z.0.1) ⊛ ‵ (owns (types_at f.signature.params z.0.0) z.0.3 vss)) ∷ ‵ ftrue ∷ []) ∵
     move ! (1 ∷ []) $ drop ! $ split ! $ move ! (1 ∷ []) $ fsplit ! $ fsplit ! $ drop ! $ move ! (1 ∷ []) $ drop ! $
-    -- [what the place owns; the tokens]
+    -- the context: [the memory that the place owns; the tokens]
     regoal ! (λ (us : List Val). prop (WpFn 𝓤 𝓛.H 𝓣.C 𝓣.Λ fn us Post)) (λ i. told i ++ []) refl $
     enter ! 𝓣.C 𝓣.Λ fn (lowered place ∷ []) Post $ alloc_all ! (λ l. pass_all ! refl (place_typed place.pointer, tt) $
     sets ! (agg ! (and_then ! (lit ! tt) (no_more !))) refl (tt, (record { fits = lit< tt }, tt)) $

@@ -1,4 +1,5 @@
--- `refuse` stores the refusal in the memory to which the pointer points, unless the pointer is NULL, and gives the memory back.
+-- `refuse` stores the refusal in the memory that the pointer points to, and gives the memory back. If the pointer is NULL, it stores
+-- nothing.
 use Rattle.std.proofs.Common.{◌≡◌, [], ◌∷◌, ◌++◌, refl, sym, ap, subst, ◌∙◌, lit<, List, T}
 use mir.Syntax.{Fn}
 use mir.Val.{Val, WT, has_ty}
@@ -52,7 +53,7 @@ refuse_spec 𝓤 𝓛 𝓜 𝓡 wired =
     qed 𝓛 ((raw (alive 𝓛 f.signature z.0.0 z.0.1) ⊛ ‵ (owns (types_at f.signature.params z.0.0) z.0.3 vss)) ∷ ‵ ftrue ∷ []) ∵
     move ! (1 ∷ []) $ drop ! $ split ! $ move ! (1 ∷ []) $ fsplit ! $ fsplit ! $ drop ! $ move ! (1 ∷ []) $ fsplit ! $ move ! (1 ∷ []) $ drop ! $
     rewrite ! 0 (λ (us : List Val). ‵ (the_row.own_val refusal us)) told refl $ move ! (1 ∷ []) $
-    -- [what lies behind the pointer; the refusal; the tokens]
+    -- the context: [the memory that the pointer points to; the refusal; the tokens]
     by_pointer p (λ e.
     regoal ! (λ (us : List Val). prop (WpFn 𝓤 𝓛.H 𝓣.C 𝓣.Λ fn us Post)) (λ i. (there ∙ ap (λ (s : Ptr). place_val s ∷ []) e) i ++ (told i ++ [])) refl $
     enter ! 𝓣.C 𝓣.Λ fn (place_val null_ptr ∷ u ∷ []) Post $ alloc_all ! (λ l. pass_all ! refl (place_typed null_ptr, (typed, tt)) $
@@ -73,7 +74,7 @@ refuse_spec 𝓤 𝓛 𝓜 𝓡 wired =
     rewrite ! 0 (λ (s : Ptr). ‵ (holds s at.before)) e refl $
     use1 𝓛 (some (λ (v : Val). ‵ (fat full_share (lone the_row.mir) b o v) ⊛ ‵ (the_row.own_val at.before (v ∷ [])))) (part_out 𝓛 the_row refl full_share at.before b o) $
     pick ! (λ v. split ! $ move ! (1 ∷ []) $ drop ! $
-    -- [the cell behind the pointer; the refusal; the tokens]
+    -- the context: [the cell that the pointer points to; the refusal; the tokens]
     enter ! 𝓣.C 𝓣.Λ fn (place_val (block_ptr b o) ∷ u ∷ []) Post $ alloc_all ! (λ l. pass_all ! refl (place_typed (block_ptr b o), (typed, tt)) $
     sets ! (of_opd ! (get_in ! (fld ! refl (stop !)) (sub ! 0 refl (whole !)))) refl (tt, tt) $
     first ! $ blocks ! $

@@ -2,7 +2,7 @@ use Rattle.std.proofs.Common.{◌≡◌, ◌+◌, ◌≤◌, [], length, take}
 use Rattle.etherparse_transport_c.specs.TcpOptions.{gathered}
 use Rattle.etherparse_transport_c.proofs.tcp_option.gather.Given as goal
 
--- what was found and what is left is the whole list, which fits in the buffer
+-- the elements found so far and the rest are the whole list, which fits in the buffer
 abbrev pub invariant-loop-option : goal.invariant-loop-option
 invariant-loop-option l =
     record {

@@ -4,7 +4,7 @@ use Rattle.tcp_part.specs.declared.tcp_option_element.TcpOptionElement.{TcpOptio
 use Rattle.etherparse_transport_c.specs.TcpOptions.{gathered}
 use Rattle.etherparse_transport_c.proofs.tcp_option.refusal_of_many.Given as goal
 
--- the elements that were found and the rest are the whole list, and their bytes are counted
+-- the elements found so far and the rest are the whole list; `needed` is the number of bytes of the found elements
 abbrev pub invariant-loop-option : goal.invariant-loop-option
 invariant-loop-option l =
     (found : List TcpOptionElement)
