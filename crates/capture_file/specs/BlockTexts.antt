@@ -9,7 +9,7 @@ use Rattle.capture_file.specs.declared.reader.next_packet.NextPacket.TheVariants
 use Rattle.capture_texts.specs.Texts.{texts_after}
 use Rattle.capture_texts.specs.declared.file_texts.FileTexts.{FileTexts}
 
--- the texts after a block with this header and body
+-- the texts of the file after a block with this header and body
 abbrev pub texts_with : BlockHeader → List ℕ → FileTexts → FileTexts
 texts_with header body before = texts_after header.byte_order header.block_type body before
 
@@ -18,8 +18,8 @@ abbrev pub unless_refused : Option NextPacket → FileTexts → FileTexts → Fi
 unless_refused (Some (Refused error)) before after = before
 unless_refused next before after = after
 
--- The texts after a block was read. `next` is the packet in the block, the error that refuses the block, or `None`. A block that is refused
--- or is longer than the buffer changes no text.
+-- The texts of the file after a block was read. `next` is the packet in the block, the error that refuses the block, or `None`. A block
+-- that is refused or is longer than the buffer changes no text.
 abbrev pub noted : NextBlock → List ℕ → Option NextPacket → FileTexts → FileTexts
 noted (Whole header) buffer next before =
     unless_refused next before (texts_with header (slice_range buffer body_at (header.total_len - trailer_len)) before)

@@ -16,8 +16,8 @@ use Rattle.capture_file.specs.declared.reader.next_packet.NextPacket.TheVariants
 use Rattle.capture_file.specs.declared.reader.pcapng_reader.PcapngReader.{PcapngReader}
 use Rattle.capture_file.specs.declared.reader.next_packet.TooLongPacket.{TooLongPacket}
 
--- A packet of a capture. A packet that fits in the buffer consists of what the capture states about it, and of its captured bytes. For a
--- packet that is longer than the buffer, the captured bytes are left out.
+-- A packet of a capture. If the packet fits in the buffer, `kept` contains what the capture states about it, and its captured bytes. If it
+-- is longer than the buffer, `too_long` contains only what the capture states about it.
 pub data FilePacket : Type 0 where
   kept : CapturedPacket → List ℕ → FilePacket
   too_long : TooLongPacket → FilePacket
@@ -132,8 +132,8 @@ PacketsEndAt room (Pcapng reader) packets bytes len =
     (rest : List ℕ) × (after : CaptureReader) × ReadsPackets room (Pcapng reader) (Some bytes) (Some rest) after packets
     × (len + length rest ≡ length bytes)
 
--- Of the bytes after the beginning of a capture, only the first `cut` bytes are left. `cut_packets` are the packets whose record or block
--- ends at or before this cut. They are the first packets of the list `packets`.
+-- A capture was cut: only the first `cut` bytes after its beginning are left. `cut_packets` are the packets whose record or block ends at
+-- or before this cut. They are the first packets of the list `packets`.
 pub record ArePacketsBeforeCut (room : ℕ) (reader : CaptureReader) (bytes : List ℕ) (cut : ℕ)
     (packets cut_packets : List FilePacket) : Type 0 where
   pub count : ℕ
@@ -155,8 +155,8 @@ Begins room (Classic reader) bytes rest =
 Begins room (Pcapng reader) bytes rest =
     (buffer : List ℕ) × (length buffer ≡ room) × ReadsFirstBlock (Some bytes) (Some rest) buffer (Ok reader)
 
--- The beginning of a capture was read from an input. The first `Option` contains the bytes that the input had before, and the second
--- contains the bytes that are left. If the bytes that the input had before are unknown, the statement always holds.
+-- The beginning of a capture was read from an input. The first `Option` contains the bytes of the input before the read, and the second
+-- contains the bytes after the read. If the first `Option` is `None`, the bytes are unknown, and the statement holds.
 abbrev pub BeginsInput : ℕ → CaptureReader → Option (List ℕ) → Option (List ℕ) → Type 0
 BeginsInput room reader None still_left = Unit {0}
 BeginsInput room reader (Some bytes) None = ⊥

@@ -1,4 +1,5 @@
--- The classic format of a capture file (draft-ietf-opsawg-pcap, sections 4 and 5): its header, its records, and its division into records.
+-- The classic format of a capture file (draft-ietf-opsawg-pcap, sections 4 and 5): the header, the records, and the division of a file into
+-- records.
 use Rattle.std.specs.Prelude.{◌≡◌, ℕ, ◌+◌, ◌%◌, ◌<◌, ◌≤◌, ◌==◌, ◌||◌, ◌&&◌, ◌⊎◌, not, nat_le, nat_lt, ok_or, Bool, if◌then◌else◌, Result, List, [], ◌∷◌, ◌++◌, length, take, Option, Some, None, is_none}
 use Rattle.std.specs.List.{AllByRecursion, concat}
 use Rattle.std.specs.Option.{option_map, option_or}
@@ -32,7 +33,7 @@ magic_numbers = (0xA1B2C3D4, Microseconds) ∷ (0xA1B23C4D, Nanoseconds) ∷ []
 abbrev pub resolution_with : ℕ → Option Resolution
 resolution_with magic = lookup (λ number. magic == number) magic_numbers
 
--- the link type with this number, or the number itself if its link type is not read
+-- the link type with this number, or the number itself if the link type is unknown
 abbrev pub link_type_or_number : ℕ → Result LinkType ℕ
 link_type_or_number number = ok_or (link_type_with number) number
 
@@ -42,13 +43,13 @@ link_number order bytes = number_at order bytes 20 % 65536
 
 -- The header of the capture that begins with these bytes. In the byte order of the header, bytes 0 to 3 are the magic number of its
 -- resolution. Bytes 16 to 19 are the snap length, and the low 16 bits of bytes 20 to 23 are the number of the link type. If this link type
--- is not read, the header contains the number.
+-- is unknown, the header contains the number.
 pub record IsHeaderOf (bytes : List ℕ) (header : CaptureHeader) : Type 0 where
   pub resolution : resolution_with (number_at header.byte_order bytes 0) ≡ Some header.resolution
   pub snap_len : header.snap_len ≡ number_at header.byte_order bytes 16
   pub link_type : header.link_type ≡ link_type_or_number (link_number header.byte_order bytes)
 
--- this byte order and the resolution, if the first four bytes are a magic number in this byte order
+-- this byte order, and the resolution that the first four bytes state in it; `None` if they are not a magic number in this byte order
 abbrev pub form_in : ByteOrder → List ℕ → Option (ByteOrder × Resolution)
 form_in order bytes = option_map (λ resolution. (order, resolution)) (resolution_with (number_at order bytes 0))
 
@@ -61,17 +62,17 @@ form_of bytes = option_or (form_in BigEndian bytes) (form_in LittleEndian bytes)
 abbrev pub modified_magic : ℕ
 modified_magic = 0xA1B2CD34
 
--- the error for a file whose first four bytes are not a magic number that is read
+-- the error for a file whose first four bytes are none of the magic numbers in `magic_numbers`
 abbrev pub magic_error : List ℕ → CaptureHeaderError
 magic_error bytes =
     if number_at BigEndian bytes 0 == modified_magic || number_at LittleEndian bytes 0 == modified_magic then Modified
     else Magic (be_number bytes 0 4)
 
--- the version is read: the major version is 2, and the minor version is at least 4
+-- a file of this version can be read: the major version is 2, and the minor version is at least 4
 abbrev pub is_version_read : ℕ → ℕ → Bool
 is_version_read major minor = major == 2 && nat_le 4 minor
 
--- The error for a version that is not read. If there is no magic number, this is `None`, and `magic_error` refuses the bytes.
+-- The error for a version that can't be read. Without a magic number the result is `None`, since `magic_error` refuses the bytes.
 abbrev pub version_refusal : Option (ByteOrder × Resolution) → List ℕ → Option CaptureHeaderError
 version_refusal None bytes = None
 version_refusal (Some form) bytes =
@@ -90,11 +91,11 @@ header_refusal bytes = first_of (
 
 -- ---- the records (section 5)
 
--- the length of the header of a record
+-- the length of the record header at the front of these bytes
 abbrev pub record_header_len : ℕ
 record_header_len = 16
 
--- the header of a record
+-- the record header at the front of these bytes
 abbrev pub record_header : ByteOrder → List ℕ → RecordHeader
 record_header order bytes = record {
   time = record { seconds = number_at order bytes 0; fraction = number_at order bytes 4 };
@@ -110,7 +111,7 @@ record_len order bytes = record_header_len + number_at order bytes 8
 abbrev pub IsRecord : ByteOrder → List ℕ → Type 0
 IsRecord order bytes = length bytes ≡ record_len order bytes
 
--- the bytes do not begin with a whole record: they end within the header of a record, or within its captured bytes
+-- the bytes do not begin with a whole record: they end within the record header at the front of these bytes, or within its captured bytes
 abbrev pub IsPartial : ByteOrder → List ℕ → Type 0
 IsPartial order bytes = (length bytes < record_header_len) ⊎ (length bytes < record_len order bytes)
 

@@ -1,4 +1,4 @@
--- Laws on bytes that are divided into parts and an end. The parts are, for example, the records of a capture.
+-- Laws about the division of bytes into parts and an end. For example, the parts are the records of a capture.
 use Rattle.std.specs.Prelude.{◌≡◌, ℕ, List, take}
 
 -- the relation holds for at least one list of parts and one end
@@ -11,7 +11,7 @@ AreUnique {Parts} {End} Are =
     (parts other_parts : Parts) (end other_end : End) → Are parts end → Are other_parts other_end
     → (parts ≡ other_parts) × (end ≡ other_end)
 
--- if bytes are cut at any place, the parts of the first bytes are the parts that end at or before the cut
+-- if only the first bytes are left after a cut, they contain exactly the parts that end at or before the cut
 abbrev pub RemainAtCut : {Part End : Type 0} → (List ℕ → List Part → End → Type 0) → (List ℕ → ℕ → List Part → List Part → Type 0) → Type 0
 RemainAtCut {Part} {End} Are AreBefore =
     (bytes : List ℕ) (parts : List Part) (end : End) (cut : ℕ) (cut_parts : List Part) (cut_end : End)

@@ -12,7 +12,7 @@ nanoseconds_per_second = 1000000000
 abbrev pub nanoseconds_in : TimeResolution → ℕ → ℕ
 nanoseconds_in resolution fraction = fraction * nanoseconds_per_second / units_per_second resolution
 
--- the sum of the seconds, the offset and 2^63; the offset is at least -2^63, so that the sum is never negative
+-- the sum of the seconds, the offset and 2^63; the offset is at least -2^63, so the sum is never negative
 abbrev pub shifted_seconds : ℕ → ℤ → ℕ
 shifted_seconds seconds (pos more) = seconds + 2 ^ 63 + more
 shifted_seconds seconds (negsuc less) = seconds + 2 ^ 63 - suc less

@@ -36,7 +36,7 @@ abbrev pub classic_time : Resolution → Time → PacketTime
 classic_time resolution time =
     record { seconds = time.seconds; fraction = time.fraction; resolution = power_of_ten resolution; offset = pos 0 }
 
--- the time of a packet of this interface; its timestamp is in units of the interface's resolution
+-- the time of a packet with this timestamp; the resolution and the time offset of its interface determine the time
 abbrev pub timestamp_time : InterfaceDescription → ℕ → PacketTime
 timestamp_time interface timestamp = record {
   seconds = timestamp / units_per_second interface.time_resolution;
@@ -47,7 +47,7 @@ timestamp_time interface timestamp = record {
 
 -- ---- a classic capture
 
--- the reader after the header of a capture; the records begin after 24 bytes
+-- the reader after the header of a capture; the first record begins after 24 bytes
 abbrev pub begins_records : CaptureHeader → ClassicReader
 begins_records capture = record { header = capture; offset = capture_header_len }
 
@@ -71,7 +71,7 @@ long_record capture header = record {
   original_len = Some header.original_len;
 }
 
--- the next item of a capture, for this result of reading the next record
+-- the next item of a capture, given the result of reading the next record
 abbrev pub next_by_record : CaptureHeader → NextRecord → NextPacket
 next_by_record capture (records.Whole header) = packets.Whole (packet_of_record capture header)
 next_by_record capture (records.TooLong header) = packets.TooLong (long_record capture header)
@@ -120,7 +120,7 @@ abbrev pub packet_of_block : BlockHeader → InterfaceDescription → PacketBloc
 packet_of_block header interface packet =
     interface_packet header interface packet.timestamp (length packet.captured.now) packet.original_len
 
--- the packet of a block that is longer than the buffer
+-- the packet in a block that is longer than the buffer; only the length of the block is known
 abbrev pub long_block : BlockHeader → TooLongPacket
 long_block header = record { link_type = None; time = None; required_len = header.total_len; original_len = None }
 

@@ -78,7 +78,7 @@ block_error header interfaces body = first_of (
     (errors.Interfaces max_interfaces)
     ∷ [])
 
--- the result of a block: this error if there is one, otherwise this packet or no packet
+-- the result of a block: this error if there is an error, otherwise this packet or no packet
 abbrev pub result_by : Option PacketError → Option FilePacket → Result (Option FilePacket) PacketError
 result_by (Some error) packet = Err error
 result_by None packet = Ok packet
@@ -88,7 +88,7 @@ abbrev pub whole_result : BlockHeader → List InterfaceDescription → List ℕ
 whole_result header interfaces body = result_by (block_error header interfaces body) (packet_in_body header interfaces body)
 
 -- The result of a block that is longer than the buffer. A section header or an interface description is refused, since later packets can't
--- be read without it. A packet block is a packet that is too long. Any other block is skipped.
+-- be read without it. A packet block gives a packet that is too long. Any other block is skipped.
 abbrev pub long_result : BlockHeader → Result (Option FilePacket) PacketError
 long_result header =
     result_by (refused_if (is_description header.block_type) (errors.TooLong header.block_type header.total_len))
@@ -105,21 +105,21 @@ block_result room header interfaces body =
 abbrev pub Contents : Type 0
 Contents = List FilePacket × NextPacket
 
--- The contents of a file whose first block has this result, and whose other blocks have the contents `others`. The block begins at the
--- place `offset`. After an error no packet follows.
+-- The contents of a file whose first block has this result, and whose other blocks have the contents `others`. The first block begins at
+-- the place `offset`. After an error no packet follows.
 abbrev pub before_others : ℕ → Result (Option FilePacket) PacketError → Contents → Contents
 before_others offset (Err error) others = ([], refused_at offset error)
 before_others offset (Ok None) others = others
 before_others offset (Ok (Some packet)) others = (packet ∷ others.0, others.1)
 
--- The item after the last block, which `bytes` follow at the place `offset`. If `bytes` is empty, the item is the end of the file.
--- Otherwise it is the error that refuses `bytes` as a block.
+-- The item after the last block. The bytes after this block are `bytes`, and begin at the place `offset`. If `bytes` is empty, the item is
+-- the end of the file. Otherwise it is the error that refuses `bytes` as a block.
 abbrev pub item_after : ℕ → List ℕ → Option BlockError → NextPacket
 item_after offset (byte ∷ bytes) (Some error) = next_by_refusal offset error
 item_after offset bytes refusal = packets.End
 
 -- The packets of these blocks, and the item after them. The first block begins at the place `offset`, in a section with this byte order and
--- these interfaces. `rest` are the bytes after the last block.
+-- these interfaces. The bytes after the last block are `rest`.
 abbrev pub packets_of_blocks : ℕ → ByteOrder → List InterfaceDescription → ℕ → List (List ℕ) → List ℕ → Contents
 packets_of_blocks room section interfaces offset [] rest = ([], item_after offset rest (block_refusal section rest))
 packets_of_blocks room section interfaces offset (block ∷ blocks) rest =

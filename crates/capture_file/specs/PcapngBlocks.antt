@@ -15,8 +15,8 @@ pub record UnreadFile : Type 0 where
 abbrev pub BlockItem : Type 0
 BlockItem = Result Block PlacedBlockError
 
--- One call of `next` changed the state of reading from `before` to `after`, and returned this item. The place of an error is the start of
--- the bytes that were left before the call.
+-- A call of `next` changed the partly read file from `before` to `after`, and returned this item. The place of an error is the start of the
+-- bytes that were left before the call.
 abbrev pub GivesBlock : UnreadFile → Option BlockItem → UnreadFile → Type 0
 GivesBlock before None after = (before.rest ≡ []) × (after ≡ before)
 GivesBlock before (Some (Ok block)) after =

@@ -19,15 +19,15 @@ below required_len body = refused_if (nat_lt (length body) required_len) (CutOff
 
 -- ---- a section header block (section 4.1)
 
--- the section header in a body: its versions
+-- the section header in a body: the major and the minor version of the format
 abbrev pub section_header : ByteOrder → List ℕ → SectionHeader
 section_header order body = record { major_version = short_at order body 4; minor_version = short_at order body 6 }
 
--- the major version that is read
+-- the only major version that can be read
 abbrev pub read_major_version : ℕ
 read_major_version = 1
 
--- the error that refuses the body, if there is one: it is too short, or its major version is not read
+-- the error that refuses the body, if there is one: the body is too short, or its major version can't be read
 abbrev pub section_header_refusal : ByteOrder → List ℕ → Option BodyError
 section_header_refusal order body = first_of (
     below section_header_len body
@@ -53,12 +53,12 @@ abbrev pub units_per_second : TimeResolution → ℕ
 units_per_second (PowerOfTen exponent) = 10 ^ exponent
 units_per_second (PowerOfTwo exponent) = 2 ^ exponent
 
--- the resolution that the one byte in the value of the option `if_tsresol` states, or microseconds without the option
+-- the resolution that the option `if_tsresol` states in its one byte, or microseconds if the option is missing
 abbrev pub resolution_by : Option (List ℕ) → TimeResolution
 resolution_by None = PowerOfTen 6
 resolution_by (Some value) = time_resolution (slice_index value 0)
 
--- the seconds to add to each timestamp: the signed number of eight bytes in the option `if_tsoffset`, or 0 without the option
+-- the seconds to add to each timestamp: the signed number of eight bytes in the option `if_tsoffset`, or 0 if the option is missing
 abbrev pub offset_by : ByteOrder → Option (List ℕ) → ℤ
 offset_by order None = pos 0
 offset_by order (Some value) = cast_signed w64 (long_at order value 0)

@@ -1,4 +1,4 @@
--- The body of a block of a pcapng file, by the type of the block (draft-ietf-opsawg-pcapng, section 4 and appendix A).
+-- The body of a block of a pcapng file. The type of the block determines its content (draft-ietf-opsawg-pcapng, section 4 and appendix A).
 use Rattle.std.specs.Prelude.{◌≡◌, ◌≢◌, ◌⊎◌, ℕ, ◌==◌, if◌then◌else◌, List, length, Option, None}
 use Rattle.capture_texts.specs.Blocks.{enhanced_packet_type, interface_description_type, obsolete_packet_type, section_header_type, simple_packet_type}
 use Rattle.capture_texts.specs.Numbers.{number_at, short_at}
@@ -10,7 +10,8 @@ use Rattle.capture_file.specs.declared.pcapng.block.BlockHeader.{BlockHeader}
 use Rattle.capture_file.specs.declared.pcapng.errors.BodyError.{BodyError}
 use Rattle.capture_file.specs.declared.pcapng.interface_description.InterfaceDescription.{InterfaceDescription}
 
--- the error that refuses a body, by the type of its block; the body of a block of another type is not checked
+-- The error that refuses a body, if there is one. The type of the block determines the check. The body of a block of any other type is not
+-- checked.
 abbrev pub body_refusal : BlockHeader → List InterfaceDescription → List ℕ → Option BodyError
 body_refusal header interfaces body =
     let order = header.byte_order in
@@ -22,7 +23,7 @@ body_refusal header interfaces body =
     else if type == simple_packet_type then simple_refusal order interfaces body
     else None
 
--- the content of a body, by the type of its block
+-- the content of a body, which the type of its block determines
 abbrev pub IsBody : BlockHeader → List InterfaceDescription → List ℕ → BlockBody → Type 0
 IsBody header interfaces body (bodies.SectionHeader said) =
     (header.block_type ≡ section_header_type) × (said ≡ section_header header.byte_order body)

@@ -30,7 +30,7 @@ captured_refusal order interface count body = first_of (
     ∷ below (timed_captured_at + number_at order body timed_captured_len_at) body
     ∷ [])
 
--- the error for a body that is too short for its fields, and then the errors of `captured_refusal`
+-- the first error that applies: the error for a body that is too short for its fields, or the error of `captured_refusal`
 abbrev pub timed_refusal : ByteOrder → ℕ → ℕ → List ℕ → Option BodyError
 timed_refusal order interface count body = first_of (below timed_captured_at body ∷ captured_refusal order interface count body ∷ [])
 
@@ -45,7 +45,7 @@ first_snap_len interfaces = option_map (λ interface. interface.snap_len) (slice
 abbrev pub captured_len : ℕ → ℕ → ℕ
 captured_len original_len snap_len = if snap_len == 0 then original_len else min original_len snap_len
 
--- the end of the captured bytes in the body
+-- the place in the body at which the captured bytes end
 abbrev pub simple_end : ByteOrder → ℕ → List ℕ → ℕ
 simple_end order snap_len body = simple_captured_at + captured_len (number_at order body 0) snap_len
 
@@ -66,7 +66,7 @@ abbrev pub simple_captured_refusal : ByteOrder → Option ℕ → List ℕ → O
 simple_captured_refusal order None body = Some (Interface 0 0)
 simple_captured_refusal order (Some snap_len) body = below (simple_end order snap_len body) body
 
--- the error for a body that is too short for the original length, and then the errors of `simple_captured_refusal`
+-- the first error that applies: the error for a body that is too short for the original length, or the error of `simple_captured_refusal`
 abbrev pub simple_refusal : ByteOrder → List InterfaceDescription → List ℕ → Option BodyError
 simple_refusal order interfaces body =
     first_of (below simple_captured_at body ∷ simple_captured_refusal order (first_snap_len interfaces) body ∷ [])

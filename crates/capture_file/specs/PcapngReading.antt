@@ -9,8 +9,8 @@ use Rattle.capture_file.specs.declared.pcapng.errors.BlockError.TheVariants.{Cut
 use Rattle.capture_file.specs.declared.pcapng.read.NextBlock.{NextBlock}
 use Rattle.capture_file.specs.declared.pcapng.read.NextBlock.TheVariants.{End, Refused, TooLong, Whole}
 
--- The bytes that were read determine the next item. It is a block at the front of the buffer, a block that is longer than the buffer, the
--- end of the input, or bytes that are refused as a block.
+-- The bytes that were read determine the next item. The item is a block at the front of the buffer, or a block that is longer than the
+-- buffer. If no bytes were read, the item is the end of the input. If the bytes are refused as a block, the item is the error.
 abbrev pub IsNextBlock : ByteOrder → List ℕ → List ℕ → NextBlock → Type 0
 IsNextBlock section bytes buffer (Whole header) =
     IsBlock section bytes × (header ≡ block_header section bytes) × (header.total_len ≤ length buffer)
@@ -38,8 +38,8 @@ pub record ReadsAfter (section : ByteOrder) (first : List ℕ) (left still_left 
 abbrev pub ReadsNextBlock : ByteOrder → Option (List ℕ) → Option (List ℕ) → List ℕ → NextBlock → Type 0
 ReadsNextBlock section left still_left buffer next = ReadsAfter section [] left still_left buffer next
 
--- Reading failed within a block. The first bytes of the block, `first`, were read before. Together with the bytes that were read now, they
--- are only a part of the block.
+-- Reading failed within a block. The first bytes of the block, `first`, were read before. `first` and the bytes that were read now are only
+-- a part of the block.
 pub record FailsAfter (section : ByteOrder) (first : List ℕ) (left still_left : Option (List ℕ)) : Type 0 where
   pub bytes : List ℕ
   pub consumed : Consumes left still_left bytes

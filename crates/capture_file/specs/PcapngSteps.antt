@@ -24,13 +24,13 @@ use Rattle.capture_file.specs.declared.reader.pcapng_reader.PcapngReader.{Pcapng
 abbrev pub refused_at : ℕ → PacketError → NextPacket
 refused_at offset error = packets.Refused (record { offset = offset; error = error })
 
--- The item after a block was read: the packet of the block, or an error. `None` if the block contains no packet.
+-- The item after a block was read: the packet of the block, or an error. The item is `None` if the block contains no packet.
 abbrev pub next_by_taken : ℕ → Result (Option CapturedPacket) PacketError → Option NextPacket
 next_by_taken offset (Ok None) = None
 next_by_taken offset (Ok (Some packet)) = Some (packets.Whole packet)
 next_by_taken offset (Err error) = Some (refused_at offset error)
 
--- the item if this error refuses the next bytes as a block
+-- the item if this error refuses the next bytes as a block; if the block is incomplete, the item is `CutOff`
 abbrev pub next_by_refusal : ℕ → BlockError → NextPacket
 next_by_refusal offset (CutOff required_len len) = packets.CutOff required_len len
 next_by_refusal offset error = refused_at offset (errors.Block error)
@@ -43,8 +43,8 @@ is_description type = type == section_header_type || type == interface_descripti
 abbrev pub is_packet : ℕ → Bool
 is_packet type = type == enhanced_packet_type || (type == obsolete_packet_type || type == simple_packet_type)
 
--- The item after a block that is longer than the buffer. `None` if the block is skipped, since it neither contains a packet nor is needed
--- for later packets.
+-- The item after a block that is longer than the buffer. The item is `None` if the block is skipped. Such a block contains no packet, and
+-- later packets can be read without it.
 abbrev pub next_by_too_long : ℕ → BlockHeader → Option NextPacket
 next_by_too_long offset header =
     if is_description header.block_type then Some (refused_at offset (errors.TooLong header.block_type header.total_len))
@@ -55,7 +55,7 @@ next_by_too_long offset header =
 abbrev pub offset_after : ℕ → BlockHeader → ℕ
 offset_after offset header = min (offset + header.total_len) (2 ^ 64 - 1)
 
--- The reader after this block, and the item. The item is `None` if the block contains no packet and is not refused.
+-- The reader and the item after this block was read. The item is `None` if the block contains no packet and is not refused.
 abbrev pub IsStep : PcapngReader → List ℕ → NextBlock → PcapngReader → Option NextPacket → Type 0
 IsStep before buffer (blocks.Whole header) after next =
     (after.offset ≡ offset_after before.offset header)
@@ -89,7 +89,7 @@ pub record FailsToPass (room : ℕ) (before : PcapngReader) (left still_left : O
   pub passed : PassesBlocks room count before left middle after
   pub fails : FailsInBlock after.section.byte_order middle still_left
 
--- any number of blocks was skipped
+-- any number of blocks were skipped, possibly none
 abbrev pub HasPassed : ℕ → PcapngReader → Option (List ℕ) → PcapngReader → Type 0
 HasPassed room before left after = (count : ℕ) × (middle : Option (List ℕ)) × PassesBlocks room count before left middle after
 

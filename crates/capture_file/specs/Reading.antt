@@ -40,8 +40,9 @@ ReadsHeader left still_left (Err error) = RefusesHeader left still_left error
 abbrev pub required_len : ByteOrder → List ℕ → ℕ
 required_len order bytes = if nat_lt (length bytes) record_header_len then record_header_len else record_len order bytes
 
--- The bytes that were read determine the next item. It is a record whose captured bytes are at the front of the buffer, a record that is
--- longer than the buffer, the end of the input, or a record that is cut off.
+-- The bytes that were read determine the next item. The item is a record with its captured bytes at the front of the buffer, or a record
+-- that is longer than the buffer. If no bytes were read, the item is the end of the input. If the record is incomplete, the item is
+-- `CutOff`.
 abbrev pub IsNext : ByteOrder → List ℕ → List ℕ → NextRecord → Type 0
 IsNext order bytes buffer (Whole header) =
     IsRecord order bytes × (header ≡ record_header order bytes) × (header.captured_len ≤ length buffer)
@@ -65,7 +66,7 @@ pub record ReadsNext (order : ByteOrder) (left still_left : Option (List ℕ)) (
   pub is_next : IsNext order bytes buffer next
   pub is_last : IsLast next still_left
 
--- The captured bytes of a record were read, after its header. If fewer bytes were left, all of them were read.
+-- The captured bytes of a record were read, after its header. If the input has fewer bytes than that, all its bytes were read.
 abbrev pub IsCaptured : RecordHeader → List ℕ → List ℕ → NextRecord → Type 0
 IsCaptured header bytes buffer (Whole same) =
     (same ≡ header) × (length bytes ≡ header.captured_len) × (header.captured_len ≤ length buffer)

@@ -17,8 +17,8 @@ use Rattle.capture_file.specs.declared.reader.pcapng_reader.Section.{Section}
 abbrev pub max_interfaces : ℕ
 max_interfaces = 1024
 
--- The section and the result after an interface description. The interface is added to the section. It is refused if the section already
--- has the maximum number of interfaces.
+-- The section and the result after an interface description. The interface is added to the section, unless the section already has the
+-- maximum number of interfaces. In that case the interface is refused.
 abbrev pub Describes : Section → InterfaceDescription → Section → Result (Option CapturedPacket) PacketError → Type 0
 Describes before interface after (Ok found) =
     (found ≡ None) × (length before.interfaces.items < max_interfaces) × (after.byte_order ≡ before.byte_order)
@@ -43,7 +43,7 @@ TakesUnless (Some error) before header body after result = (result ≡ Err (erro
 TakesUnless None before header body after result =
     (said : BlockBody) × IsBody header before.interfaces.items body said × TakesBody before header said after result
 
--- the section after a block with this header and body, and the result: the packet in the block, if there is one, or an error
+-- the section after a block with this header and body, and the result: the packet in the block, no packet, or an error
 abbrev pub TakesBlock : Section → BlockHeader → List ℕ → Section → Result (Option CapturedPacket) PacketError → Type 0
 TakesBlock before header body after result =
     TakesUnless (body_refusal header before.interfaces.items body) before header body after result

@@ -22,8 +22,8 @@ pub enum CaptureReader {
 }
 
 impl CaptureReader {
-    /// Reads the header of a classic capture, or the first block of a pcapng file into the buffer. If the beginning of the input is
-    /// refused, the inner result is the reason.
+    /// Reads the beginning of a capture: the header of a classic capture, or the first block of a pcapng file. The block is read into the
+    /// buffer. If the beginning is refused, the inner result is the reason.
     ///
     /// # Errors
     ///
@@ -48,11 +48,11 @@ impl CaptureReader {
         }
     }
 
-    /// Reads the next item of the capture. After that, the buffer contains the captured bytes of a whole packet.
+    /// Reads the next item of the capture. If the item is a whole packet, the buffer contains its captured bytes after the call.
     ///
     /// # Errors
     ///
-    /// The error of the first read that fails, and the errors of `PcapngReader::next_packet`.
+    /// The error of the first read that fails. For a pcapng file it can also be `FileTooLarge`, as `PcapngReader::next_packet` describes.
     pub fn next_packet<R: Read>(
         &mut self,
         input: &mut R,
@@ -91,7 +91,7 @@ pub struct ClassicReader {
 }
 
 impl ClassicReader {
-    /// Returns the reader of a capture after its header.
+    /// Returns a reader at the first record of a capture, directly after this header.
     pub fn new(header: CaptureHeader) -> ClassicReader
         ensures { result ≡ begins_records header }
     {
@@ -99,7 +99,7 @@ impl ClassicReader {
         ClassicReader { header, offset }
     }
 
-    /// Reads the next item of the capture. After that, the captured bytes of a whole packet are at the front of the buffer.
+    /// Reads the next item of the capture. If the item is a whole packet, its captured bytes are at the front of the buffer after the call.
     ///
     /// # Errors
     ///

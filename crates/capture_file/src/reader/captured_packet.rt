@@ -15,9 +15,9 @@ const TIMED_START: usize = BODY_AT + TIMED_CAPTURED_AT;
 /// What a capture states about a packet. The struct is the same for both file formats.
 #[derive(Clone, Copy, Debug, PartialEq, Eq)]
 pub struct CapturedPacket {
-    /// The link type of the packet, or the number of a link type that is not read.
+    /// The link type of the packet, or its number if the link type is unknown.
     pub link_type: Result<LinkType, u16>,
-    /// The byte order of a classic capture, or of the packet's section in a pcapng file.
+    /// The byte order of the numbers in a classic capture, or in the packet's section of a pcapng file.
     pub byte_order: ByteOrder,
     /// The capture time. `None` for a simple packet block, which has no time.
     pub time: Option<PacketTime>,
@@ -25,7 +25,7 @@ pub struct CapturedPacket {
     pub start: usize,
     /// The number of captured bytes.
     pub captured_len: usize,
-    /// The length of the packet on its link, in bytes.
+    /// The original length: the length of the packet on its link, in bytes.
     pub original_len: u32,
 }
 
@@ -44,7 +44,7 @@ impl CapturedPacket {
         }
     }
 
-    /// Returns the packet in a block of a pcapng file. The packet was captured on this interface. The whole block is at the front of the
+    /// Returns the packet in a block of a pcapng file. The packet was captured on `interface`. The whole block is at the front of the
     /// buffer.
     pub fn from_block(
         header: BlockHeader,
@@ -68,7 +68,7 @@ impl CapturedPacket {
         }
     }
 
-    /// Whether the packet was longer than its captured bytes.
+    /// Returns whether the packet is truncated: its original length is above its captured length.
     pub fn is_cut(&self) -> bool
         ensures { result ≡ nat_lt self.now.captured_len self.now.original_len }
     {

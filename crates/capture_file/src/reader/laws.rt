@@ -1,5 +1,5 @@
-//! Laws of the packets of a capture. Each law is the contract of a function that does nothing, so that the law is checked together with the
-//! calls.
+//! Laws of the packets of a capture. Each law is the contract of a function that does nothing. So the prover checks the law together with
+//! the calls.
 ghost use Rattle.std.specs.Prelude.{◌<◌, ◌^◌, ℕ, List, length};
 ghost use Rattle.capture_file.specs.CapturePackets.{AreFirstPackets, ArePacketsBeforeCut, HasPackets};
 ghost use Rattle.capture_file.specs.Laws.{AreUnique, Exist, RemainAtCut};
@@ -8,8 +8,8 @@ ghost use Rattle.capture_file.specs.Places.{OffsetsArePlaces};
 ghost use Rattle.capture_file.specs.Readers.{LeavesOneReader};
 ghost use Rattle.capture_file.specs.declared.reader.capture_reader.CaptureReader.{CaptureReader};
 
-/// The bytes after the beginning of a capture contain exactly one list of packets, and one item that ends the list. The packets that a
-/// reader returns are the first packets of this list.
+/// A capture consists of its beginning, exactly one list of packets, and exactly one item that ends the list. The packets that a reader
+/// returns are the first packets of this list.
 pub fn one_list()
     ensures exists { (room : ℕ) (reader : CaptureReader) (bytes : List ℕ) → Exist (HasPackets room reader bytes) }
     ensures unique { (room : ℕ) (reader : CaptureReader) (bytes : List ℕ) → AreUnique (HasPackets room reader bytes) }

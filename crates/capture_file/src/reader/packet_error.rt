@@ -10,7 +10,7 @@ pub enum PacketError {
     /// The body of the block is refused.
     #[error(transparent)]
     Body(BodyError),
-    /// The block is longer than the buffer, and later packets depend on it.
+    /// The block is longer than the buffer, and later packets can't be read without it.
     #[error("The block has type {block_type:#x} and {total_len} bytes, for which the buffer has no room.")]
     TooLong {
         /// The type of the block: a section header or an interface description.

@@ -31,7 +31,8 @@ pub struct PcapngReader {
 }
 
 impl PcapngReader {
-    /// Reads the section header block at the start of a pcapng file. `first` contains its first bytes, which were already read.
+    /// Reads the section header block at the start of a pcapng file. `first` contains the first bytes of this block, which were already
+    /// read.
     pub(crate) fn open<R: Read>(
         input: &mut R,
         first: &[u8],
@@ -70,8 +71,8 @@ impl PcapngReader {
         )
     }
 
-    /// Reads blocks up to the next block that contains a packet or is refused, or up to the end of the file. After that, the buffer
-    /// contains the captured bytes of a whole packet.
+    /// Reads blocks until a block contains a packet or is refused, or until the file ends. If the item is a whole packet, the buffer
+    /// contains its captured bytes after the call.
     ///
     /// # Errors
     ///
@@ -134,8 +135,8 @@ impl PcapngReader {
     }
 }
 
-/// Returns the next item after a block that is longer than the buffer. `None` if the block is skipped: it contains no packet, and no later
-/// packet depends on it.
+/// Returns the next item after a block that is longer than the buffer. The result is `None` if the block is skipped, since it contains no
+/// packet, and later packets can be read without it.
 fn next_by_too_long(offset: u64, header: BlockHeader) -> Option<NextPacket>
     ensures next { result ≡ next_by_too_long offset header }
     ensures within { (len : ℕ) → IfSome result (IsNextWithin len) }
@@ -163,12 +164,13 @@ fn next_by_too_long(offset: u64, header: BlockHeader) -> Option<NextPacket>
 /// The greatest number of interfaces of a section. A further interface description is refused.
 pub const MAX_INTERFACES: usize = 1024;
 
-/// What the blocks that were read so far state about the current section of a pcapng file. The later packets of the section depend on it.
+/// The current section of a pcapng file, as the blocks read so far describe it. Reading the later packets of the section depends on this
+/// state.
 #[derive(Clone, Debug, Drop)]
 pub struct Section {
     /// The byte order of the numbers in the section.
     pub byte_order: ByteOrder,
-    /// The interfaces of the section, in their order.
+    /// The interfaces of the section, in the order in which the file describes them.
     pub interfaces: ArrayVec<InterfaceDescription, MAX_INTERFACES>,
 }
 
@@ -184,13 +186,13 @@ impl Section {
         }
     }
 
-    /// Updates the section with the next block of the file. Returns the packet of the block if it is a packet block. A section header block
-    /// begins a new section.
+    /// Updates the section with the next block of the file. A section header block begins a new section. An interface description adds an
+    /// interface. If the block is a packet block, the call returns its packet.
     ///
     /// # Errors
     ///
-    /// `Body` if the body of the block is refused, and `Interfaces` if the section already has `MAX_INTERFACES` interfaces and the block
-    /// describes another one.
+    /// - `Body` if the body of the block is refused.
+    /// - `Interfaces` if the block describes an interface, and the section already has `MAX_INTERFACES` interfaces.
     pub fn take(&mut self, block: &Block<'_>) -> Result<Option<CapturedPacket>, PacketError>
         ensures takes { TakesBlock self.old block.now.header block.now.body.now self.new result }
         ensures within { IfOk result (λ given. IfSome given (IsWithin (8 + length block.now.body.now))) }
