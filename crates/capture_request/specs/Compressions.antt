@@ -33,7 +33,7 @@ compression_name Xz = codes "xz"
 compression_name Bzip2 = codes "bzip2"
 compression_name Lz4 = codes "lz4"
 
--- the compression of the input, if its first bytes are those of a compressed file
+-- the compression of the input, if the error contains the first bytes of a compressed file
 abbrev pub compression_of : CaptureError → Option Compression
 compression_of (Header (refusals.Classic (Magic magic))) = compression_with magic
 compression_of other = None

@@ -14,7 +14,7 @@ abbrev pub compressed_text : Compression → List ℕ
 compressed_text compression =
     codes "The capture is compressed, and is read by " ++ (compression_name compression ++ codes " -dc FILE | capture_report.")
 
--- This is the text of an error. For a compressed capture it is `compressed_text`. For any other error nothing is stated about the text.
+-- `text` is the text of this error. For a compressed capture it is `compressed_text`. For any other error nothing is stated about the text.
 abbrev pub IsErrorText : CaptureError → List ℕ → Type 0
 IsErrorText error text = MatchOption (compression_of error) (Unit {0}) (λ compression. text ≡ compressed_text compression)
 
@@ -27,7 +27,7 @@ line_start (Some name) = codes "capture_report: " ++ (name ++ codes ": ")
 abbrev pub IsLineOf : Option (List ℕ) → (List ℕ → Type 0) → List ℕ → Type 0
 IsLineOf name IsText line = (text : List ℕ) × IsText text × (line ≡ line_start name ++ (text ++ codes "\n"))
 
--- the words with which a filter of tcpdump begins (pcap-filter(7))
+-- the words with which a filter of tcpdump can begin (pcap-filter(7))
 abbrev pub filter_words : List (List ℕ)
 filter_words =
     codes "tcp" ∷ codes "udp" ∷ codes "icmp" ∷ codes "icmp6" ∷ codes "ip" ∷ codes "ip6" ∷ codes "arp" ∷ codes "ether" ∷ codes "host" ∷ codes "net"
@@ -47,7 +47,7 @@ abbrev pub hint_of : List ℕ → List ℕ
 hint_of name =
     if list_any (λ word. bytes_eq word (first_word name)) filter_words then codes "; filters are --host, --port and --protocol" else []
 
--- this is the text for a capture that can't be opened: the text of an error, and then the hint for this name
+-- `text` is the text for a capture that can't be opened: the text of an error, and then the hint for this name
 abbrev pub EndsInHint : List ℕ → List ℕ → Type 0
 EndsInHint name text = (cause : List ℕ) × (text ≡ cause ++ hint_of name)
 
@@ -72,7 +72,7 @@ AreEndLines name (Err error) lines = IsOneLine (IsLineOf name (IsErrorText error
 abbrev pub line_name : ℕ → List ℕ → Option (List ℕ)
 line_name count name = if count == 0 then None else Some (shown_name name)
 
--- ---- what is written of the lines
+-- ---- lines that are written completely or in part
 
 -- The beginning of each line was written, in the order of the lines. A beginning may be empty, or the whole line.
 abbrev pub AreBegun : List (List ℕ) → List ℕ → Type 0

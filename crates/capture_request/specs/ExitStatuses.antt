@@ -16,7 +16,7 @@ exit_number Fault = 4
 abbrev pub greater : ExitStatus → ExitStatus → ExitStatus
 greater status other = if nat_lt (exit_number status) (exit_number other) then other else status
 
--- The exit status of a run. It is `Fault` if a check is requested and a packet has a fault. Otherwise it is `greatest`, the greatest status
--- of the reports.
+-- The exit status of a run. It is `Fault` if a check is requested, and a packet has a wrong checksum or was refused. Otherwise it is
+-- `greatest`, the greatest status of the reports.
 abbrev pub final_status : Bool → ExitStatus → SummaryTables → ExitStatus
 final_status check greatest tables = if check && has_fault tables then Fault else greatest

@@ -10,7 +10,7 @@ use Rattle.capture_summary.specs.Kinds.{verdict_kind, verdict_place}
 use Rattle.capture_summary.specs.declared.verdict_kind.VerdictKind.{VerdictKind}
 use Rattle.capture_summary.specs.declared.verdict_kind.VerdictKind.TheVariants.{Refused, Wrong}
 
--- the checksum is wrong, or the packet was refused
+-- a packet with this verdict has a fault: its checksum is wrong, or the packet was refused
 abbrev pub is_fault : VerdictKind → Bool
 is_fault kind = verdict_place kind == verdict_place Wrong || verdict_place kind == verdict_place Refused
 
@@ -30,6 +30,6 @@ pub record IfNoLine (IsPacket : Packet → Type 0) (parts : Parts) (Statement : 
   pub is_packet : IsPacket packet
   pub holds : HasNoLine parts packet → Statement
 
--- which packets have a line, by two options: only the summary, and only packets with a fault
+-- which packets have a line, given two flags: only the summary is requested, and only packets with a fault have a line
 abbrev pub lines_by : Bool → Bool → Lines
 lines_by summary_alone wrong_alone = if summary_alone then lines.None else if wrong_alone then lines.Wrong else lines.All

@@ -1,4 +1,5 @@
--- What a report reads of a capture, and what it counts. Each chosen packet is counted once, in the order of the packets.
+-- The packets that a report reads from a capture, and the packets that it counts. Each chosen packet is counted once, in the order of the
+-- packets.
 use Rattle.std.specs.Prelude.{◌≡◌, ◌≤◌, ◌⊎◌, ℕ, ◌+◌, List, length, [], ◌∷◌, nat_lt, Option, Some, None, IfSome, Result, Ok, Err}
 use Rattle.std.specs.Option.{option_map}
 use Rattle.capture_file.specs.CapturePackets.{BeginsWithPackets, EndsWith, FailsToRead, HasPackets, FilePacket, ReadsOne, ReadsPackets, kept, too_long, offset_of}
@@ -56,14 +57,14 @@ abbrev pub IsTooLong : ℕ → Packet → Type 0
 IsTooLong required_len packet = packet ≡ in_no_tunnel Unread (TooLong required_len)
 
 -- This packet is read from a frame of this link type. The frame is truncated if its captured length is below its original length. If the
--- link type is not read, the frame contains no IP packet.
+-- link type is unknown, the packet is a frame without an IP packet.
 abbrev pub IsReadAs : Result LinkType ℕ → CapturedPacket → List ℕ → Packet → Type 0
 IsReadAs (Ok link_type) captured frame packet =
     IsRead link_type captured.byte_order frame (nat_lt captured.captured_len captured.original_len) packet
 IsReadAs (Err number) captured frame packet =
     packet ≡ in_no_tunnel (NotIp (protocols.LinkType number)) (untested OtherProtocol)
 
--- this is what is read of a packet of a capture; a packet that does not fit in the buffer is not read
+-- the result of reading a packet of a capture; a packet that does not fit in the buffer is not read
 abbrev pub IsPacketOf : FilePacket → Packet → Type 0
 IsPacketOf (kept captured frame) packet = IsReadAs captured.link_type captured frame packet
 IsPacketOf (too_long captured) packet = IsTooLong captured.required_len packet
@@ -127,8 +128,9 @@ IsReadToEnd (Err (RecordCutOff number offset required_len len)) = Unit {0}
 IsReadToEnd (Err (Refused error)) = Unit {0}
 IsReadToEnd other = ⊥
 
--- This is the result for the item after the last packet. The end of the input is no error. If a record or block is cut off, the error
--- contains its two lengths, and `number`, which is the number of the next packet. If a block is refused, the error contains the reason.
+-- The result of a report, given the item after the last packet. The end of the input is not an error. If a record or block is cut off, the
+-- error contains its required and its actual length, and `number`, the number of the next packet. If a block is refused, the error contains
+-- the reason.
 abbrev pub IsAnsweredBy : NextPacket → ℕ → Result Reached CaptureError → Type 0
 IsAnsweredBy next number (Ok End) = next ≡ packets.End
 IsAnsweredBy next number (Err (RecordCutOff its_number offset required len)) = (next ≡ packets.CutOff required len) × (its_number ≡ number)
@@ -140,9 +142,9 @@ abbrev pub ReadsEnd : CaptureReader → Option (List ℕ) → NextPacket → Opt
 ReadsEnd before left next still_left after =
     (ends : EndsWith max_packet_len before left next) × (still_left ≡ ends.still_left) × (after ≡ ends.after)
 
--- No further packet could be read, and `ended` is the result. Either the next item was read and is not a packet, or reading it failed.
--- `number` is the number of the next packet. If a record or block is cut off, or reading it failed, the error contains this number, and the
--- place where the record or block begins. `after` is the reader at the end.
+-- No further packet could be read, and the report ended with this result. Either the next item is not a packet, or reading the next item
+-- failed. `number` is the number of the next packet. If a record or block is cut off, or if reading it failed, the error contains this
+-- number. It also contains the place at which the record or block begins. `after` is the reader at the end.
 abbrev pub EndsAtItem : ℕ → CaptureReader → Option (List ℕ) → Option (List ℕ) → CaptureReader → Result Reached CaptureError → Type 0
 EndsAtItem number before left still_left after (Ok End) = ReadsEnd before left packets.End still_left after
 EndsAtItem number before left still_left after (Err (RecordCutOff its_number offset required len)) =

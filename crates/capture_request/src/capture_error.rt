@@ -27,7 +27,7 @@ pub enum CaptureError {
     /// The input ends within a record, or within a block of a pcapng file.
     #[error("At byte {offset} of the capture, in or before packet {number}: The record or block has at least {required_len} bytes, and {len} are left.")]
     RecordCutOff {
-        /// The number of the packet in the record or block. The first packet of a capture is number 1. If the block contains no packet,
+        /// The number of the packet in the record or block. The first packet of a capture has number 1. If the block contains no packet,
         /// this is the number of the next packet.
         number: u64,
         /// The start of the record or block, in bytes from the start of the capture.
@@ -46,7 +46,7 @@ pub enum CaptureError {
     /// Reading failed within a record, or within a block of a pcapng file.
     #[error("Reading at byte {offset} of the capture, in or before packet {number}, failed: {error}.")]
     Read {
-        /// The number of the packet in the record or block. The first packet of a capture is number 1. If the block contains no packet,
+        /// The number of the packet in the record or block. The first packet of a capture has number 1. If the block contains no packet,
         /// this is the number of the next packet.
         number: u64,
         /// The start of the record or block, in bytes from the start of the capture.
@@ -54,8 +54,8 @@ pub enum CaptureError {
         /// The error of the operating system.
         error: io::Error,
     },
-    /// The limit of 2^64 - 2 packets is reached. It applies to the packets read from this capture, plus the packets counted in the captures
-    /// before it.
+    /// The sum of two numbers has reached the limit of 2^64 - 2: the number of packets read from this capture, and the number of packets
+    /// counted in the captures before it.
     #[error("2^64 - 2 packets were counted, and no more can be counted.")]
     TooManyPackets,
 }
@@ -83,7 +83,7 @@ impl CaptureError {
         }
     }
 
-    /// The compression of the input, if its first bytes are those of a compressed file.
+    /// Returns the compression of the input, or `None` if the input does not begin like a compressed file.
     fn compression(&self) -> Option<Compression>
         ensures { result ≡ compression_of self.now }
     {
@@ -95,8 +95,8 @@ impl CaptureError {
     }
 }
 
-/// Writes the line of the error that ended the report of a capture. Writes nothing if the capture was read to its end, or to the last
-/// requested packet.
+/// Writes the line of the error that ended the report of a capture. If the capture was read to its end, or to the last requested packet,
+/// the call writes nothing.
 pub fn write_end<E: Write>(
     errors: &mut E,
     alloc: Global,
@@ -145,7 +145,7 @@ fn error_line(alloc: Global, name: Option<&str>, error: &CaptureError) -> Result
     }
 }
 
-/// The text of an error. If the capture is compressed, the text contains the command that decompresses it.
+/// Returns the text of an error. If the capture is compressed, the text contains the command that decompresses it.
 fn text_of(alloc: Global, error: &CaptureError) -> Result<String, AllocError>
     ensures { IfOk result (λ text. IsErrorText error.now (string_bytes text)) }
 {
@@ -160,7 +160,7 @@ fn text_of(alloc: Global, error: &CaptureError) -> Result<String, AllocError>
     }
 }
 
-/// The words with which a filter of tcpdump begins (pcap-filter(7)).
+/// The words with which a filter of tcpdump can begin (pcap-filter(7)).
 static FILTER_WORDS: [&str; 16] = [
     "tcp",
     "udp",
@@ -180,7 +180,7 @@ static FILTER_WORDS: [&str; 16] = [
     "proto",
 ];
 
-/// The hint after the error of opening a capture, if the name of the capture begins like a filter of tcpdump.
+/// The hint that follows the error if a capture can't be opened, and its name begins like a filter of tcpdump.
 const FILTER_HINT: &str = "; filters are --host, --port and --protocol";
 
 /// Writes the line for a capture that can't be opened: the name of the program, the name of the capture, and the text of the error. If the
@@ -213,7 +213,8 @@ fn open_error_line(alloc: Global, name: &str, error: &io::Error) -> Result<Strin
     format!(in alloc; "capture_report: {shown}: {text}{hint}\n")
 }
 
-/// The hint that lists the options that select packets. The hint is empty unless the first word of the name is a word of `FILTER_WORDS`.
+/// Returns the hint for a name, which lists the options that select packets. The hint is empty unless the first word of the name is in
+/// `FILTER_WORDS`.
 fn hint_of(name: &str) -> &'static str
     ensures { result.now ≡ hint_of name.now }
 {
@@ -223,7 +224,7 @@ fn hint_of(name: &str) -> &'static str
     ""
 }
 
-/// The part of a name before its first space, or the whole name.
+/// Returns the part of a name before its first space, or the whole name if it contains no space.
 fn first_word(name: &str) -> &str
     ensures { result.now ≡ first_word name.now }
 {

@@ -6,14 +6,14 @@ use capture_file::reader::CapturedPacket;
 use capture_packet::{Content, NetworkProtocol, Packet, Verdict, read_packet};
 use transport_part::Untested;
 
-/// Returns a packet that is not read. It needs `required_len` bytes, which do not fit in the buffer.
+/// Returns a packet that is not read, since its `required_len` bytes do not fit in the buffer.
 pub fn packet_without_room<'a>(required_len: u32) -> Packet<'a>
     ensures { IsTooLong required_len result }
 {
     Packet::in_no_tunnel(Content::Unread, Verdict::TooLong { required_len })
 }
 
-/// Reads the packet in a frame. If the link type of the capture or interface is not read, the result is a frame without an IP packet.
+/// Reads the packet in a frame. If the link type of the capture or interface is unknown, the result is a frame without an IP packet.
 pub fn packet_in_frame<'a>(captured: &CapturedPacket, frame: &'a [u8]) -> Packet<'a>
     ensures { IsReadAs captured.now.link_type captured.now frame.now result }
 {

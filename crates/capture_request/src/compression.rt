@@ -1,12 +1,12 @@
 ghost use Rattle.std.specs.Prelude.{◌≡◌};
 ghost use Rattle.capture_request.specs.Compressions.{compression_name, compression_with};
 
-/// A compression format of files. A compressed capture is not read.
+/// A compression format of files. The report refuses a compressed capture.
 #[derive(Clone, Copy, Debug, PartialEq, Eq)]
 pub enum Compression {
     /// The format of `gzip` (RFC 1952).
     Gzip,
-    /// The format of `compress`, which `gzip` reads.
+    /// The format of `compress`, which `gzip` can decompress.
     Compress,
     /// The format of `zstd` (RFC 8878).
     Zstandard,
@@ -40,8 +40,8 @@ const FIRST_BZIP2_MAGIC: u32 = 0x425A_6831;
 const LAST_BZIP2_MAGIC: u32 = 0x425A_6839;
 
 impl Compression {
-    /// Returns the compression of a file. `magic` contains its first four bytes as a big-endian number. `None` if the file is not
-    /// compressed in any of these formats.
+    /// Returns the compression of a file. `magic` contains its first four bytes as a big-endian number. The result is `None` if the file
+    /// has none of these formats.
     pub fn from_magic(magic: u32) -> Option<Compression>
         ensures { result ≡ compression_with magic }
     {

@@ -1,8 +1,8 @@
-//! The options of the report of a capture, the packets that the report reads, and the ways in which it ends.
+//! The options of the report of a capture, the packets that the report reads, and the result with which it ends.
 //!
 //! `Parts` are the options of a report. `packet_in_frame` reads the packet of a record or block. `Reached` and `CaptureError` state how a
 //! report ends, and `WriteError` is the reason why a report can't be written. `ExitStatus` is the exit status of the program. `capture_run`
-//! writes the report. `capture_selection` writes the packets that have a line in the report to another capture.
+//! writes the report. If a packet has a line in the report, `capture_selection` can copy it to another capture.
 //!
 //! ```
 //! let parts = Parts::from_flags(false, false, true, false);

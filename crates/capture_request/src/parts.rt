@@ -14,7 +14,7 @@ use capture_summary::{BUSIEST, VerdictKind};
 /// The options of a report.
 #[derive(Clone, Copy, Debug, PartialEq, Eq)]
 pub struct Parts {
-    /// The packets that are counted and may have a line.
+    /// The chosen packets. Only chosen packets are counted, and only chosen packets can have a line.
     pub choice: Choice,
     /// Which of the chosen packets have a line.
     pub lines: Lines,
@@ -30,15 +30,20 @@ pub struct Parts {
     pub top: usize,
     /// Whether the exit status reports that a packet has a wrong checksum or was refused.
     pub check: bool,
-    /// The requested number of chosen packets, if a number is requested. The report ends after this many chosen packets, and reads no
-    /// further packet.
+    /// The requested number of chosen packets, or `None` if no number is requested. The report ends after this many chosen packets, and
+    /// reads no further packet.
     pub limit: Option<u64>,
 }
 
 impl Parts {
-    /// Returns the options that these flags request: no lines, no summary, lines only for packets with a fault, and a check. All packets
-    /// are chosen, without a limit. The report is text without details. It shows times since the first packet, and lists the ten busiest
-    /// conversations.
+    /// Returns the options that these flags request:
+    /// - `summary_alone`: no packet has a line.
+    /// - `packets_alone`: no summary is written.
+    /// - `wrong_alone`: only packets with a wrong checksum and refused packets have a line.
+    /// - `check`: the exit status reports packets with a wrong checksum and refused packets.
+    ///
+    /// All packets are chosen, without a limit. The report is text without details. It shows times since the first packet, and lists the
+    /// ten busiest conversations.
     pub fn from_flags(
         summary_alone: bool,
         packets_alone: bool,
@@ -88,14 +93,14 @@ pub enum Format {
 pub enum Lines {
     /// Every packet.
     All,
-    /// A packet with a wrong checksum, or a refused packet.
+    /// Every packet with a wrong checksum, and every refused packet.
     Wrong,
     /// No packet.
     None,
 }
 
 impl Lines {
-    /// Whether a chosen packet with this verdict has a line.
+    /// Returns whether a chosen packet with this verdict has a line.
     pub fn include(self, verdict: &Verdict) -> bool
         ensures { result ≡ has_line self verdict.now }
     {

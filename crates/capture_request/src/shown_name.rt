@@ -3,7 +3,7 @@
 ghost use Rattle.std.specs.Prelude.{◌≡◌};
 ghost use Rattle.capture_request.specs.Names.{without_mark};
 
-/// The name of standard input among the captures.
+/// The name that a run opens as standard input.
 pub const STANDARD_INPUT: &str = "-";
 
 /// The mark of a name that is not UTF-8. The escaped bytes of the name follow the mark. No other name begins with this character, since a

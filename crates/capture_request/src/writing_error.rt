@@ -2,7 +2,7 @@ use std::alloc::AllocError;
 use std::io;
 use thiserror::Error;
 
-/// Why a report can't be written.
+/// The reason why a report can't be written.
 #[derive(Debug, Error, Drop)]
 pub enum WriteError {
     /// Writing failed.
@@ -19,7 +19,7 @@ impl From<AllocError> for WriteError {
 
     ghost from_gives = { λ error write_error. write_error ≡ variants.NoMemory };
 
-    /// The error `NoMemory`.
+    /// Returns the error `NoMemory`.
     fn from(_error: AllocError) -> WriteError {
         WriteError::NoMemory
     }
@@ -31,7 +31,7 @@ impl From<io::Error> for WriteError {
 
     ghost from_gives = { λ error write_error. write_error ≡ variants.Write error };
 
-    /// The error `Write`, which contains this error.
+    /// Returns the error `Write`, which contains `error`.
     fn from(error: io::Error) -> WriteError {
         WriteError::Write(error)
     }

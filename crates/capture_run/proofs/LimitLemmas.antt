@@ -1,4 +1,4 @@
--- Laws of a limit of the number of packets.
+-- Laws about the limit on the number of packets.
 use Rattle.std.proofs.Common.{◌≡◌, ◌≤◌, ◌+◌, ℕ, List, [], ◌∷◌, false, Err, None, Ok, Option, Result, Some, arith, refl}
 use Rattle.capture_run.proofs.ReportLemmas.{counts_at_most}
 use Rattle.capture_request.specs.Limits.{EndsByLimit, EndsWithoutLimit, IsWithin, is_full}
@@ -23,7 +23,7 @@ pub within_step : (limit : Option ℕ) (choice : Choice) (packet : FilePacket) (
 within_step limit choice packet before after more counts =
     within_more limit before.packets after.packets more (counts_at_most choice before (packet ∷ []) after (after, counts, refl))
 
--- a capture that ended before the limit did not end by the limit
+-- if the report ended for another reason, and the limit is not reached, `EndsByLimit` holds
 pub not_by_limit : (limit : Option ℕ) (counted : ℕ) (ended : Result Reached CaptureError) → is_full limit counted ≡ false
     → EndsWithoutLimit ended → EndsByLimit limit counted ended
 not_by_limit limit counted (Ok End) more without = more

@@ -10,7 +10,7 @@ use Rattle.capture_request.specs.Report.{packet_time}
 use Rattle.capture_words.specs.Written.{AppendsOne}
 use Rattle.capture_request.specs.declared.parts.Parts.{Parts}
 
--- the text of packets and of a packet after them
+-- the texts of some packets, followed by the text of one more packet, are the texts of all these packets
 pub text-push : (parts : Parts) (number now : ℕ) (first : Option PacketTime) (packets : List FilePacket) (packet : FilePacket) (text line : List ℕ)
     → IsPacketsText parts number first packets text → now ≡ number + length packets
     → IsPacketText parts now (first_time first packets) packet line → IsPacketsText parts number first (packets ++ packet ∷ []) (text ++ line)
@@ -29,7 +29,7 @@ text-push parts number now first (p ∷ ps) packet text line is same one = (
   ap (λ t. t ++ line) is.4 ∙ append_assoc is.0 is.1 line,
 )
 
--- the first time of packets and of another packet
+-- the first known time of some packets and one more packet
 pub first-push : (first : Option PacketTime) (packets : List FilePacket) (packet : FilePacket)
     → first_time first (packets ++ packet ∷ []) ≡ option_or (first_time first packets) (packet_time packet)
 first-push first [] packet = refl

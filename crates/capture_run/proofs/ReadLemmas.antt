@@ -13,7 +13,7 @@ use Rattle.capture_request.specs.declared.capture_error.CaptureError.TheVariants
 use Rattle.capture_request.specs.declared.reached.Reached.{Reached}
 use Rattle.capture_request.specs.declared.reached.Reached.TheVariants.{End, Limit}
 
--- an item that is not a packet was read
+-- if an item was read that is not a packet, the packets end with this item
 pub reads_end : (before after : CaptureReader) (left still_left : Option (List ℕ)) (buffer : List ℕ) (read next : NextPacket)
     → length buffer ≡ max_packet_len → read ≡ next → ReadsPacket before left still_left after buffer read → packet_in buffer next ≡ None
     → ReadsEnd before left next still_left after
@@ -42,7 +42,7 @@ ended_at_item count number before after left still_left (Err TooManyPackets) end
 ended_at_item count number before after left still_left (Err (Header error)) ends = absurd ends
 ended_at_item count number before after left still_left (Err (ReadHeader error)) ends = absurd ends
 
--- the item at which the packets of the input end; the result reports it
+-- the item after the last packet of the input; the result reports this item
 item_of : (number : ℕ) (before after : CaptureReader) (left still_left : Option (List ℕ)) (ended : Result Reached CaptureError)
     → EndsAtItem number before left still_left after ended → IsReadToEnd ended
     → (next : NextPacket) × EndsWith max_packet_len before left next × IsAnsweredBy next number ended

@@ -17,7 +17,7 @@ pub appends_nothing : (held : Option (List ℕ)) → Appends held held []
 appends_nothing None = tt
 appends_nothing (Some held) = sym (append-nil held)
 
--- the counts of packets and of a packet after them
+-- counting some packets, and then one more packet, counts all these packets
 pub counts-push : (choice : Choice) (before between after : SummaryTables) (packets : List FilePacket) (packet : FilePacket)
     → CountsEach choice before packets between → CountsCaptured choice packet between after
     → CountsEach choice before (packets ++ packet ∷ []) after
@@ -26,14 +26,14 @@ counts-push choice before between after [] packet counted one =
 counts-push choice before between after (p ∷ ps) packet counted one =
     (counted.0, counted.1, counts-push choice counted.0 between after ps packet counted.2 one)
 
--- at most as many packets were counted as there are packets
+-- the number of counted packets is at most the number of packets
 pub counts_at_most : (choice : Choice) (before : SummaryTables) (packets : List FilePacket) (after : SummaryTables)
     → CountsEach choice before packets after → after.packets ≤ before.packets + length packets
 counts_at_most choice before [] after counted = omega (arith, ap (λ tables. tables.packets) counted)
 counts_at_most choice before (packet ∷ packets) after counted =
     grind (arith, counted.1.counts, counts_at_most choice counted.0 packets after counted.2)
 
--- in a truncated capture the packets before the cut are counted
+-- in a truncated capture, the packets that end at or before the cut are counted
 pub counts-cut : (choice : Choice) (reader : CaptureReader) (left : Option (List ℕ)) (packets : List FilePacket) (ended : Result Reached CaptureError)
     (before after : SummaryTables) → IfSome left (EndsAfter reader packets ended) → CountsEach choice before packets after
     → (whole : List ℕ) (all : List FilePacket) (next : NextPacket) (cut : ℕ) → left ≡ Some (take cut whole)

@@ -1,4 +1,4 @@
--- Worked examples of whole runs. They show that the statements about a run can be met, so that a wrong definition fails before its code is
+-- Worked examples of whole runs. They show that the statements about a run can be met. So a wrong definition fails before its code is
 -- written.
 use Rattle.std.proofs.Common.{◌≡◌, ◌≤◌, ◌∙◌, ◌+◌, ◌-◌, ℕ, true, false, List, [], ◌∷◌, ◌++◌, Err, Ok, None, Some, Option, arith, codes, inl, length, length-append, refl, replicate}
 use Rattle.std.proofs.lemmas.List.{length-replicate}
@@ -54,7 +54,7 @@ abbrev section : List ℕ
 section =
     10 ∷ 13 ∷ 13 ∷ 10 ∷ 28 ∷ 0 ∷ 0 ∷ 0 ∷ 77 ∷ 60 ∷ 43 ∷ 26 ∷ 1 ∷ 0 ∷ 0 ∷ 0 ∷ (replicate 8 255 ++ 28 ∷ 0 ∷ 0 ∷ 0 ∷ [])
 
--- an Ethernet interface with a snap length of 262,144 bytes, whose timestamps are in nanoseconds
+-- an Ethernet interface with a snap length of 262,144 bytes, and timestamps in nanoseconds
 abbrev interface : List ℕ
 interface =
     1 ∷ 0 ∷ 0 ∷ 0 ∷ 32 ∷ 0 ∷ 0 ∷ 0 ∷ 1 ∷ 0 ∷ 0 ∷ 0 ∷ 0 ∷ 0 ∷ 4 ∷ 0 ∷ 9 ∷ 0 ∷ 1 ∷ 0 ∷ 9 ∷ 0 ∷ 0 ∷ 0 ∷ (replicate 4 0 ++ 32 ∷ 0 ∷ 0 ∷ 0 ∷ [])
@@ -87,7 +87,7 @@ described = record {
 
 -- ---- the buffers
 
--- bytes with which `front` fills a buffer
+-- bytes that fill up a buffer after `front`
 filled : (front : List ℕ) (room : ℕ) → length front ≤ room → (rest : List ℕ) × (length (front ++ rest) ≡ room)
 filled front room within =
     let count : ℕ = room - length front in
@@ -228,7 +228,7 @@ summary_of_file = record {
 
 -- ---- a classic capture with one packet
 
--- version 2.4, a snap length of 262,144 bytes, and link type 147, which is not read, as written by a little-endian machine
+-- the header that a little-endian machine writes: version 2.4, a snap length of 262,144 bytes, and the unknown link type 147
 abbrev file_header : List ℕ
 file_header = 212 ∷ 195 ∷ 178 ∷ 161 ∷ 2 ∷ 0 ∷ 4 ∷ 0 ∷ 0 ∷ 0 ∷ 0 ∷ 0 ∷ 0 ∷ 0 ∷ 0 ∷ 0 ∷ 0 ∷ 0 ∷ 4 ∷ 0 ∷ 147 ∷ 0 ∷ 0 ∷ 0 ∷ []
 

@@ -17,7 +17,7 @@ use Rattle.capture_request.specs.declared.exit_status.ExitStatus.{ExitStatus}
 use Rattle.capture_request.specs.declared.exit_status.ExitStatus.TheVariants.{Success}
 use Rattle.capture_request.specs.declared.parts.Parts.{Parts}
 
--- the reports of some captures and of another capture
+-- the reports of some captures, followed by the report of one more capture, are the reports of all these captures
 reports-push : (Reads : List ℕ → Given → Type 0) (parts : Parts) (count place now : ℕ) (names : List (List ℕ)) (name : List ℕ)
     (before between after : Progress) (text headed : List ℕ) (lines more : List (List ℕ))
     → ReportsEach Reads parts count place names before between text lines → now ≡ place + length names
@@ -56,7 +56,7 @@ reports_one : (Reads : List ℕ → Given → Type 0) (parts : Parts) (before af
 reports_one Reads parts before after text lines one =
     (after, text, [], lines, [], one, (refl, refl, refl), sym (append-nil text), sym (append-nil lines))
 
--- no further capture is read
+-- if the requested number of packets was counted, the next capture is skipped
 pub left_out : (Reads : List ℕ → Given → Type 0) (parts : Parts) (count place : ℕ) (name : List ℕ) (before : Progress)
     (a e : Option (List ℕ)) (AreWhole : Type 0) → is_full parts.limit before.summary.packets ≡ true
     → WritesReport a a e e AreWhole (ReportsHeaded Reads parts count place name before before)
@@ -83,7 +83,7 @@ headed Reads parts count place name before a b c e f (Ok after) more head one = 
   tells = one.tells;
 }
 
--- the report after another capture
+-- the report of one more capture was written after the reports of the captures before it
 pub one-more : {X : Type 0} (Reads : List ℕ → Given → Type 0) (parts others : Parts) (count : ℕ) (xs : List X) (named : X → List ℕ) (i : ℕ) (d : X)
     (before between after : Progress) (a b c e f h : Option (List ℕ)) (Between After : Type 0) → i < length xs → others ≡ parts → (After → Between)
     → WritesReport a b e f Between (ReportsEach Reads parts count 0 (map named (take i xs)) before between)
@@ -121,7 +121,7 @@ tells_first Reads parts count xs named i before between a b e f AreWhole each = 
   tells = writes-weaker e f AreWhole ⊥ each.lines (λ none. absurd none) each.tells;
 }
 
--- no capture was reported
+-- before the first capture nothing was reported
 pub tells_nothing : (Reads : List ℕ → Given → Type 0) (parts : Parts) (count : ℕ) (names : List (List ℕ)) (before : Progress)
     (e : Option (List ℕ)) → TellsFirst Reads parts count names before e e
 tells_nothing Reads parts count names before e = record {
@@ -135,7 +135,7 @@ tells_nothing Reads parts count names before e = record {
   tells = writes-nothing e ⊥;
 }
 
--- if nothing was written to the writer of errors, no capture was reported there
+-- if nothing was written to the writer of errors, before the first capture nothing was reported there
 pub untold : {X T E : Type 0} (Reads : List ℕ → Given → Type 0) (parts : Parts) (count : ℕ) (names : List (List ℕ)) (before : Progress)
     (contents : X → Option (List ℕ)) (old new : X) (result : Result T E) → OnErr result (new ≡ old)
     → IfErr result (λ error. TellsFirst Reads parts count names before (contents old) (contents new))

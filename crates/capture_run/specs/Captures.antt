@@ -51,8 +51,8 @@ unopened before = record {
 }
 
 -- The reader of the only capture whose beginning was accepted, or `None` if no beginning or several beginnings were accepted. `before` is
--- this reader before the new capture. The last argument is the reader of the new capture, or `None` if its beginning was not accepted.
--- `is_empty` is true if no beginning was accepted before.
+-- the result for the captures before the new capture. The last argument is the reader of the new capture, or `None` if its beginning was
+-- not accepted. `is_empty` is true if no beginning was accepted before.
 abbrev pub only_capture : Bool → Option CaptureReader → Option CaptureReader → Option CaptureReader
 only_capture is_empty before None = before
 only_capture true before (Some reader) = Some reader
@@ -73,13 +73,13 @@ pub record ReportsOpened (parts : Parts) (shown : Option (List ℕ)) (left : Opt
   pub limit : EndsByLimit parts.limit after.summary.packets ended
   pub within : IsWithin parts.limit before.summary.packets → IsWithin parts.limit after.summary.packets
 
--- The result of opening a name. The outer `Option` is `None` if the name can't be opened. The inner `Option` contains the bytes of the
--- opened input, or is `None` if they are unknown.
+-- The result of opening a capture by its name. The outer `Option` is `None` if the capture can't be opened. The inner `Option` contains the
+-- bytes of the opened input, or is `None` if they are unknown.
 abbrev pub Given : Type 0
 Given = Option (Option (List ℕ))
 
--- Opening the name has this result. `Misses` is the statement about a name that can't be opened. `Opens` is the statement about an opened
--- input. `remaining` returns the bytes of an input.
+-- Opening the capture with this name has this result. `Misses` is the statement about a name that can't be opened. `Opens` is the statement
+-- about an opened input. `remaining` returns the bytes of an input.
 abbrev pub Gives : {R : Type 0} → (List ℕ → Type 0) → (List ℕ → R → Type 0) → (R → Option (List ℕ)) → List ℕ → Given → Type 0
 Gives Misses Opens remaining name None = Misses name
 Gives {R} Misses Opens remaining name (Some left) = (input : R) × Opens name input × (left ≡ remaining input)
@@ -149,7 +149,7 @@ pub record IsRun (Reads : List ℕ → Given → Type 0) (parts : Parts) (names 
   pub whole : text ≡ captures ++ (if after.is_empty then [] else end_text parts after.capture after.summary)
   pub is_final : status ≡ final_status parts.check after.status after.summary
 
--- ---- what is written of a report
+-- ---- the writers of a report and of the lines of its errors
 
 -- A report was written to one writer, and the lines of its errors to another writer. If `AreWhole` holds, the lines were written
 -- completely. Otherwise only the beginning of each line may have been written.

@@ -68,14 +68,15 @@ abbrev pub IsCaptureReport : Parts → Option (List ℕ) → Option (List ℕ) �
 IsCaptureReport parts left still_left ended before after None text = RejectsBeginning left ended × (after ≡ before) × (text ≡ [])
 IsCaptureReport parts left still_left ended before after (Some last) text = WritesCapture parts left still_left ended before after last text
 
--- At least one of the counted packets has a line. Lines are written for all counted packets, for packets with a wrong checksum and refused
--- packets, or for no packets.
+-- At least one of the counted packets has a line. The option `lines` selects all counted packets, only packets with a wrong checksum and
+-- refused packets, or no packets.
 abbrev pub has_packet_line : Lines → SummaryTables → Bool
 has_packet_line lines.All tables = nat_lt 0 tables.packets
 has_packet_line lines.Wrong tables = has_fault tables
 has_packet_line lines.None tables = false
 
--- lines of packets are requested, and several captures were read; then headings were written
+-- lines of packets are requested, and several captures were read, so headings were written; `capture` is `None` if several captures were
+-- read
 abbrev pub has_headings : Lines → Option CaptureReader → Bool
 has_headings lines.All capture = is_none capture
 has_headings lines.Wrong capture = is_none capture

@@ -64,9 +64,9 @@ impl CaptureReports {
         }
     }
 
-    /// Reads a capture, and adds its chosen packets to the counts of the captures before it. Writes the line of each chosen packet that has
-    /// a line. In each capture the first packet has number 1, and times are counted from the first packet that has a time. Packets that are
-    /// not chosen have a number too, and can be the first packet.
+    /// Reads a capture, and adds its chosen packets to the counts of the captures before it. The call writes the line of each chosen packet
+    /// that has a line. In each capture the first packet has number 1, and times are counted from the first packet that has a time. Packets
+    /// that are not chosen have a number too, and can be the first packet.
     ///
     /// The inner error is the reason why the capture is refused, or why no further packet can be read. Packets before the error are
     /// counted, and another capture can follow.
@@ -116,15 +116,15 @@ impl CaptureReports {
         Ok((reports, ended))
     }
 
-    /// The options of the reports.
+    /// Returns the options of the report.
     pub fn parts(&self) -> &Parts
         ensures { result.now ≡ self.now.parts }
     {
         &self.parts
     }
 
-    /// Whether the number of counted packets has reached the requested number. Then no further capture is read. `false` if no number is
-    /// requested.
+    /// Returns whether the requested number of packets was counted. In that case no further capture is read. The result is `false` if no
+    /// number is requested.
     pub fn is_full(&self) -> bool
         ensures { result ≡ is_full self.now.parts.limit self.now.summary.packets }
     {
@@ -163,9 +163,9 @@ impl CaptureReports {
         self.unwritten
     }
 
-    /// Writes the summary of all captures, if a summary is requested and the beginning of a capture was accepted. Then it flushes the
-    /// output and returns the exit status. It is `Fault` if a check is requested, and a packet has a wrong checksum or was refused.
-    /// Otherwise it is the greatest status of the reports.
+    /// Writes the summary of all captures, if a summary is requested and the beginning of a capture was accepted. Then the call flushes the
+    /// output, and returns the exit status. The exit status is `Fault` if a check is requested, and a packet has a wrong checksum or was
+    /// refused. Otherwise the exit status is the greatest status of the reports.
     ///
     /// # Errors
     ///
@@ -192,7 +192,7 @@ impl CaptureReports {
         self.write_summary(busiest.as_slice(), alloc, output)
     }
 
-    /// Writes the summary in the requested format, with these conversations.
+    /// Writes the summary in the requested format. The summary lists the conversations `busiest`.
     fn write_summary<W: Write>(
         &self,
         busiest: &[ConversationCount],
@@ -209,8 +209,8 @@ impl CaptureReports {
         }
     }
 
-    /// The exit status of the run. It is `Fault` if a check is requested, and a packet has a wrong checksum or was refused. Otherwise it is
-    /// the greatest status of the reports.
+    /// Returns the exit status of the run. It is `Fault` if a check is requested, and a packet has a wrong checksum or was refused.
+    /// Otherwise it is the greatest status of the reports.
     fn final_status(&self) -> ExitStatus
         ensures { result ≡ final_status self.now.parts.check self.now.status self.now.summary }
     {
@@ -221,8 +221,8 @@ impl CaptureReports {
     }
 }
 
-/// Writes the facts about the capture, if only one was read, and then the tables. `write_empty_line` decides whether an empty line comes
-/// first.
+/// Writes the summary as text: the facts about the capture if only one capture was read, and then the tables. An empty line can come first,
+/// as `write_empty_line` describes.
 fn write_text_summary<W: Write>(
     output: &mut W,
     lines: Lines,
@@ -237,7 +237,7 @@ fn write_text_summary<W: Write>(
     Ok(write_facts_and_tables(output, capture, summary, busiest)?)
 }
 
-/// Writes the facts about the capture, if only one was read, and then the tables.
+/// Writes the facts about the capture, if only one capture was read, and then the tables.
 fn write_facts_and_tables<W: Write>(
     output: &mut W,
     capture: &Option<CaptureReader>,
@@ -265,7 +265,7 @@ fn write_empty_line<W: Write>(
     Ok(())
 }
 
-/// Whether at least one of the counted packets has a line.
+/// Returns whether at least one of the counted packets has a line.
 fn has_packet_line(lines: Lines, summary: &Summary) -> bool
     ensures { result ≡ has_packet_line lines summary.now }
 {
@@ -276,8 +276,8 @@ fn has_packet_line(lines: Lines, summary: &Summary) -> bool
     }
 }
 
-/// Whether lines of packets are requested, and several captures were read. Then headings were written. `capture` is the reader of the
-/// capture, if only one was read.
+/// Returns whether lines of packets are requested, and several captures were read. In that case headings were written. `capture` is `None`
+/// if several captures were read.
 fn has_headings(lines: Lines, capture: &Option<CaptureReader>) -> bool
     ensures { result ≡ has_headings lines capture.now }
 {
@@ -296,8 +296,8 @@ fn greater(status: ExitStatus, other: ExitStatus) -> ExitStatus
 }
 
 /// Returns the reader of the only capture whose beginning was accepted, or `None` if no beginning or several beginnings were accepted.
-/// `capture` is this reader before the new capture. `reader` is the reader of the new capture, or `None` if its beginning was not accepted.
-/// `is_empty` is true if no beginning was accepted before.
+/// `capture` is the result for the captures before the new capture. `reader` is the reader of the new capture, or `None` if its beginning
+/// was not accepted. `is_empty` is true if no beginning was accepted before.
 fn only_capture(
     is_empty: bool,
     capture: Option<CaptureReader>,
@@ -312,7 +312,7 @@ fn only_capture(
     }
 }
 
-/// Whether the report of a capture ended within the beginning of the capture.
+/// Returns whether the report of a capture ended within the beginning of the capture.
 fn ends_at_header(ended: &Result<Reached, CaptureError>) -> bool
     ensures { IsTrue result ↔ EndsAtHeader ended.now }
 {

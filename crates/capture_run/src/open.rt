@@ -8,9 +8,9 @@ pub trait Open {
 
     ghost use Rattle.std.specs.Prelude.{ℕ, List, IfErr, IfOk};
 
-    /// What holds for the input that is opened by a name.
+    /// The statement that holds for an input that was opened by this name.
     ghost opens: { Self → List ℕ → Self.Input → Type 0 };
-    /// What holds for a name that can't be opened.
+    /// The statement that holds for a name that can't be opened.
     ghost misses: { Self → List ℕ → Type 0 };
 
     /// Opens the capture with this name. [`STANDARD_INPUT`](crate::STANDARD_INPUT) is the name of standard input.

@@ -50,14 +50,14 @@ impl PacketReport {
         self.first = None;
     }
 
-    /// The counts so far.
+    /// Returns the counts so far.
     pub fn summary(&self) -> &Summary
         ensures { result.now ≡ self.now.summary }
     {
         &self.summary
     }
 
-    /// Whether the number of counted packets has reached the requested number. `false` if no number is requested.
+    /// Returns whether the requested number of packets was counted. The result is `false` if no number is requested.
     pub fn is_full(&self) -> bool
         ensures { result ≡ is_full self.now.parts.limit self.now.summary.packets }
     {
@@ -94,7 +94,7 @@ impl PacketReport {
         self.add_packet(output, number, &captured_info(captured), &packet)
     }
 
-    /// A packet that is longer than the buffer is counted if it is chosen. Then its line is written if it has a line. The checksum of this
+    /// Counts a packet that is longer than the buffer if it is chosen, and then writes its line if it has a line. The checksum of this
     /// packet is not tested.
     pub fn add_too_long<W: Write>(
         &mut self,
@@ -181,7 +181,7 @@ impl PacketReport {
     }
 }
 
-/// Whether the number of counted packets has reached this limit. `false` if there is no limit.
+/// Returns whether the number of counted packets has reached this limit. The result is `false` if there is no limit.
 pub(crate) fn is_full(limit: Option<u64>, summary: &Summary) -> bool
     ensures { result ≡ is_full limit summary.now.packets }
 {
@@ -206,7 +206,7 @@ fn count(summary: &mut Summary, info: &CaptureInfo, packet: &Packet<'_>) -> Resu
     Ok(())
 }
 
-/// What the capture states about a packet.
+/// Returns what the capture states about a packet.
 fn captured_info(captured: &CapturedPacket) -> CaptureInfo
     ensures { result ≡ captured_info captured.now }
 {
@@ -220,7 +220,7 @@ fn captured_info(captured: &CapturedPacket) -> CaptureInfo
     }
 }
 
-/// What the capture states about a packet that is longer than the buffer.
+/// Returns what the capture states about a packet that is longer than the buffer.
 fn too_long_info(captured: &TooLongPacket) -> CaptureInfo
     ensures { result ≡ too_long_info captured.now }
 {

@@ -16,7 +16,7 @@ use crate::{CaptureError, MAX_PACKET_LEN, Reached, WriteError};
 use capture_file::reader::{CaptureReader, NextPacket};
 use std::io::{Read, Write};
 
-/// Reads a capture and counts its chosen packets. Writes the line of each chosen packet that has a line. The inner error is the reason why
+/// Reads a capture, counts its chosen packets, and writes the line of each chosen packet that has a line. The inner error is the reason why
 /// the capture is refused, or why no further packet can be read. After the last requested packet no byte is read. `capture` becomes the
 /// reader after the packets, or `None` if the beginning of the capture is not accepted.
 pub(crate) fn report_packets<R: Read, W: Write>(

@@ -22,15 +22,16 @@ use std::hash::RandomState;
 use std::io;
 use std::io::Write;
 
-/// Reports the captures of `sources` in their order. Then it writes the summary of all captures, and returns the exit status. `state`
+/// Reports the captures of `sources` in their order. Then the call writes the summary of all captures, and returns the exit status. `state`
 /// provides the keys for hashing flows. With random keys, no capture can be crafted to slow down the search for a flow. Packets are read
-/// into `buffer`. A packet that is longer than the buffer is not read. It is counted if it is chosen.
+/// into `buffer`. A packet that is longer than the buffer is not read, but it is counted if it is chosen.
 ///
 /// If a number of packets is requested, the run ends after the last requested packet, and reads no further capture.
 ///
-/// If a capture can't be opened, or can't be read to its end, a line with its name and the error is written to `outputs.errors`. Then the
-/// next capture follows. The exit status is `Fault` if a check is requested, and a packet has a wrong checksum or was refused. This holds
-/// even if a capture can't be opened or can't be read to its end. Otherwise the exit status is the greatest status of all captures.
+/// If a capture can't be opened, or can't be read to its end, the call writes a line with its name and the error to `outputs.errors`. Then
+/// the call reports the next capture. The exit status is `Fault` if a check is requested, and a packet has a wrong checksum or was refused.
+/// This holds even if a capture can't be opened or can't be read to its end. Otherwise the exit status is the greatest status of all
+/// captures.
 ///
 /// # Errors
 ///
@@ -143,7 +144,7 @@ fn report_headed<O: Open, W: Write, E: Write>(
     report_capture(capture, opener, reports, buffer, outputs)
 }
 
-/// The name of the capture in the line of an error. `None` if standard input is read without a name.
+/// Returns the name of the capture in the line of an error. The result is `None` if standard input is read without a name.
 fn line_name<'a>(count: usize, name: &'a str) -> Option<&'a str>
     ensures { option_map (λ text. shown_name text.now) result ≡ line_name count name.now }
 {
@@ -183,7 +184,7 @@ fn report_capture<O: Open, W: Write, E: Write>(
     Ok(reports.after_line(written))
 }
 
-/// Writes the heading of a capture. Writes nothing if at most one capture is named, or if no packet may have a line.
+/// Writes the heading of a capture. If at most one capture is named, or if no packet may have a line, nothing is written.
 fn write_heading_if_any<W: Write>(
     capture: &NamedCapture<'_>,
     parts: &Parts,

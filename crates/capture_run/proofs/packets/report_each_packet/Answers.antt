@@ -9,7 +9,7 @@ use Rattle.capture_run.proofs.ReportLemmas.{counts-cut, counts-push, counts_at_m
 use Rattle.capture_packet.specs.Frames.{max_packet_len}
 use Rattle.capture_run.proofs.packets.report_each_packet.Goals as goal
 
--- the packets before the item that ended the report are counted, and this is their text
+-- the packets before the item that ended the report are counted, and their text was written
 pub returns-in-Some-clause-report : goal.returns-in-Some-clause-report
 returns-in-Some-clause-report g c =
     let (packets, read, counted, number, most, len, parts, silent, within, time, last, wrote) = c.loop-number.invariant in
@@ -38,7 +38,7 @@ returns-in-Some-clause-report g c =
       rw same wrote.2,
     )
 
--- after the last number the limit of counted packets is reached
+-- after the last packet number, the greatest number of packets is reached
 pub returns-clause-report : goal.returns-clause-report
 returns-clause-report g c =
     let (packets, read, counted, number, most, len, parts, silent, within, time, last, wrote) = c.loop-number.invariant in
@@ -67,7 +67,7 @@ returns-clause-report g c =
       wrote.2,
     )
 
--- when the limit is reached, nothing after the packets read is read, counted or written
+-- if the limit is reached, nothing more is read, counted or written
 pub returns-then-is_full-clause-report : goal.returns-then-is_full-clause-report
 returns-then-is_full-clause-report g c =
     let (packets, read, counted, number, most, len, parts, silent, within, time, last, wrote) = c.loop-number.invariant in
@@ -92,7 +92,7 @@ returns-then-is_full-clause-report g c =
       wrote.2,
     )
 
--- in a truncated capture the records before the cut are counted
+-- in a truncated capture, the packets that end at or before the cut are counted
 pub returns-in-Some-clause-cut : goal.returns-in-Some-clause-cut
 returns-in-Some-clause-cut g c =
     let (packets, read, counted, number, most, len, parts, silent, within, time, last, wrote) = c.loop-number.invariant in
@@ -146,7 +146,7 @@ returns-then-is_full-clause-limit g c =
     let (packets, read, counted, number, most, len, parts, silent, within, time, last, wrote) = c.loop-number.invariant in
     rw parts at (sym c.is_full.ensures ∙ c.if-is_full.true)
 
--- a next packet that can't be read does not reach the limit
+-- if the next packet can't be read, the limit is not reached
 pub returns-in-Some-clause-limit : goal.returns-in-Some-clause-limit
 returns-in-Some-clause-limit g c =
     let (packets, read, counted, number, most, len, parts, silent, within, time, last, wrote) = c.loop-number.invariant in
@@ -160,7 +160,7 @@ returns-in-Some-clause-within g c =
     let next = rw c.in-Some.is at c.in_ok-ended.ensures.next in
     λ before. rw next.0 (within before)
 
--- if nothing more can be written or counted, a packet was read after the others
+-- if writing or counting fails, one more packet was read
 pub returns-in_err-ended-clause-after_packets : goal.returns-in_err-ended-clause-after_packets
 returns-in_err-ended-clause-after_packets g c =
     let (packets, read, counted, number, most, len, parts, silent, within, time, last, wrote) = c.loop-number.invariant in

@@ -26,7 +26,7 @@ reads_one before after left still_left buffer read next packet room is reads giv
   gives = gives;
 }
 
--- ---- a packet that was kept: this packet is counted, and its text is written
+-- ---- a packet that fits in the buffer: this packet is counted, and its text is written
 
 pub returns-in_ok-add-in-Ok-Whole-clause-next : goal.returns-in_ok-add-in-Ok-Whole-clause-next
 returns-in_ok-add-in-Ok-Whole-clause-next g c =

@@ -3,7 +3,7 @@ use Rattle.std.proofs.KnownBytes.{Appends-nil}
 use Rattle.capture_run.proofs.LimitLemmas.{limit_at_header}
 use Rattle.capture_run.proofs.packets.report_packets.Goals as goal
 
--- the packets after the beginning are added to the counts before
+-- the packets after the beginning are added to the counts of the captures before
 pub returns-clause-report : goal.returns-clause-report
 returns-clause-report g c =
     let (text, writes, appends) = rw c.start_capture.ensures at c.in_ok-ended.ensures.report in (

@@ -16,7 +16,7 @@ returns-in-Err-clause-report g c =
       tells = writes-weaker _ _ _ _ lines (λ none. (c.after_line.ensures.unwritten.0 none).1) tells;
     }
 
--- the capture is read from what its name opens
+-- the capture is read from the input that its name opens
 pub returns-clause-report : goal.returns-clause-report
 returns-clause-report g c =
     let added = c.in_ok-reports in

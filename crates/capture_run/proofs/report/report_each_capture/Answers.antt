@@ -29,7 +29,7 @@ loop-place-preserved g c =
           (search rules) parts c.in_ok-reports.ensures.told written c.in_ok-reports.ensures.report,
     )
 
--- the errors of the captures before the capture that can't be reported
+-- if a capture can't be reported, the lines of errors of the captures before it were written
 pub returns-in_err-reports-clause-errors : goal.returns-in_err-reports-clause-errors
 returns-in_err-reports-clause-errors g c =
     let (parts, told, written) = c.loop-place.invariant in

@@ -1,6 +1,6 @@
 use Rattle.capture_run.proofs.capture_reports.CaptureReports.add.Goals as goal
 
--- if there is no other capture, the reader after the capture is the reader of the reports
+-- `CaptureReports` keeps the reader after the capture, if no other beginning was accepted
 pub returns-clause-report : goal.returns-clause-report
 returns-clause-report g c = (
   c.report_packets.new.capture,
@@ -8,7 +8,7 @@ returns-clause-report g c = (
   rw c.into_summary.ensures (rw (c.new-packets.ensures.parts, c.new-packets.ensures.summary) at c.in_ok-ended.ensures.report),
 )
 
--- the counts reach the limit, or don't
+-- the counted packets reach the limit, or do not reach it
 pub returns-clause-limit : goal.returns-clause-limit
 returns-clause-limit g c = rw c.into_summary.ensures (rw c.new-packets.ensures.parts at c.in_ok-ended.ensures.limit)
 

@@ -3,7 +3,7 @@ use Rattle.std.proofs.lemmas.Result.{on_ok_weaker}
 use Rattle.capture_summary.specs.Ranking.{busiest_of}
 use Rattle.capture_run.proofs.capture_reports.CaptureReports.write_end.Goals as goal
 
--- the summary of the busiest flows
+-- the summary lists the busiest flows
 pub returns : goal.returns
 returns g c =
     let some : c.args.self.now.is_empty ≡ false = search rules in
