@@ -1,4 +1,4 @@
-//! Tests of the crate `capture_selection`: packets of a capture are written as a capture.
+//! Tests of the crate `capture_selection`: the selected packets of a capture are written to another capture.
 
 use crate::captures::{
     ALL, ENHANCED, ENHANCED_END, ENHANCED_OF_SECOND, FaultyReader, FaultyWriter, OTHER_BLOCK,

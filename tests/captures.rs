@@ -116,11 +116,11 @@ pub const SECTION: &[u8] =
 /// The description of an interface of raw IP.
 pub const RAW_IP: &[u8] = b"\x01\0\0\0\x14\0\0\0\x65\0\0\0\0\0\0\0\x14\0\0\0";
 
-/// The description of an interface whose link type, 147, is not read, with nanoseconds.
+/// The description of an interface with the unknown link type 147 and timestamps in nanoseconds.
 pub const OTHER_LINK: &[u8] =
     b"\x01\0\0\0\x1C\0\0\0\x93\0\0\0\0\0\0\0\x09\0\x01\0\x09\0\0\0\x1C\0\0\0";
 
-/// A block of another type, which is passed over.
+/// A block of another type, which is skipped.
 pub const OTHER_BLOCK: &[u8] = b"\x05\0\0\0\x0C\0\0\0\x0C\0\0\0";
 
 /// The bytes before the UDP packet in an enhanced packet block of the first interface, 5 units after the beginning of 1970.

@@ -1,4 +1,4 @@
-//! Tests of the libraries, only over their public names. `.ci/tests` runs them, and no proof covers them. A module of tests has the name of
+//! Tests of the libraries, which use only public names. `.ci/tests` runs them, and no proof covers them. A module of tests has the name of
 //! the crate that it tests. The modules `captures`, `expect`, `packets` and `summaries` contain functions that several of these modules
 //! use.
 #![tactic(auto)]

@@ -1,5 +1,5 @@
-//! Tests of the crate `transport_part`: the transport of IP packets, and whether its checksum is right. The checksums were computed apart
-//! from this crate, by RFC 1071.
+//! Tests of the crate `transport_part`: the transport of IP packets, and whether its checksum is right. The checksums were computed without
+//! this crate, by the rules of RFC 1071.
 
 use crate::expect::{bytes_to, expect_at, expect_equal, expect_ok};
 use crate::packets::{JUMBOGRAM_LEN, write_jumbogram_headers};

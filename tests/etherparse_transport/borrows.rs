@@ -1,4 +1,4 @@
-//! Borrows from an input are used after the value that returned them ended.
+//! Borrows from an input are used after the value that returned them went out of scope.
 
 use crate::expect::{bytes_from, bytes_to, expect_equal, expect_ok};
 use etherparse_transport::{

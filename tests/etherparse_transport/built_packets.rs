@@ -1,4 +1,4 @@
-//! Packets that are built. The expected bytes were computed apart from this crate, by RFC 791, RFC 8200 and RFC 1071.
+//! Packets that are built. The expected bytes were computed without this crate, by the rules of RFC 791, RFC 8200 and RFC 1071.
 
 use crate::expect::{bytes_from, bytes_to, expect_equal, expect_ok, expect_some, expect_text};
 use etherparse_transport::err::packet::BuildSliceWriteError;

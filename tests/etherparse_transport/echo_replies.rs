@@ -1,4 +1,4 @@
-//! Replies to echo requests. The bytes were computed apart from this crate, by RFC 791, RFC 792, RFC 8200, RFC 4443 and RFC 1071.
+//! Replies to echo requests. The bytes were computed without this crate, by the rules of RFC 791, RFC 792, RFC 8200, RFC 4443 and RFC 1071.
 
 use crate::expect::{expect_equal, expect_ok, expect_some, expect_text};
 use etherparse_transport::LenSource;

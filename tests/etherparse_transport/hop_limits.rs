@@ -1,4 +1,4 @@
-//! Lowered hop limits. The bytes were computed apart from this crate, by RFC 791, RFC 1071 and RFC 8200.
+//! Lowered hop limits. The bytes were computed without this crate, by the rules of RFC 791, RFC 1071 and RFC 8200.
 
 use crate::expect::{expect_bytes, expect_equal, expect_some, expect_text};
 use etherparse_transport::Ipv4HeaderSlice;

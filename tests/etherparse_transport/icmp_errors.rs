@@ -1,4 +1,5 @@
-//! ICMP errors about packets. The bytes were computed apart from this crate, by RFC 792, RFC 4443, RFC 791, RFC 8200 and RFC 1071.
+//! ICMP errors about packets. The bytes were computed without this crate, by the rules of RFC 792, RFC 4443, RFC 791, RFC 8200 and RFC
+//! 1071.
 
 use crate::expect::{expect_bytes, expect_equal, expect_ok, expect_some, expect_text};
 use etherparse_transport::err::packet::ErrorAboutError;

@@ -1,5 +1,5 @@
-//! Tests whether packets are replies to echo requests. The bytes were computed apart from this crate, by RFC 791, RFC 792, RFC 8200, RFC
-//! 4443 and RFC 1071.
+//! Tests whether packets are replies to echo requests. The bytes were computed without this crate, by the rules of RFC 791, RFC 792, RFC
+//! 8200, RFC 4443 and RFC 1071.
 
 use crate::expect::expect_equal;
 use etherparse_transport::ip::{is_reply_from_any, is_reply_to};

@@ -1,6 +1,10 @@
-//! Writes the canonical headers of packets with every small length, length field and data offset, and with every type and code. Compares
-//! the results with plain functions. These functions were written from the format tables, not from the library. Each result is also read
-//! again, and must not change.
+//! Tests the canonical headers of these packets:
+//! - UDP packets with every length up to 12 bytes, and every length field up to 13.
+//! - TCP segments with every length up to 60 bytes, and every data offset. Segments with every accepted value of byte 12.
+//! - ICMP messages with every type and code.
+//!
+//! The results are compared with plain functions, which were written from the format tables, not from the library. Each canonical header is
+//! read again, and must not change.
 
 use super::len_error;
 use crate::expect::{
@@ -53,7 +57,7 @@ fn at(bytes: &[u8], place: usize) -> u8 {
     if place < bytes.len() { bytes[place] } else { 0 }
 }
 
-/// Returns the kept bits of the byte at this place, in a header that begins with these two bytes.
+/// Returns the bits that a canonical header keeps of the byte at this place. `first` and `second` are the first two bytes of the header.
 fn mask(protocol: Proto, first: u8, second: u8, place: usize) -> u8 {
     match (protocol, first, second, place) {
         (Proto::Udp, _, _, _) => 0xFF,
@@ -102,7 +106,7 @@ fn expect_accepted(rt: &impl Abort, protocol: Proto, bytes: &[u8], header_len: u
     }
 }
 
-/// Tests that the result is as long as the header of the packet, and that each byte contains exactly the kept bits of the packet.
+/// Tests that the canonical header is as long as the header of the packet, and that each byte contains exactly the kept bits.
 fn expect_kept(rt: &impl Abort, protocol: Proto, front: &[u8], header: &[u8]) {
     expect_at(rt, &(protocol, front), &header.len(), &front.len());
     let (first, second) = (at(front, 0), at(front, 1));
@@ -116,7 +120,7 @@ fn expect_kept(rt: &impl Abort, protocol: Proto, front: &[u8], header: &[u8]) {
     }
 }
 
-/// Returns the first part and then the second.
+/// Returns the first part, followed by the second part.
 fn joined(rt: &impl Abort, first: &[u8], second: &[u8]) -> ArrayVec<u8, 60> {
     let mut whole = ArrayVec::new();
     expect_ok(rt, whole.try_extend_from_slice(first));

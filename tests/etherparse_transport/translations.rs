@@ -1,5 +1,5 @@
-//! Translated packets. The rows were computed apart from this crate: each packet was built from its fields, and the translated packet from
-//! the translated fields. All checksums were computed each time (RFC 1071).
+//! Translated packets. The rows were computed without this crate: each packet was built from its fields, and the translated packet from the
+//! translated fields. All checksums were computed anew (RFC 1071).
 
 mod ipv4;
 mod ipv6;

@@ -1,4 +1,4 @@
-//! A header of any of the four protocols. The checksums were computed apart from this crate, by RFC 1071.
+//! A header of any of the four protocols. The checksums were computed without this crate, by the rules of RFC 1071.
 
 use crate::expect::{bytes_from, expect_equal, expect_ok, expect_some, expect_text};
 use etherparse_transport::err::packet::TransportChecksumError;

@@ -1,4 +1,5 @@
-//! Writes the right checksum into packets. The bytes were computed apart from this crate, by RFC 768, RFC 791, RFC 8200 and RFC 1071.
+//! Writes the right checksum into packets. The bytes were computed without this crate, by the rules of RFC 768, RFC 791, RFC 8200 and RFC
+//! 1071.
 
 use crate::expect::{expect_equal, expect_ok, expect_some, expect_text};
 use etherparse_transport::err::packet::WriteChecksumError;

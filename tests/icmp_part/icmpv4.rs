@@ -10,8 +10,8 @@ use std::fmt::Debug;
 use std::hash::{Hash, Hasher};
 use std::process::Abort;
 
-/// A type, a code, the debug text of the kind that is listed for them in a packet whose bytes from 4 on are 1, 2, 3 and so on, and
-/// which of the first four of these the kind keeps.
+/// A type, a code, the debug text of the listed kind with this type and code, and the bytes 4 to 7 that this kind keeps. The bytes of the
+/// packet from byte 4 on are 1, 2, 3 and so on.
 type Row = (u8, u8, &'static str, [u8; 4]);
 
 #[rattlefmt::skip]
@@ -47,7 +47,7 @@ static LISTED: [Row; 29] = [
     (14, 0, "TimestampReply(TimestampMessage { id: 258, seq: 772, originate_timestamp: 84281096, receive_timestamp: 151653132, transmit_timestamp: 219025168 })", [1, 2, 3, 4]),
 ];
 
-/// The row of a type and code. The loop makes no calls, which take most of the time of a checked build.
+/// Returns the row of a type and code. The loop makes no calls, since calls take most of the time in a checked build.
 fn listed(type_u8: u8, code_u8: u8) -> Option<&'static Row> {
     let mut place = 0;
     while place < LISTED.len() {
@@ -60,7 +60,7 @@ fn listed(type_u8: u8, code_u8: u8) -> Option<&'static Row> {
     None
 }
 
-/// The text of the row of a type and code, or an empty text if there is no row.
+/// Returns the text of the row of a type and code, or an empty text if there is no row.
 fn text_of(type_u8: u8, code_u8: u8) -> &'static str {
     listed(type_u8, code_u8).map_or("", |row| row.2)
 }
@@ -146,7 +146,7 @@ fn an_echo_request_is_read_and_replied_to(rt: HostRuntime) {
     );
 }
 
-/// A packet, its kind, and the bytes that its header is written as.
+/// A packet, its kind, and the bytes of its written header.
 #[rattlefmt::skip]
 static READ: [([u8; 8], Icmpv4Type, [u8; 8]); 5] = [
     (
@@ -202,7 +202,7 @@ fn headers_are_read_and_written(rt: HostRuntime) {
     }
 }
 
-/// The header is written to a slice of this length, or the slice stays as it was.
+/// Tests that the header is written to a slice of this length. If the slice is too short, it is unchanged.
 fn expect_in_slice(rt: &impl Abort, header: &Icmpv4Header, bytes: &[u8], len: usize) {
     let mut buffer = [0xAA; 21];
     let written = header.write_to_slice(expect_some(rt, buffer.get_mut(..len)));
@@ -375,11 +375,11 @@ static VALIDITY: [(&[u8], bool); 13] = [
     (&[8, 0, 0xF6, 0xFC, 0, 1, 0, 2, 3], false),
     (&[0, 0, 0xFF, 0xFF, 0, 0, 0, 0], true),
     (&[0, 0, 0, 0, 0, 0, 0, 0], false),
-    // The checksum is 0, and FFFF is accepted in its place.
+    // The checksum is 0, and FFFF is accepted instead of 0.
     (&[0, 0, 0, 0, 0xFF, 0xFF, 0, 0], true),
     (&[0, 0, 0xFF, 0xFF, 0xFF, 0xFF, 0, 0], true),
     (&[0, 0, 0, 1, 0xFF, 0xFF, 0, 0], false),
-    // Bytes 4 to 7 are unused, and are summed as they came.
+    // Bytes 4 to 7 are unused, and are summed as received.
     (&[3, 1, 0xDA, 0xC2, 0x12, 0x34, 0, 0, 7, 8, 9], true),
     (&[13, 0, 0xF2, 0xF0, 0, 1, 0, 2, 0, 0, 0, 3, 0, 0, 0, 4, 0, 0, 0, 5], true),
     (&[13, 0, 0xF2, 0xF0, 0, 1, 0, 2, 0, 0, 0, 3, 0, 0, 0, 4, 0, 0, 0, 4], false),
@@ -439,10 +439,10 @@ fn slices_give_their_parts(rt: HostRuntime) {
     );
 }
 
-/// How many are listed, not listed, and refused.
+/// The numbers of types and codes that are listed, not listed, and refused.
 type Counts = (usize, usize, usize);
 
-/// How a type and code are read.
+/// The result of reading a packet with a type and code.
 #[derive(Clone, Copy)]
 enum Outcome {
     Listed,
@@ -472,7 +472,7 @@ fn timestamp_layer(type_u8: u8) -> Layer {
     }
 }
 
-/// The kind is the unknown one of this type and code, with bytes 4 to 7.
+/// Tests that the kind is unknown, and contains this type, this code, and bytes 4 to 7.
 fn expect_unknown(rt: &impl Abort, icmp_type: &Icmpv4Type, type_u8: u8, code_u8: u8) {
     let is_expected = match icmp_type {
         Icmpv4Type::Unknown {
@@ -489,8 +489,8 @@ fn expect_unknown(rt: &impl Abort, icmp_type: &Icmpv4Type, type_u8: u8, code_u8:
     }
 }
 
-/// The kind is that of the row of this type and code, or the unknown one with these bytes 4 to 7. Returns how it is read, and what it keeps
-/// of the four bytes.
+/// Tests that the kind is listed in the row of this type and code, or is unknown if there is no row. Returns which of these it is, and the
+/// kept bits of bytes 4 to 7.
 fn expect_kind(
     rt: &(impl Abort + AllocGlobal),
     icmp_type: &Icmpv4Type,
@@ -509,7 +509,7 @@ fn expect_kind(
     }
 }
 
-/// The first `len` bytes of a packet with this type and code are a header and the bytes after it.
+/// Tests the first `len` bytes of a packet with this type and code. They are read as a header and the bytes after it.
 fn expect_front(rt: &(impl Abort + AllocGlobal), type_u8: u8, code_u8: u8, len: usize) -> Outcome {
     let mut packet = [
         type_u8, code_u8, 0x12, 0x34, 1, 2, 3, 4, 5, 6, 7, 8, 9, 10, 11, 12, 13, 14, 15, 16, 17,
@@ -528,7 +528,7 @@ fn expect_front(rt: &(impl Abort + AllocGlobal), type_u8: u8, code_u8: u8, len: 
     outcome
 }
 
-/// The first `len` bytes of a timestamp of this type are refused.
+/// Tests that the first `len` bytes of a timestamp message of this type are refused.
 fn expect_refused_timestamp(rt: &impl Abort, type_u8: u8, len: usize) -> Outcome {
     let packet = [
         type_u8, 0, 0x12, 0x34, 1, 2, 3, 4, 5, 6, 7, 8, 9, 10, 11, 12, 13, 14, 15, 16, 17,
@@ -552,7 +552,7 @@ fn expect_read_or_refused(
     }
 }
 
-/// A length, and how many types and codes are listed, not listed, and refused.
+/// A length, and the numbers of types and codes that are listed, not listed, and refused.
 #[rattlefmt::skip]
 static ALL_KINDS: [(usize, Counts); 3] = [(8, (27, 65507, 2)), (20, (29, 65507, 0)), (21, (27, 65507, 2))];
 
@@ -569,7 +569,7 @@ fn every_type_and_code_is_read(rt: HostRuntime) {
     }
 }
 
-/// What a timestamp of this type is read as if bytes 4 to 7 are 01 02 03 04, and its times are 0.
+/// Returns the kind of a timestamp message of this type, if bytes 4 to 7 are 01 02 03 04, and its times are 0.
 fn timestamp(type_u8: u8) -> Icmpv4Type {
     let message = TimestampMessage {
         id: 0x0102,
@@ -585,14 +585,14 @@ fn timestamp(type_u8: u8) -> Icmpv4Type {
     }
 }
 
-/// The header with this type and code in bytes, and twelve zeros after it.
+/// Returns the bytes of the header with this type and code, and twelve zeros after it.
 fn raw_packet(type_u8: u8, code_u8: u8) -> [u8; 20] {
     [
         type_u8, code_u8, 0x12, 0x34, 1, 2, 3, 4, 0, 0, 0, 0, 0, 0, 0, 0, 0, 0, 0, 0,
     ]
 }
 
-/// The raw header is read back from its bytes and the zeros as the kind of its type and code.
+/// Tests that the raw header is read back as the kind of its type and code. Zeros follow the bytes of the header.
 fn expect_raw_kind(
     rt: &(impl Abort + AllocGlobal),
     raw: &Icmpv4Header,
@@ -616,7 +616,7 @@ fn expect_raw_kind(
     outcome
 }
 
-/// The raw header of this type and code is written, and its bytes with zeros after them are read or refused.
+/// Writes the raw header of this type and code. Tests whether its bytes, followed by zeros, are read or refused.
 fn expect_raw(rt: &(impl Abort + AllocGlobal), type_u8: u8, code_u8: u8, zeros: usize) -> Outcome {
     let raw = Icmpv4Header {
         icmp_type: unknown(type_u8, code_u8, [1, 2, 3, 4]),
@@ -637,7 +637,7 @@ fn expect_raw(rt: &(impl Abort + AllocGlobal), type_u8: u8, code_u8: u8, zeros: 
     Outcome::Refused
 }
 
-/// How many zeros come after the 8 bytes written, and how many are read as a listed kind, read as they were, and refused.
+/// The number of zeros after the 8 written bytes, and the numbers of headers that are read as a listed kind, read unchanged, and refused.
 static ALL_RAW: [(usize, Counts); 2] = [(0, (27, 65507, 2)), (12, (29, 65507, 0))];
 
 #[test]
@@ -653,7 +653,7 @@ fn every_raw_header_is_read_by_type_and_code(rt: HostRuntime) {
     }
 }
 
-/// The value between the texts is shown as in the row of this type and code. There is none if there is no row.
+/// Tests that the value between the texts is shown as in the row of this type and code. If there is no row, there is no value.
 fn expect_listed<T: Debug>(
     rt: &(impl Abort + AllocGlobal),
     key: (u8, u8),
@@ -668,7 +668,7 @@ fn expect_listed<T: Debug>(
     expect_equal(rt, &text.as_str(), &text_of(key.0, key.1));
 }
 
-/// The code of a value that was made of this code.
+/// Tests that a value that was made from this code has the same code.
 fn expect_code(rt: &impl Abort, found: Option<u8>, code_u8: u8) {
     expect_equal(rt, &found.unwrap_or(code_u8), &code_u8);
 }
@@ -796,7 +796,7 @@ static CLONED: [Icmpv4Type; 9] = [
     }),
 ];
 
-/// A clone of the kind is the same, also in a header.
+/// Tests that a clone of the kind equals the kind, also in a header.
 fn expect_cloned_kind(rt: &impl Abort, icmp_type: &Icmpv4Type) {
     let header = Icmpv4Header {
         icmp_type: expect_ok(rt, icmp_type.clone()),
@@ -844,7 +844,7 @@ static IN_ORDER: [IcmpEchoHeader; 4] = [
     IcmpEchoHeader { id: 0, seq: 0 }, IcmpEchoHeader { id: 0, seq: 9 }, IcmpEchoHeader { id: 1, seq: 2 }, IcmpEchoHeader { id: 2, seq: 1 },
 ];
 
-/// The headers compare as their places do.
+/// Tests that the order of the headers is the order of their places.
 fn expect_order(
     rt: &impl Abort,
     places: (usize, usize),
@@ -873,7 +873,7 @@ fn echo_headers_are_ordered_and_hashed(rt: HostRuntime) {
     }
 }
 
-/// Whether each value is equal only to itself.
+/// Returns whether each value equals only itself.
 fn differ<T: PartialEq>(values: &[T]) -> bool {
     for (place, value) in values.iter().enumerate() {
         for (other_place, other) in values.iter().enumerate() {

@@ -12,8 +12,8 @@ use std::process::Abort;
 
 static ZEROS: [u8; 16] = [0; 16];
 
-/// A type, a code, the debug text of the kind that is listed for them in a packet whose bytes 4 to 7 are A1 A2 A3 A4, and what
-/// the kind keeps of these.
+/// A type, a code, the debug text of the listed kind with this type and code, and the bytes 4 to 7 that this kind keeps. Bytes 4 to 7 of
+/// the packet are A1 A2 A3 A4.
 type Row = (u8, u8, &'static str, [u8; 4]);
 
 #[rattlefmt::skip]
@@ -48,7 +48,7 @@ static LISTED: [Row; 28] = [
     (136, 0, "NeighborAdvertisement(NeighborAdvertisementHeader { router: true, solicited: false, override_flag: true })", [0xA0, 0, 0, 0]),
 ];
 
-/// The row of a type and code. The loop makes no calls, which take most of the time of a checked build.
+/// Returns the row of a type and code. The loop makes no calls, since calls take most of the time in a checked build.
 fn listed(type_u8: u8, code_u8: u8) -> Option<&'static Row> {
     let mut place = 0;
     while place < LISTED.len() {
@@ -61,7 +61,7 @@ fn listed(type_u8: u8, code_u8: u8) -> Option<&'static Row> {
     None
 }
 
-/// The text of the row of a type and code, or an empty text if there is no row.
+/// Returns the text of the row of a type and code, or an empty text if there is no row.
 fn text_of(type_u8: u8, code_u8: u8) -> &'static str {
     listed(type_u8, code_u8).map_or("", |row| row.2)
 }
@@ -146,7 +146,7 @@ fn too_short(required_len: usize, len: usize) -> LenError {
 fn an_echo_request_is_read_and_replied_to(rt: HostRuntime) {
     let source = [0x20, 0x01, 0x0D, 0xB8, 0, 0, 0, 0, 0, 0, 0, 0, 0, 0, 0, 1];
     let destination = [0x20, 0x01, 0x0D, 0xB8, 0, 0, 0, 0, 0, 0, 0, 0, 0, 0, 0, 2];
-    // What the payload length of the IPv6 header counts after it: an echo request.
+    // The bytes that the payload length of an IPv6 header counts: an echo request.
     let captured = [
         0x80, 0x00, 0x45, 0x70, 0x00, 0x01, 0x00, 0x02, b'p', b'i', b'n', b'g',
     ];
@@ -163,7 +163,7 @@ fn an_echo_request_is_read_and_replied_to(rt: HostRuntime) {
     );
 }
 
-/// A packet, its kind, and the bytes that its header is written as.
+/// A packet, its kind, and the bytes of its written header.
 #[rattlefmt::skip]
 static READ: [([u8; 8], Icmpv6Type, [u8; 8]); 11] = [
     (
@@ -234,7 +234,7 @@ fn headers_are_read_and_written(rt: HostRuntime) {
     }
 }
 
-/// The header of this kind is written as these bytes, which are read as the other kind.
+/// Tests that the header of this kind is written as these bytes, and that the bytes are read as the other kind.
 fn expect_router_message(
     rt: &impl Abort,
     icmp_type: Icmpv6Type,
@@ -277,7 +277,7 @@ fn router_messages_are_written_and_read_back(rt: HostRuntime) {
     );
 }
 
-/// The header is written to a slice of this length, or the slice stays as it was.
+/// Tests that the header is written to a slice of this length. If the slice is too short, it is unchanged.
 fn expect_in_slice(rt: &impl Abort, header: &Icmpv6Header, bytes: &[u8], len: usize) {
     let mut buffer = [0xAA; 21];
     let written = header.write_to_slice(expect_some(rt, buffer.get_mut(..len)));
@@ -336,7 +336,7 @@ static SUMMED: [(Icmpv6Type, &[u8], &[u8]); 4] = [
 /// The addresses of a packet.
 type Pair = ([u8; 16], [u8; 16]);
 
-/// The packet is the header with its checksum and the payload, and is valid.
+/// Tests that the packet consists of the header with its checksum and the payload, and that the packet is valid.
 fn expect_stored(
     rt: &impl Abort,
     icmp_type: Icmpv6Type,
@@ -485,7 +485,7 @@ fn slices_give_their_parts(rt: HostRuntime) {
     );
 }
 
-/// The kind is the unknown one of this type and code, with these bytes 4 to 7.
+/// Tests that the kind is unknown, and contains this type, this code, and these bytes 4 to 7.
 fn expect_unknown(
     rt: &impl Abort,
     icmp_type: &Icmpv6Type,
@@ -506,8 +506,8 @@ fn expect_unknown(
     }
 }
 
-/// The kind is that of the row of this type and code, or the unknown one. Returns whether there is a row, and what the kind keeps of
-/// bytes 4 to 7.
+/// Tests that the kind is listed in the row of this type and code, or is unknown if there is no row. Returns whether there is a row, and
+/// the kept bits of bytes 4 to 7.
 fn expect_kind(
     rt: &(impl Abort + AllocGlobal),
     icmp_type: &Icmpv6Type,
@@ -527,7 +527,8 @@ fn expect_kind(
     }
 }
 
-/// The packet of this type and code is read, and written with what its kind keeps. Returns whether it is listed.
+/// Reads the packet of this type and code. Tests that the header is written with the bits that its kind keeps. Returns whether the kind is
+/// listed.
 fn expect_packet(rt: &(impl Abort + AllocGlobal), type_u8: u8, code_u8: u8) -> bool {
     let mut bytes = [type_u8, code_u8, 0x12, 0x34, 0xA1, 0xA2, 0xA3, 0xA4];
     let (header, rest) = header_of(rt, &bytes);
@@ -540,7 +541,7 @@ fn expect_packet(rt: &(impl Abort + AllocGlobal), type_u8: u8, code_u8: u8) -> b
     is_listed
 }
 
-/// How many types and codes are listed, and how many are not.
+/// Returns the numbers of types and codes that are listed and that are not listed, after one more type and code.
 fn counted(counts: (usize, usize), is_listed: bool) -> (usize, usize) {
     let (all_listed, all_unknown) = counts;
     if is_listed {
@@ -587,7 +588,7 @@ static PROBLEMS: [ParameterProblemCode; 11] = [
     ParameterProblemCode::OptionTooBig,
 ];
 
-/// The kind of this type and code if bytes 4 to 7 are 01 02 03 04, or None if there is none.
+/// Returns the kind of this type and code if bytes 4 to 7 are 01 02 03 04. It is `None` if no kind has this type and code.
 fn kind_of(type_u8: u8, code_u8: u8) -> Option<Icmpv6Type> {
     let echo = IcmpEchoHeader {
         id: 0x0102,
@@ -626,7 +627,8 @@ fn kind_of(type_u8: u8, code_u8: u8) -> Option<Icmpv6Type> {
     }
 }
 
-/// The raw header of this type and code is written, and is read back as the kind of these, or as it was. Returns whether there is a kind.
+/// Writes the raw header of this type and code. Tests that it is read back as the kind with this type and code, or unchanged if there is no
+/// kind. Returns whether there is a kind.
 fn expect_raw(rt: &impl Abort, type_u8: u8, code_u8: u8) -> bool {
     let raw = Icmpv6Header {
         icmp_type: unknown(type_u8, code_u8, [1, 2, 3, 4]),
@@ -652,7 +654,7 @@ fn every_raw_header_is_read_by_type_and_code(rt: HostRuntime) {
     expect_equal(&rt, &counts, &(28, 65508));
 }
 
-/// The value between the texts is shown as in the row of this type and code. There is none if there is no row.
+/// Tests that the value between the texts is shown as in the row of this type and code. If there is no row, there is no value.
 fn expect_listed<T: Debug>(
     rt: &(impl Abort + AllocGlobal),
     key: (u8, u8),
@@ -666,7 +668,7 @@ fn expect_listed<T: Debug>(
     expect_equal(rt, &text.as_str(), &text_of(key.0, key.1));
 }
 
-/// The code of a value that was made of this code.
+/// Tests that a value that was made from this code has the same code.
 fn expect_code(rt: &impl Abort, found: Option<u8>, code_u8: u8) {
     expect_equal(rt, &found.unwrap_or(code_u8), &code_u8);
 }
@@ -774,7 +776,7 @@ fn hash_of<T: Hash>(value: &T) -> u64 {
     hasher.finish()
 }
 
-/// A clone of the kind is the same, and has its hash, also in a header.
+/// Tests that a clone of the kind equals the kind, and has the same hash, also in a header.
 fn expect_cloned_kind(rt: &impl Abort, icmp_type: &Icmpv6Type) {
     let copy = expect_ok(rt, icmp_type.clone());
     expect_equal(rt, &copy, icmp_type);
@@ -804,7 +806,7 @@ fn clones_are_equal(rt: HostRuntime) {
     );
 }
 
-/// Whether each value is less than those after it, and has a hash of its own.
+/// Returns whether each value is less than all later values, and whether all hashes differ.
 fn rises<T: Ord + Hash>(values: &[T]) -> bool {
     for (place, value) in values.iter().enumerate() {
         for (other_place, other) in values.iter().enumerate() {

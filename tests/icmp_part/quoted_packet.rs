@@ -4,18 +4,18 @@ use crate::expect::{bytes_from, bytes_to, expect_equal, expect_ok};
 use etherparse_transport::{Icmpv4Slice, Icmpv6Slice};
 use std::process::Abort;
 
-/// The values of a length field that are tried, and the numbers of bytes after the header.
+/// The tested values of the length field, and the tested numbers of bytes after the header.
 static FIELDS: [u8; 8] = [0, 1, 15, 16, 17, 31, 32, 255];
 
 static LENGTHS: [usize; 6] = [0, 1, 8, 127, 128, 140];
 
-/// The length of the quoted packet, in units of this many bytes, of `len` bytes after the header.
+/// Returns the length of the quoted packet. `len` bytes follow the header, and the length field counts units of `unit` bytes.
 fn counted(field: u8, unit: usize, len: usize) -> usize {
     let counted = usize::from(field).saturating_mul(unit);
     if counted < 128 { len } else { len.min(counted) }
 }
 
-/// The length of the packet that this ICMPv4 message quotes, if it is an error.
+/// Returns the length of the packet that an ICMPv4 message quotes, or `None` if the message is not an error.
 fn icmpv4_len(type_u8: u8, field: u8, len: usize) -> Option<usize> {
     match type_u8 {
         3 | 11 | 12 => Some(counted(field, 4, len)),
@@ -24,7 +24,7 @@ fn icmpv4_len(type_u8: u8, field: u8, len: usize) -> Option<usize> {
     }
 }
 
-/// The length of the packet that this ICMPv6 message quotes, if it is an error.
+/// Returns the length of the packet that an ICMPv6 message quotes, or `None` if the message is not an error.
 fn icmpv6_len(type_u8: u8, field: u8, len: usize) -> Option<usize> {
     match type_u8 {
         1 | 3 => Some(counted(field, 8, len)),
@@ -33,7 +33,7 @@ fn icmpv6_len(type_u8: u8, field: u8, len: usize) -> Option<usize> {
     }
 }
 
-/// A message of this type, with this byte at this place, and with bytes that differ from place to place after the header.
+/// Returns a message of this type with this length field at this place. The bytes after the header differ from each other.
 fn message(type_u8: u8, place: usize, field: u8) -> [u8; 148] {
     let mut bytes = [0; 148];
     for (place, byte) in bytes.iter_mut().enumerate() {
@@ -47,7 +47,7 @@ fn message(type_u8: u8, place: usize, field: u8) -> [u8; 148] {
     bytes
 }
 
-/// Whether this is a timestamp message, which has 20 bytes.
+/// Returns whether a message of this type is a timestamp message, which has 20 bytes.
 fn is_timestamp(type_u8: u8) -> bool {
     type_u8 == 13 || type_u8 == 14
 }
@@ -88,6 +88,6 @@ fn errors_quote_what_their_length_field_counts(rt: HostRuntime) {
             }
         }
     }
-    // Five types of ICMPv4 and 128 of ICMPv6, with each length field and each length.
+    // Five types of ICMPv4 and 128 types of ICMPv6, with each length field and each length.
     expect_equal(&rt, &counts, &(240, 6_144));
 }

@@ -1,12 +1,12 @@
-//! Reads IPv4 packets with every header length and small total length, and IPv6 packets with every chain of up to three extension headers.
-//! Compares the results with plain functions. These functions were written from the format tables, not from the library.
+//! Reads IPv4 packets with every header length and every total length up to 70, and IPv6 packets with every chain of up to three extension
+//! headers. The results are compared with plain functions, which were written from the format tables, not from the library.
 
 use crate::expect::{bytes_between, bytes_from, bytes_to, expect_bytes, expect_equal, expect_ok};
 use etherparse_transport::IpNumber;
 use etherparse_transport::ip::{IpError, transport_in_ip, transport_in_ip_lax};
 use std::process::Abort;
 
-/// Returns the start and the end of the payload of an IPv4 packet. It depends on the number of words in the header, the total length, and
+/// Returns the start and the end of the payload of an IPv4 packet, or the error. `words` is the number of words in the header, and `len` is
 /// the number of bytes that are present.
 fn ipv4_payload(words: usize, total_len: usize, len: usize) -> Result<(usize, usize), IpError> {
     let header_len = words.saturating_mul(4);
@@ -38,7 +38,8 @@ fn ipv4_payload(words: usize, total_len: usize, len: usize) -> Result<(usize, us
     Ok((header_len, total_len))
 }
 
-/// The payloads that the strict and the lax call return for an IPv4 packet.
+/// The results of the strict and the lax call for an IPv4 packet. Both calls accept it, both refuse it, or only the lax call accepts it. In
+/// the last case it is cut off, or states no length.
 enum Outcome {
     Accepted,
     CutOff,
@@ -131,7 +132,7 @@ fn header(number: u8, length_byte: u8, len: usize) -> Extension {
     }
 }
 
-/// All kinds of extension headers, of 8 and of 16 bytes.
+/// Returns extension headers of all kinds, with 8 and with 16 bytes.
 fn kinds() -> [Extension; 12] {
     [
         header(0, 0, 8),

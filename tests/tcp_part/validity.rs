@@ -1,4 +1,4 @@
-//! Whether the checksum of a received segment is right. The checksums were computed apart from this crate, by RFC 1071.
+//! Whether the checksum of a received segment is right. The checksums were computed without this crate, by the rules of RFC 1071.
 
 use crate::expect::{bytes_to, expect_equal, expect_ok};
 use etherparse_transport::TcpHeaderSlice;

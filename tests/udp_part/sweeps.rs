@@ -1,5 +1,5 @@
-//! Reads UDP packets of every small length with every small length field. Compares the results with plain functions. These functions were
-//! written from the format tables, not from the library.
+//! Reads UDP packets of every length up to 12 bytes, with every length field up to 13. The results are compared with plain functions, which
+//! were written from the format tables, not from the library.
 
 use super::len_error;
 use crate::expect::{
@@ -14,7 +14,7 @@ fn short(len: usize) -> LenError {
     len_error(8, len, LenSource::Slice, Layer::UdpHeader)
 }
 
-/// Returns how many of `len` bytes a strict slice keeps under this length field. The first 8 bytes are the header.
+/// Returns how many of `len` bytes the strict call keeps if the length field is `length`. There are at least the 8 bytes of the header.
 fn kept_by_strict(len: usize, length: u8) -> Result<usize, LenError> {
     let field = usize::from(length);
     if field > len {
@@ -27,7 +27,7 @@ fn kept_by_strict(len: usize, length: u8) -> Result<usize, LenError> {
     }
 }
 
-/// Returns how many of `len` bytes a lax slice keeps under this length field. The first 8 bytes are the header.
+/// Returns how many of `len` bytes the lax call keeps if the length field is `length`. There are at least the 8 bytes of the header.
 fn kept_by_lax(len: usize, length: u8) -> usize {
     let field = usize::from(length);
     if (8..=len).contains(&field) {
@@ -42,12 +42,12 @@ fn packet(length: u8) -> [u8; 12] {
     [11, 12, 13, 14, 0, length, 17, 18, 19, 20, 21, 22]
 }
 
-/// Tests that the call returned this error. The key is the length field and the length.
+/// Tests that the call returned this error. The key consists of the length field and the length of the slice.
 fn expect_error(rt: &impl Abort, key: &(u8, usize), error: Option<LenError>, expected: &LenError) {
     expect_at(rt, key, &expect_some(rt, error), expected);
 }
 
-/// Tests that each of the five calls refuses these bytes, which are fewer than a header has.
+/// Tests that each of the five calls refuses these bytes, which are shorter than a header.
 fn expect_short(rt: &impl Abort, slice: &[u8]) {
     let key = &(8, slice.len());
     let expected = &short(slice.len());
@@ -69,13 +69,13 @@ fn every_length_below_the_header_is_refused(rt: HostRuntime) {
     expect_equal(&rt, &refused, &8);
 }
 
-/// Tests that the strict slice keeps this many bytes.
+/// Tests that the strict call keeps this many bytes.
 fn expect_kept(rt: &impl Abort, slice: &[u8], kept: usize) {
     let strict = expect_ok(rt, UdpSlice::from_slice(slice));
     expect_bytes(rt, strict.slice(), bytes_to(rt, slice, kept));
 }
 
-/// Reads the packet by the strict call. Returns the expected result: the number of kept bytes, or the error.
+/// Tests the strict call. Returns the expected result: the number of kept bytes, or the error.
 fn expect_strict(rt: &impl Abort, slice: &[u8], length: u8) -> Result<usize, LenError> {
     let expected = kept_by_strict(slice.len(), length);
     match &expected {
@@ -88,7 +88,7 @@ fn expect_strict(rt: &impl Abort, slice: &[u8], length: u8) -> Result<usize, Len
     expected
 }
 
-/// Tests that the lax slice keeps the bytes that the length field counts, or all bytes.
+/// Tests that the lax call keeps the bytes that the length field counts. If the length field is invalid, the call keeps all bytes.
 fn expect_lax(rt: &impl Abort, slice: &[u8], length: u8) {
     let kept = kept_by_lax(slice.len(), length);
     let front = bytes_to(rt, slice, kept);
@@ -103,7 +103,7 @@ fn expect_lax(rt: &impl Abort, slice: &[u8], length: u8) {
     expect_equal(rt, &lax.payload_len_source(), &source);
 }
 
-/// Tests that the header is the same for every length field.
+/// Tests that the header contains the fields of `packet`, whatever the length field is.
 fn expect_header(rt: &impl Abort, slice: &[u8], length: u8) {
     let expected = UdpHeader {
         source_port: 0x0B0C,

@@ -68,7 +68,7 @@ fn words_are_summed(rt: HostRuntime) {
     }
 }
 
-/// Every length up to 400, so that slices have up to three blocks of 128 bytes, and every length after them.
+/// Slices of every length up to 400 bytes. They have up to three blocks of 128 bytes, and every possible number of bytes after the blocks.
 #[test]
 fn slices_of_every_length_are_summed(rt: HostRuntime) {
     let zeros = [0; 400];

@@ -12,7 +12,7 @@ fn words_sum(first: u16, second: u16) -> u16 {
     sum.wrapping_add(u16::from(carry))
 }
 
-/// RFC 1624, section 4, and the way back.
+/// The example in RFC 1624, section 4, and the reversed change.
 #[test]
 fn the_example_of_rfc_1624_is_updated(rt: HostRuntime) {
     let change = ChecksumChange::new().replace_2bytes([0x55, 0x55], [0x32, 0x85]);
@@ -27,7 +27,7 @@ fn the_example_of_rfc_1624_is_updated(rt: HostRuntime) {
     expect_equal(&rt, &updated_udp_checksum(0x0000, &old, &new), &0x0000);
 }
 
-/// Changes are equal if both sums are, whatever the words were.
+/// Changes are equal if both of their sums are equal, whatever words were replaced.
 #[test]
 fn changes_are_compared_by_their_sums(rt: HostRuntime) {
     let change = ChecksumChange::new().replace_4bytes([0, 1, 0, 2], [0, 3, 0, 4]);
@@ -54,7 +54,7 @@ fn changes_are_compared_by_their_sums(rt: HostRuntime) {
     expect_debug_text(&rt, &change, "ChecksumChange { removed: 3, added: 7 }");
 }
 
-/// One word, by RFC 1624, section 3, equation 3, in 16 bits.
+/// One word is updated by equation 3 of RFC 1624, section 3, in 16 bits.
 #[test]
 fn words_are_updated_by_the_equation(rt: HostRuntime) {
     let words = [
@@ -94,14 +94,14 @@ fn an_address_and_a_port_are_translated(rt: HostRuntime) {
         expect_equal(&rt, &change.apply_udp(0x677F), &0x50F5);
         expect_equal(&rt, &change.reversed().apply_udp(0x50F5), &0x677F);
     }
-    // The same of TCP, with another port.
+    // The same change of a TCP segment, but with another port.
     let change = ChecksumChange::new()
         .replace_4bytes([192, 168, 1, 1], [203, 0, 113, 7])
         .replace_2bytes([0xC3, 0x50], [0x30, 0x39]);
     expect_equal(&rt, &change.apply(0x3739), &0x4FF2);
 }
 
-/// A UDP packet over IPv6 whose source is translated, and that is translated to IPv4 as a whole.
+/// A UDP packet over IPv6. Its source is translated, and then the whole packet is translated to IPv4.
 #[test]
 fn ipv6_addresses_are_translated(rt: HostRuntime) {
     let source = [
@@ -126,7 +126,7 @@ fn ipv6_addresses_are_translated(rt: HostRuntime) {
     expect_equal(&rt, &to_ipv4.apply_udp(0xCA85), &0xA303);
 }
 
-/// A router makes 63 of the time to live 64, beside each protocol.
+/// A router lowers the time to live from 64 to 63. The protocol, which is in the same word, has every value.
 #[test]
 fn a_lowered_time_to_live_is_updated(rt: HostRuntime) {
     let header = |time_to_live, protocol| {
@@ -167,7 +167,7 @@ fn a_lowered_time_to_live_is_updated(rt: HostRuntime) {
     }
 }
 
-/// An ICMPv4 echo reply that is all zeros but for its identifier 1, which becomes 0: the case in which the update is wrong.
+/// An ICMPv4 echo reply that consists of zeros, except for its identifier 1. If the identifier becomes 0, the updated checksum is wrong.
 #[test]
 fn an_echo_reply_of_zeros_gets_zero(rt: HostRuntime) {
     let reply = |identifier| Sum16BitWords::new().add_slice(&[0, 0, 0, 0, 0, identifier, 0, 0]);
@@ -176,7 +176,7 @@ fn an_echo_reply_of_zeros_gets_zero(rt: HostRuntime) {
     expect_equal(&rt, &reply(0).ones_complement(), &0xFFFF);
 }
 
-/// No update can tell a packet that becomes all zeros from one that becomes a multiple of 65535.
+/// No update can distinguish a packet that becomes all zeros from a packet whose sum becomes another multiple of 65535.
 #[test]
 fn a_packet_of_zeros_gets_zero(rt: HostRuntime) {
     let one = Sum16BitWords::new().add_2bytes([0, 1]);
@@ -186,7 +186,7 @@ fn a_packet_of_zeros_gets_zero(rt: HostRuntime) {
     let change = ChecksumChange::new().replace_2bytes([0, 1], [0, 0]);
     expect_equal(&rt, &change.apply(0xFFFE), &0x0000);
     expect_equal(&rt, &change.apply_udp(0xFFFE), &0xFFFF);
-    // Where nothing is replaced, a stored 65535 becomes 0, which stands for the same.
+    // If nothing is replaced, a stored 65535 becomes 0, which means the same.
     expect_equal(&rt, &ChecksumChange::new().apply(0xFFFF), &0x0000);
     expect_equal(&rt, &ChecksumChange::new().apply(0xFFFE), &0xFFFE);
     expect_equal(&rt, &ChecksumChange::new().apply_udp(0xFFFF), &0xFFFF);

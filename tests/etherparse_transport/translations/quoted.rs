@@ -1,4 +1,5 @@
-//! ICMP errors from a router behind the translator. The address of the router has another mapping than the addresses of the quoted packet.
+//! ICMP errors from a router behind the translator. The translator maps the address of the router differently from the addresses of the
+//! quoted packet.
 
 use super::{Change, RIGHT, buffer_with, changed, expect_verdicts};
 use crate::expect::{expect_equal, expect_ok, expect_some};

@@ -1,5 +1,5 @@
-//! Options of every kind, known or not. There are worked rows, and a sweep over every kind and length byte, which is compared with a plain
-//! function.
+//! Options of every kind, known or unknown. Some rows contain bytes and items. Options with every kind and every length byte are compared
+//! with a plain function.
 
 use super::TcpOptionElement::{
     MaximumSegmentSize, Noop, SelectiveAcknowledgement, SelectiveAcknowledgementPermitted,
@@ -42,7 +42,8 @@ fn length_beyond_end(kind: u8, len: u8, available: usize) -> Item {
 /// The kind and value of an option, or a fault.
 type Row = Result<(u8, &'static [u8]), TcpRawOptionError>;
 
-/// Bytes, and the first and second item. Fast Open is kind 34, Multipath 30, and 254 is one of the two kinds for experiments.
+/// Option bytes, and their first and second item. Kind 34 is Fast Open, kind 30 is Multipath TCP, and kind 254 is one of the two kinds for
+/// experiments.
 #[rattlefmt::skip]
 static ITEMS: [(&[u8], Option<Row>, Option<Row>); 8] = [
     (&[0x22, 2], Some(Ok((34, &[]))), None),
@@ -55,7 +56,7 @@ static ITEMS: [(&[u8], Option<Row>, Option<Row>); 8] = [
     (&[], None, None),
 ];
 
-/// The item of a row.
+/// Returns the item of a row.
 fn item(rt: &impl Abort, row: &Option<Row>) -> Option<Item> {
     match row {
         Some(Ok((kind, value))) => Some(option(*kind, value)),
@@ -64,7 +65,7 @@ fn item(rt: &impl Abort, row: &Option<Row>) -> Option<Item> {
     }
 }
 
-/// The bytes have these two items, and no more.
+/// Tests that the bytes contain these two items and no other item.
 fn expect_items(
     rt: &impl Abort,
     bytes: &'static [u8],
@@ -79,12 +80,12 @@ fn expect_items(
     expect_bytes(rt, read.rest(), &[]);
 }
 
-/// The next item is this one, or the end.
+/// Tests that the next item is `expected`. If `expected` is `None`, no item is left.
 fn expect_item(rt: &impl Abort, read: &mut TcpRawOptionsIterator<'_>, expected: &Option<Item>) {
     expect_equal(rt, &read.next(), expected);
 }
 
-/// The next item is this option.
+/// Tests that the next item is this option.
 fn expect_option(
     rt: &impl Abort,
     read: &mut TcpRawOptionsIterator<'_>,
@@ -98,7 +99,7 @@ fn expect_row(rt: &impl Abort, row: &(&'static [u8], Option<Row>, Option<Row>)) 
     expect_items(rt, row.0, &item(rt, &row.1), &item(rt, &row.2));
 }
 
-/// Forty bytes of one kind are forty items.
+/// Tests that forty no-operation options are forty items.
 fn expect_forty_items(rt: &impl Abort, noops: &[u8; 40]) {
     let mut read = TcpRawOptionsIterator::from_slice(noops);
     for left in 0..40usize {
@@ -116,7 +117,7 @@ fn options_of_every_kind_are_read(rt: HostRuntime) {
     expect_forty_items(&rt, &[tcp_option::KIND_NOOP; 40]);
 }
 
-/// The items are a maximum segment size, Fast Open, a user timeout and a window scale, and then the end.
+/// Tests that the items are a maximum segment size, Fast Open, a user timeout and a window scale. Then the list ends.
 fn expect_known_and_unknown(rt: &impl Abort, options: TcpRawOptionsIterator<'_>) {
     let mut options = options;
     let read = &mut options;
@@ -128,7 +129,7 @@ fn expect_known_and_unknown(rt: &impl Abort, options: TcpRawOptionsIterator<'_>)
     expect_item(rt, read, &None);
 }
 
-/// The elements end at the unknown option.
+/// Tests that the list of elements ends with an error at the unknown option.
 fn expect_one_element(rt: &impl Abort, elements: TcpOptionsIterator<'_>) {
     let mut elements = elements;
     let size = TcpOptionElement::MaximumSegmentSize(1460);
@@ -150,7 +151,7 @@ fn an_unknown_option_hides_no_later_one(rt: HostRuntime) {
     expect_known_and_unknown(&rt, slice.raw_options_iterator());
 }
 
-/// The expected first item if `left` of the bytes `kind`, `len`, A0, 01, 00 and A3 are read.
+/// Returns the expected first item in the first `left` of the bytes `kind`, `len`, A0, 01, 00 and A3.
 fn first_item(kind: u8, len: u8, left: usize) -> Option<Item> {
     let item = match (kind, len, left) {
         (_, _, 0) | (0, _, _) => return None,
@@ -167,7 +168,7 @@ fn first_item(kind: u8, len: u8, left: usize) -> Option<Item> {
     Some(item)
 }
 
-/// How many of the bytes are read: a whole option, or all of them.
+/// Returns how many of the bytes are read: the bytes of a whole option, or all bytes.
 fn read_len(item: &Option<Item>, kind: u8, len: u8, left: usize) -> usize {
     match item {
         Some(Ok(_)) if kind == 1 => 1,
@@ -176,7 +177,7 @@ fn read_len(item: &Option<Item>, kind: u8, len: u8, left: usize) -> usize {
     }
 }
 
-/// How many ends, options and faults there were, with this item.
+/// Returns the counts of ends, options and faults after this item.
 fn counted(counts: (usize, usize, usize), item: &Option<Item>) -> (usize, usize, usize) {
     let (ends, options, faults) = counts;
     match item {
@@ -186,7 +187,7 @@ fn counted(counts: (usize, usize, usize), item: &Option<Item>) -> (usize, usize,
     }
 }
 
-/// Reads the first item of these bytes, and returns what is expected of it.
+/// Tests the first item in the first `left` bytes, and returns the expected item.
 fn expect_first_item(rt: &impl Abort, kind: u8, len: u8, left: usize) -> Option<Item> {
     let bytes = [kind, len, 0xA0, 1, 0, 0xA3];
     let slice = bytes_to(rt, &bytes, left);
@@ -211,7 +212,7 @@ fn every_kind_and_length_byte_is_read_or_refused(rt: HostRuntime) {
     expect_equal(&rt, &counts, &(67_072, 5_346, 386_334));
 }
 
-/// The numbers 1 to 8, each of 32 bits, and a byte more.
+/// The numbers 1 to 8 of 32 bits each, and one more byte.
 #[rattlefmt::skip]
 static NUMBERS: [u8; 33] = [
     0, 0, 0, 1, 0, 0, 0, 2, 0, 0, 0, 3, 0, 0, 0, 4, 0, 0, 0, 5, 0, 0, 0, 6, 0, 0, 0, 7, 0, 0, 0, 8, 0,
@@ -220,7 +221,7 @@ static NUMBERS: [u8; 33] = [
 /// More bytes than a length byte can count.
 static LONG: [u8; 300] = [0; 300];
 
-/// A kind, a value that is no element, and the error.
+/// A kind and a value that are not an element, and the error.
 #[rattlefmt::skip]
 static NO_ELEMENTS: [(u8, &[u8], TcpOptionReadError); 10] = [
     (2, &[0x05], UnexpectedSize { option_id: 2, size: 3 }),
@@ -265,7 +266,7 @@ fn expect_element(rt: &impl Abort, kind: u8, value: &[u8], expected: TcpOptionEl
     expect_at(rt, &key, &element, &Ok(expected));
 }
 
-/// The first `len` bytes of `NUMBERS` are the value of an option of kind 5, whose blocks after the first are `others`.
+/// Tests an option of kind 5, whose value is the first `len` bytes of `NUMBERS`. The blocks after the first block are `others`.
 fn expect_blocks(rt: &impl Abort, len: usize, others: [Option<(u32, u32)>; 3]) {
     let value = bytes_to(rt, &NUMBERS, len);
     expect_element(rt, 5, value, SelectiveAcknowledgement((1, 2), others));
@@ -290,14 +291,14 @@ fn elements_of_options_are_read_or_refused(rt: HostRuntime) {
     expect_no_elements_of(&rt, &LONG, &NO_ELEMENTS_OF_LONG);
 }
 
-/// The first bytes of the value are no element, for each row of a kind, a length and the error.
+/// Tests the rows of a kind, a length and an error. The first bytes of `value` with this length are not an element of this kind.
 fn expect_no_elements_of(rt: &impl Abort, value: &[u8], rows: &[(u8, usize, TcpOptionReadError)]) {
     for row in rows {
         expect_no_element(rt, row.0, bytes_to(rt, value, row.1), &row.2);
     }
 }
 
-/// Both iterators read the same element first, or none. Returns whether there is an element.
+/// Tests that both iterators read the same first element, or that neither reads an element. Returns whether there is an element.
 fn expect_same_element(rt: &impl Abort, kind: u8, len: u8) -> bool {
     let mut bytes = [0xA5; 35];
     bytes[0] = kind;
@@ -323,7 +324,7 @@ fn elements_of_options_are_those_of_the_other_iterator(rt: HostRuntime) {
             elements = elements.saturating_add(usize::from(expect_same_element(&rt, kind, len)));
         }
     }
-    // Kind 1 of each length byte, four lengths of kind 5, and one of the four others.
+    // Kind 1 with each length byte, four lengths of kind 5, and one length of each of the four other kinds.
     expect_equal(&rt, &elements, &42);
 }
 
@@ -358,7 +359,7 @@ fn raw_options_are_cloned_compared_and_shown(rt: HostRuntime) {
     }
 }
 
-/// The option is its clone, and none of `UNLIKE`.
+/// Tests that the option equals its clone, and differs from each option in `UNLIKE`.
 fn expect_unlike(rt: &impl Abort, cookie: &TcpRawOption<'_>) {
     expect_clone(rt, cookie);
     for (kind, value) in &UNLIKE {
@@ -367,7 +368,7 @@ fn expect_unlike(rt: &impl Abort, cookie: &TcpRawOption<'_>) {
     }
 }
 
-/// The error is its clone, and is shown as this text by both calls.
+/// Tests that the error equals its clone, and that both calls show it as this text.
 fn expect_error_text(rt: &(impl Abort + AllocGlobal), error: &TcpRawOptionError, expected: &str) {
     expect_clone(rt, error);
     expect_text(rt, error, expected);

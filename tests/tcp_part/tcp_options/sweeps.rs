@@ -1,5 +1,6 @@
-//! Reads TCP headers with every small length and data offset, with every byte 12, and with options of every kind and size. Compares the
-//! results with plain functions. These functions were written from the format tables, not from the library.
+//! Reads TCP headers with every length up to 60 bytes and every data offset, and with every accepted value of byte 12. Reads options with
+//! every kind and every length byte. The results are compared with plain functions, which were written from the format tables, not from the
+//! library.
 
 use super::TcpOptionElement::{
     MaximumSegmentSize, Noop, SelectiveAcknowledgement, SelectiveAcknowledgementPermitted,
@@ -16,7 +17,7 @@ use etherparse_transport::{
 };
 use std::process::Abort;
 
-/// Sixty bytes that all differ, except byte 12.
+/// Returns sixty bytes. Byte 12 has this value, and all other bytes differ from each other.
 fn header_bytes(byte_12: u8) -> [u8; 60] {
     [
         1, 2, 3, 4, 5, 6, 7, 8, 9, 10, 11, 12, byte_12, 14, 15, 16, 17, 18, 19, 20, 21, 22, 23, 24,
@@ -50,7 +51,7 @@ fn too_short(required_len: usize, len: usize) -> HeaderSliceError {
     })
 }
 
-/// Whether the header has the fields of `header_bytes` and these options. Its byte 13, 0E, has the flags syn, rst and psh.
+/// Returns whether the header has the fields of `header_bytes` and these options. Byte 13 is 0E, which sets the flags syn, rst and psh.
 fn has_fields(header: &TcpHeader, ns: bool, options: &[u8]) -> bool {
     header.source_port == 0x0102
         && header.destination_port == 0x0304
@@ -65,7 +66,8 @@ fn has_fields(header: &TcpHeader, ns: bool, options: &[u8]) -> bool {
         && header.options() == options
 }
 
-/// Tests that both calls and the slice struct read the same header, and that writing it returns the bytes that were read.
+/// Tests that `from_slice`, `read_from_slice` and `TcpHeaderSlice` read the same header. Writing the header returns the bytes that were
+/// read.
 fn expect_accepted(rt: &impl Abort, slice: &[u8], header_len: usize) {
     let (front, after) = expect_some(rt, slice.split_at_checked(header_len));
     let (header, rest) = expect_ok(rt, TcpHeader::from_slice(slice));
@@ -76,13 +78,13 @@ fn expect_accepted(rt: &impl Abort, slice: &[u8], header_len: usize) {
     expect_read(rt, slice, &header, after);
 }
 
-/// Tests that the header has the fields of `header_bytes` and these options.
+/// Tests that the header has the fields of `header_bytes`, and the options in `front`, the bytes of the header.
 fn expect_fields(rt: &impl Abort, header: &TcpHeader, ns: bool, front: &[u8]) {
     let has_fields = has_fields(header, ns, bytes_from(rt, front, 20));
     expect_at(rt, header, &has_fields, &true);
 }
 
-/// Tests that the slice of these bytes keeps only the header.
+/// Tests that `TcpHeaderSlice` keeps only the header `front` of these bytes.
 fn expect_slice(rt: &impl Abort, bytes: &[u8], front: &[u8]) {
     expect_bytes(
         rt,
@@ -91,7 +93,7 @@ fn expect_slice(rt: &impl Abort, bytes: &[u8], front: &[u8]) {
     );
 }
 
-/// Tests that the other call also reads the header, and returns these bytes after it.
+/// Tests that `read_from_slice` reads the same header, and returns the bytes after it.
 fn expect_read(rt: &impl Abort, bytes: &[u8], header: &TcpHeader, after: &[u8]) {
     let (read, rest) = expect_ok(rt, TcpHeader::read_from_slice(bytes));
     expect_equal(rt, &read, header);
@@ -106,7 +108,7 @@ fn expect_refused(rt: &impl Abort, slice: &[u8], data_offset: u8, expected: &Hea
     expect_error(rt, key, TcpHeaderSlice::from_slice(slice).err(), expected);
 }
 
-/// Tests that the call returned this error. The key is the data offset and the length.
+/// Tests that the call returned this error. The key consists of the data offset and the length of the slice.
 fn expect_error(
     rt: &impl Abort,
     key: &(u8, usize),
@@ -116,7 +118,7 @@ fn expect_error(
     expect_at(rt, key, &expect_some(rt, error), expected);
 }
 
-/// How many slices had each result. The results are: too short, a data offset that is too small, cut off, and accepted.
+/// The numbers of slices with each result: too short, a data offset that is too small, cut off, and accepted.
 type Counts = (usize, usize, usize, usize);
 
 /// Returns the counts after a slice of this length with this result.
@@ -168,7 +170,7 @@ fn every_length_and_data_offset_is_read_or_refused(rt: HostRuntime) {
     expect_equal(&rt, &counts, &(320, 205, 220, 231));
 }
 
-/// Tests that a header with this byte 12 is written without its reserved bits, and that the slice keeps the received bytes.
+/// Tests that a header with this byte 12 is written without its reserved bits. `TcpHeaderSlice` keeps the received bytes.
 fn expect_byte_12(rt: &impl Abort, byte_12: u8) {
     let bytes = header_bytes(byte_12);
     let header_len = usize::from(byte_12 >> 4) * 4;
@@ -271,11 +273,12 @@ fn every_option_kind_and_size_is_read_or_refused(rt: HostRuntime) {
     expect_equal(&rt, &counts, &(256, 264, 1272, 63744));
 }
 
-/// The kinds of options that have a length, with their sizes.
+/// The kinds of options that have a length byte, each with a size that the kind can have.
 #[rattlefmt::skip]
 static WHOLE: [(u8, u8); 8] = [(2, 4), (3, 3), (4, 2), (5, 10), (5, 18), (5, 26), (5, 34), (8, 10)];
 
-/// Tests an option that is cut off after `len` bytes. For kind 5 the error first requires two bytes, and then the size of the option.
+/// Tests an option that is cut off after `len` bytes. If only the kind 5 is present, the error requires two bytes. Otherwise it requires
+/// the size of the option.
 fn expect_cut_off(rt: &impl Abort, kind: u8, size: u8, len: usize) {
     let mut bytes = [0; 40];
     bytes[0] = kind;

@@ -1,5 +1,5 @@
-//! Replaces parts of a packet several times, and updates its checksum each time. This is done for packets of every small length. The result
-//! is compared with the checksum of the changed packet.
+//! Replaces parts of packets of up to 60 bytes several times, and updates the checksums. Each updated checksum is compared with the
+//! checksum of the changed packet.
 
 use crate::expect::{bytes_to, expect_at, expect_equal, expect_ok, expect_some};
 use etherparse_transport::checksum::Sum16BitWords;
@@ -23,7 +23,7 @@ impl Numbers {
         (self.state >> 16) as usize
     }
 
-    /// Returns sixty bytes. Kind 0 has zeros, kinds 1 and 2 have zeros and FF, and all other kinds have any bytes.
+    /// Returns sixty bytes. The bytes are zeros for kind 0, zeros and FF for kinds 1 and 2, and any values for all other kinds.
     fn bytes(&mut self, kind: usize) -> [u8; 60] {
         let mut bytes = [0; 60];
         for byte in bytes.iter_mut() {
@@ -38,7 +38,7 @@ impl Numbers {
     }
 }
 
-/// A packet after some replacements, the change by these replacements, and the UDP checksum that each of them updated.
+/// A packet after some replacements, the change that describes these replacements, and the UDP checksum that each replacement updated.
 #[derive(Drop)]
 struct Chain {
     packet: Vec<u8>,
@@ -49,7 +49,7 @@ struct Chain {
 }
 
 impl Chain {
-    /// Replaces a part at an even place. The new part has an odd length if the old part has one.
+    /// Replaces a part at an even place. The length of the new part is odd exactly if the length of the old part is odd.
     fn replace(&mut self, rt: &(impl Abort + AllocGlobal), numbers: &mut Numbers, kind: usize) {
         let place = numbers.next() % (self.packet.len() / 2 + 1) * 2;
         let (before, rest) = expect_some(rt, self.packet.split_at_checked(place));
@@ -71,7 +71,7 @@ impl Chain {
     }
 }
 
-/// Returns the three parts of a packet in their order.
+/// Returns the three parts of a packet, one after the other.
 fn joined(rt: &(impl Abort + AllocGlobal), before: &[u8], part: &[u8], after: &[u8]) -> Vec<u8> {
     let mut whole = expect_ok(rt, before.to_vec(rt.alloc()));
     expect_ok(rt, whole.extend_from_slice(part));
@@ -79,7 +79,7 @@ fn joined(rt: &(impl Abort + AllocGlobal), before: &[u8], part: &[u8], after: &[
     whole
 }
 
-/// Returns the change with one more replacement, by the call for its length.
+/// Returns the change with one more replacement. The lengths of the parts determine which call adds the replacement.
 fn extended(change: ChecksumChange, old: &[u8], new: &[u8]) -> ChecksumChange {
     match (old, new) {
         ([a, b], [c, d]) => change.replace_2bytes([*a, *b], [*c, *d]),
@@ -109,8 +109,8 @@ fn run_chain(
     chain
 }
 
-/// Tests the updated checksum of the chain. Returns whether the packet has become all zeros. Then the update is 0, and the right checksum
-/// is 65535.
+/// Tests the updated checksum of the chain. If the packet has become all zeros, the updated checksum is 0 instead of 65535. The function
+/// returns whether this is the case.
 fn expect_updated(rt: &impl Abort, number: usize, chain: &Chain, sum: Sum16BitWords) -> bool {
     let new = Sum16BitWords::new()
         .add_slice(&chain.packet)
@@ -125,7 +125,7 @@ fn expect_updated(rt: &impl Abort, number: usize, chain: &Chain, sum: Sum16BitWo
     is_zeros
 }
 
-/// Tests the updated checksum of UDP, which is right for packets of zeros too, and the change back.
+/// Tests the updated checksum of UDP, which is also right for packets of zeros. Then it tests the reversed change.
 fn expect_updated_udp(rt: &impl Abort, number: usize, chain: &Chain, sum: Sum16BitWords) {
     let udp = sum.to_ones_complement_with_no_zero();
     let new = Sum16BitWords::new().add_slice(&chain.packet);
@@ -170,7 +170,7 @@ fn chains_of_replacements_are_updated(rt: HostRuntime) {
     expect_equal(&rt, &counts, &(6044, 1786, 473));
 }
 
-/// Replaces each part at an even place of a packet, also parts of an odd length.
+/// Replaces each part that begins at an even place of a packet, including parts of an odd length.
 #[test]
 fn parts_of_every_length_are_replaced(rt: HostRuntime) {
     let mut packet = [0; 40];
