@@ -36,7 +36,7 @@ pub struct EtherparseIpTransport {
     /// The source that the checksum covers: the source in the IP header, or a home address (RFC 6275). An IPv4 address is in the first four
     /// bytes, and the other bytes are 0.
     pub source: [u8; 16],
-    /// The final destination, which the checksum covers. It has the same form as `source`. All bytes are 0 if it is not known.
+    /// The final destination, which the checksum covers. It has the same form as the source. All bytes are 0 if it is not known.
     pub destination: [u8; 16],
     /// 1 if the IP header states no length, otherwise 0. If it is 1, all passed bytes belong to the packet. It can be 1 only after a call
     /// whose name ends in `_lax`.

@@ -37,7 +37,7 @@ pub struct EtherparseFlowEnds {
     pub destination_port: u16,
     /// The source that the checksum covers. An IPv4 address is in the first four bytes, and the other bytes are 0.
     pub source: [u8; 16],
-    /// The final destination, which the checksum covers. It has the same form as `source`. All bytes are 0 if it is not known.
+    /// The final destination, which the checksum covers. It has the same form as the source. All bytes are 0 if it is not known.
     pub destination: [u8; 16],
 }
 
