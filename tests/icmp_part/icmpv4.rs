@@ -75,7 +75,7 @@ fn wrong_length(layer: Layer, required_len: usize, len: usize) -> LenError {
     }
 }
 
-/// A packet of zeros with this type and code.
+/// Returns a packet of zeros, except for this type and code.
 fn packet(type_u8: u8, code_u8: u8) -> [u8; 21] {
     let mut bytes = [0; 21];
     bytes[0] = type_u8;
@@ -101,22 +101,22 @@ fn unknown(type_u8: u8, code_u8: u8, bytes5to8: [u8; 4]) -> Icmpv4Type {
     }
 }
 
-/// The header and the bytes after it.
+/// Returns the header at the front of these bytes, and the bytes after it.
 fn header_of<'a>(rt: &impl Abort, bytes: &'a [u8]) -> (Icmpv4Header, &'a [u8]) {
     expect_ok(rt, Icmpv4Header::from_slice(bytes))
 }
 
-/// The slice of a packet.
+/// Returns the slice struct for these bytes.
 fn slice_of<'a>(rt: &impl Abort, bytes: &'a [u8]) -> Icmpv4Slice<'a> {
     expect_ok(rt, Icmpv4Slice::from_slice(bytes))
 }
 
-/// The header is written as these bytes.
+/// Tests that the header is written as these bytes.
 fn expect_header_bytes(rt: &impl Abort, header: &Icmpv4Header, bytes: &[u8]) {
     expect_bytes(rt, &header.to_bytes(), bytes);
 }
 
-/// The header and the slice of these bytes are refused with this error.
+/// Tests that the calls for the header and for the slice struct refuse these bytes with this error.
 fn expect_refused(rt: &impl Abort, bytes: &[u8], error: &LenError) {
     let errors = (
         Icmpv4Header::from_slice(bytes).err(),
@@ -237,7 +237,7 @@ fn short_headers_are_refused(rt: HostRuntime) {
     );
 }
 
-/// The type, length and layer of a timestamp of the wrong length.
+/// The type and the wrong length of a timestamp message, and the layer in its error.
 #[rattlefmt::skip]
 static WRONG_LENGTHS: [(u8, usize, Layer); 5] = [
     (13, 21, Layer::Icmpv4Timestamp),
@@ -335,7 +335,7 @@ static SUMMED: [(Icmpv4Type, &[u8]); 4] = [
     ),
 ];
 
-/// The checksum of this kind is stored by both calls, and is right.
+/// Tests that both calls store the right checksum of a message of this kind.
 fn expect_stored(rt: &impl Abort, icmp_type: &Icmpv4Type, written: &[u8]) {
     let mut updated = Icmpv4Header::new(expect_ok(rt, icmp_type.clone()));
     expect_equal(rt, &updated.checksum, &0);
@@ -395,7 +395,7 @@ fn changes_are_detected_but_for_zeros_and_exchanges(rt: HostRuntime) {
 
 static ECHO: [u8; 10] = [8, 0, 0x12, 0x34, 1, 2, 3, 4, 5, 6];
 
-/// The parts of `ECHO`.
+/// Tests the parts of `ECHO`.
 fn expect_parts(rt: &impl Abort, packet: &Icmpv4Slice<'_>) {
     expect_equal(rt, &packet.slice(), &ECHO.as_slice());
     expect_equal(
@@ -463,7 +463,7 @@ fn is_timestamp(type_u8: u8, code_u8: u8) -> bool {
     (type_u8 == 13 || type_u8 == 14) && code_u8 == 0
 }
 
-/// The layer of a timestamp of this type.
+/// Returns the layer in the error for a timestamp message of this type.
 fn timestamp_layer(type_u8: u8) -> Layer {
     if type_u8 == 13 {
         Layer::Icmpv4Timestamp

@@ -117,17 +117,17 @@ fn every_flag() -> NeighborAdvertisementHeader {
     }
 }
 
-/// The header and the bytes after it.
+/// Returns the header at the front of these bytes, and the bytes after it.
 fn header_of<'a>(rt: &impl Abort, bytes: &'a [u8]) -> (Icmpv6Header, &'a [u8]) {
     expect_ok(rt, Icmpv6Header::from_slice(bytes))
 }
 
-/// The slice of a packet.
+/// Returns the slice struct for these bytes.
 fn slice_of<'a>(rt: &impl Abort, bytes: &'a [u8]) -> Icmpv6Slice<'a> {
     expect_ok(rt, Icmpv6Slice::from_slice(bytes))
 }
 
-/// The header is written as these bytes.
+/// Tests that the header is written as these bytes.
 fn expect_header_bytes(rt: &impl Abort, header: &Icmpv6Header, bytes: &[u8]) {
     expect_bytes(rt, &header.to_bytes(), bytes);
 }
@@ -357,7 +357,7 @@ fn expect_stored(
     expect_same_checksum(rt, &header, pair, payload);
 }
 
-/// The other calls return the same header, or its checksum.
+/// Tests that the other calls return the same header or the same checksum.
 fn expect_same_checksum(rt: &impl Abort, header: &Icmpv6Header, pair: Pair, payload: &[u8]) {
     let (source, destination) = pair;
     let checksum = expect_ok(
@@ -447,7 +447,7 @@ fn advertisements_are_read_and_written(rt: HostRuntime) {
 
 static ECHO: [u8; 10] = [129, 0, 0x12, 0x34, 1, 2, 3, 4, 5, 6];
 
-/// The parts of `ECHO`.
+/// Tests the parts of `ECHO`.
 fn expect_parts(rt: &impl Abort, packet: &Icmpv6Slice<'_>) {
     expect_equal(rt, &packet.slice(), &ECHO.as_slice());
     expect_equal(

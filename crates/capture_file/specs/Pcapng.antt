@@ -52,7 +52,7 @@ block_len section bytes = number_at (order_of section bytes) bytes 4
 abbrev pub last_len : ByteOrder → List ℕ → ℕ → ℕ
 last_len section bytes len = number_at (order_of section bytes) bytes (len - trailer_len)
 
--- the header of a block, from its first bytes
+-- the header that these first bytes of a block contain
 abbrev pub block_header : ByteOrder → List ℕ → BlockHeader
 block_header section bytes = record {
   byte_order = order_of section bytes;

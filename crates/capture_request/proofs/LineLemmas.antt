@@ -10,13 +10,14 @@ use Rattle.capture_request.specs.Names.{shown_name}
 use Rattle.capture_request.specs.declared.compression.Compression.{Compression}
 use Rattle.capture_request.specs.declared.capture_error.CaptureError.{CaptureError}
 
--- ---- what is written of several lines
+-- ---- several lines that are written completely or in part
 
--- if no line is to be written, nothing was written
+-- if there is no line, nothing was written
 pub writes-nothing : (a : Option (List ℕ)) (AreWhole : Type 0) → WritesLines a a AreWhole []
 writes-nothing a AreWhole = record { written = []; appends = Appends-nil a; begun = refl; whole = λ holds. refl }
 
--- a beginning of lines is a beginning of these lines and more lines
+-- if the beginnings of some lines and of if lines and then further lines were written, all these lines were written, the beginnings of all
+-- these lines were written
 begun-append : (lines more : List (List ℕ)) (written others : List ℕ) → AreBegun lines written → AreBegun more others
     → AreBegun (lines ++ more) (written ++ others)
 begun-append [] more written others none are = rw none are
@@ -30,7 +31,7 @@ begun-append (line ∷ lines) more written others all are =
       ap (λ bytes. bytes ++ others) whole ∙ append_assoc begun after others,
     )
 
--- further lines were written
+-- if lines and then further lines were written, all these lines were written
 pub writes-more : (a b c : Option (List ℕ)) (First Second Both : Type 0) (lines more : List (List ℕ)) → (Both → First) → (Both → Second)
     → WritesLines a b First lines → WritesLines b c Second more → WritesLines a c Both (lines ++ more)
 writes-more a b c First Second Both lines more to_first to_second first second = record {
@@ -50,7 +51,7 @@ writes-weaker a b AreWhole Stronger lines weaker writes = record {
   whole = λ holds. writes.whole (weaker holds);
 }
 
--- ---- what is written of a line
+-- ---- one line that is written completely or in part
 
 writes-line : {T E : Type 0} (a b : Option (List ℕ)) (result : Result T E) (line : List ℕ) → OnOk result (Appends a b line)
     → AppendsBeginning a b line → WritesLines a b (IsOk result) (line ∷ [])

@@ -29,7 +29,7 @@ text-push parts number now first (p ∷ ps) packet text line is same one = (
   ap (λ t. t ++ line) is.4 ∙ append_assoc is.0 is.1 line,
 )
 
--- the first known time of some packets and one more packet
+-- after one more packet, the first known time is unchanged; if no time was known, it is the time of this packet
 pub first-push : (first : Option PacketTime) (packets : List FilePacket) (packet : FilePacket)
     → first_time first (packets ++ packet ∷ []) ≡ option_or (first_time first packets) (packet_time packet)
 first-push first [] packet = refl

@@ -105,7 +105,7 @@ one-more Reads parts others count xs named i d before between after a b c e f h 
       tells = writes-more e f h Between After After each.lines one.lines told (λ whole. whole) each.tells one.tells;
     }
 
--- if nothing more can be reported, the report of the captures before it remains
+-- if a capture can't be reported, the captures before it were reported
 pub tells_first : {X : Type 0} (Reads : List ℕ → Given → Type 0) (parts : Parts) (count : ℕ) (xs : List X) (named : X → List ℕ) (i : ℕ)
     (before between : Progress) (a b e f : Option (List ℕ)) (AreWhole : Type 0)
     → WritesReport a b e f AreWhole (ReportsEach Reads parts count 0 (map named (take i xs)) before between)

@@ -17,7 +17,7 @@ pub total-with_checksum : (place : ℕ) (packet : List ℕ) (checksum : ℕ) →
 unfolding with_checksum
 total-with_checksum place packet checksum even enough small = laws.total-with_checksum place packet checksum enough even small
 
--- all bytes that are left after a place are the bytes after this place
+-- a slice from a place to the end contains all bytes after this place
 pub from_place : (place : ℕ) (packet : List ℕ) → take (length packet - place) (drop place packet) ≡ drop place packet
 from_place place packet = ap (λ n. take n (drop place packet)) (sym (length-drop place packet)) ∙ take-length (drop place packet)
 
@@ -27,7 +27,7 @@ pub with_checksum-append : (place : ℕ) (front back : List ℕ) (checksum : ℕ
 unfolding with_checksum
 with_checksum-append place front back checksum within = laws.with_checksum-append place front back checksum within
 
--- if bytes after the checksum are cut off, a checksum can be stored before or after that
+-- if bytes after the checksum are cut off, a checksum can be stored before or after the cut
 pub take-with_checksum : (place : ℕ) (packet : List ℕ) (checksum len : ℕ) → place + 2 ≤ len → len ≤ length packet
     → take len (with_checksum place packet checksum) ≡ with_checksum place (take len packet) checksum
 unfolding with_checksum

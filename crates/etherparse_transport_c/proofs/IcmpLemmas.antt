@@ -16,7 +16,7 @@ use Rattle.etherparse_transport_c.specs.Icmpv4 as icmpv4
 use Rattle.etherparse_transport_c.specs.Icmpv6 as icmpv6
 use Rattle.etherparse_transport_c.specs.Numbers as numbers
 
--- if the header of a packet is written again with a checksum, and the other bytes follow, the result is the packet with this checksum
+-- writing the first 8 bytes of a packet again with a checksum gives the packet with this checksum; the other bytes follow unchanged
 pub written_again : (packet : List ℕ) (checksum : ℕ) → 8 ≤ length packet
     → header_bytes (record { type = slice_index packet 0; code = slice_index packet 1; fields = slice_range packet 4 8 }) checksum ++ drop 8 packet
     ≡ with_checksum 2 packet checksum
@@ -38,7 +38,7 @@ pub packet_written : (packet fields payload : List ℕ) (type code checksum : �
 packet_written packet fields payload type code checksum enough is_type is_code is_fields is_payload =
     rw (is_type, is_code, is_fields, is_payload) (written_again packet checksum enough)
 
--- the sum of this header and payload is the sum of the packet with this checksum
+-- the sum of the header with this checksum and of the payload is the sum of the packet with this checksum
 pub total_written : (packet fields payload : List ℕ) (type code checksum : ℕ) → 8 ≤ length packet → type ≡ slice_index packet 0
     → code ≡ slice_index packet 1 → fields ≡ slice_range packet 4 8 → payload ≡ drop 8 packet → length fields ≡ 4
     → total (header_bytes (record { type = type; code = code; fields = fields }) checksum) + total payload ≡ total (with_checksum 2 packet checksum)

@@ -53,7 +53,7 @@ fields_enough other fit = omega arith
 from_some : {A : Type 0} (one other : A) → Some one ≡ Some other → one ≡ other
 from_some one other same = cc
 
--- a message that has the fields of a kind has that kind
+-- the fields of a kind give a message of this kind
 made : (message other : Icmpv4Type) (kind : ℕ) → (message_fields message).kind ≡ kind → Some message ≡ Some other → (message_fields other).kind ≡ kind
 made message other kind is same = subst (λ m. (message_fields m).kind ≡ kind) (from_some message other same) is
 

@@ -54,7 +54,7 @@ value_of : Headers → Result Headers IpError → Headers
 value_of other (Ok headers) = headers
 value_of other (Err error) = other
 
--- the headers of a packet are the same for each transport that is found in it
+-- the payload of a transport that a packet carries is the bytes after the IP headers of the packet
 same_payload : (packet : List ℕ) (headers : Headers) (carried : TransportInIp) → headers_of carried.is_length_missing packet ≡ Ok headers
     → Carries packet carried → drop headers.len (counted carried.is_length_missing packet) ≡ carried.payload.now
 unfolding value_of

@@ -30,7 +30,7 @@ begins_with bytes accepted = record {
 pub accepted-begins : (bytes : List ℕ) → refusal bytes ≡ None → BeginsWithIpv4Header bytes
 accepted-begins bytes accepted = begins_with bytes (no_error (header_refusal bytes) accepted)
 
--- the sum of a header without its checksum
+-- the sum of the bytes before and after the checksum is the sum of the header with the checksum 0
 pub total_without : (header : List ℕ) → 20 ≤ length header
     → 0 + total (take 10 header) + total (drop 12 header) ≡ total (with_checksum 10 header 0)
 total_without header enough = omega (arith, total-with_checksum 10 header 0 refl (omega (arith, enough)) (omega arith))
@@ -43,7 +43,8 @@ verifies header checksum enough small is =
     let within = total-with_checksum 10 header checksum refl (omega (arith, enough)) small in
     ap folded (omega arith) ∙ checksum_verifies (total (with_checksum 10 header 0)) checksum is
 
--- a header at the front of bytes stays a header if its checksum is replaced, and the test accepts it if its sum is all ones
+-- bytes with an IPv4 header still begin with a header after its checksum is replaced; if the sum of this header is all ones, the test
+-- accepts it
 pub passes : (bytes : List ℕ) (checksum : ℕ) → BeginsWithIpv4Header bytes → refusal bytes ≡ None
     → Verifies [] (with_checksum 10 (ipv4_header bytes) checksum)
     → Answers (TestTells (with_checksum 10 bytes checksum)) numbers.status_ok

@@ -58,7 +58,7 @@ total-append_odd [] back odd = absurd (omega arith)
 total-append_odd (byte ∷ []) back odd = omega (arith, total_after_byte byte back)
 total-append_odd (high ∷ (low ∷ front)) back odd = omega (arith, total-append_odd front back (omega arith))
 
--- the sum of bytes and of the bytes after them is the sum of all these bytes
+-- the sums of two parts, one after the other, give the sum of all their bytes
 total_joined : (offset : ℕ) (front back : List ℕ) → length front % 2 ≡ offset % 2 → total (front ++ back) ≡ total front + total_at offset back
 total_joined offset front back parity = grind (arith, nat_tests, total-append front back, total-append_odd front back)
 

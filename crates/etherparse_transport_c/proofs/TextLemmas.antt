@@ -7,7 +7,7 @@ use Rattle.etherparse_transport_c.proofs.IcmpLemmas.{take_past}
 use Rattle.etherparse_transport_c.specs.Errors.{at_front}
 use Rattle.etherparse_transport_c.specs.Text.{IsCut, max_text_len}
 
--- appending as many bytes as fit to a truncated text gives the longer text, truncated
+-- if as many bytes as fit are appended to a truncated text, the result is the longer text, truncated too
 appended_at : (text before bytes : List ℕ) (room : ℕ) (above : Bool) → nat_lt max_text_len (length before) ≡ above → IsCut text before
     → room + length text ≡ max_text_len → IsCut (text ++ take room bytes) (before ++ bytes)
 appended_at text before bytes room false is cut full =

@@ -28,7 +28,7 @@ total_parts packet enough = omega (arith, total-with_checksum 6 packet 0 (omega 
 
 -- ---- packets that are built
 
--- the sum of pseudo header and packet with its checksum is all ones
+-- the sum of the pseudo header and of the packet with its checksum is all ones
 verifies : (pseudo_header : ℕ → List ℕ) (packet : List ℕ) (checksum : ℕ) → 8 ≤ length packet → checksum < 65536
     → checksum ≡ udp_checksum_of (total (pseudo_header (length packet)) + total (with_checksum 6 packet 0))
     → folded (total (pseudo_header (length (with_checksum 6 packet checksum))) + total (with_checksum 6 packet checksum)) ≡ 65535
@@ -87,7 +87,7 @@ length_field-with_checksum (a ∷ (b ∷ (c ∷ []))) checksum enough = absurd (
 length_field-with_checksum (a ∷ (b ∷ (c ∷ (d ∷ [])))) checksum enough = absurd (omega arith)
 length_field-with_checksum (a ∷ (b ∷ (c ∷ (d ∷ (e ∷ []))))) checksum enough = absurd (omega arith)
 
--- the packet at the front of these bytes does not change, except for its checksum
+-- storing a checksum changes the packet at the front of these bytes only in its checksum
 cut_as : (bytes : List ℕ) (checksum : ℕ) (counts : Bool) → 8 ≤ length bytes → length_counts bytes ≡ counts
     → cut (with_checksum 6 bytes checksum) ≡ with_checksum 6 (cut bytes) checksum
 cut_as bytes checksum true enough is =
@@ -165,7 +165,8 @@ passes_ipv6 source destination bytes checksum enough whole small is accepted val
 
 -- ---- the library's checksum of header and payload
 
--- the sum of a header without its checksum is the sum of the bytes before the checksum
+-- the sum of the bytes before and after the checksum is the sum of the header with the checksum 0 is the sum of the bytes before the
+-- checksum
 total_header : (packet : List ℕ) → IsBytes packet → 8 ≤ length packet
     → total (wire (record (header_of packet) { checksum = 0 })) ≡ total (take 6 packet)
 total_header (a ∷ (b ∷ (c ∷ (d ∷ (e ∷ (f ∷ rest)))))) fits enough = omega (arith, fits 0, fits 1, fits 2, fits 3, fits 4, fits 5)

@@ -24,7 +24,7 @@ unfolding at_front
 kept refusal bytes new old len none len_is is =
     is ∙ ap (λ n. bytes ++ drop n old) len_is ∙ sym (ap (λ error. unless_refused error (bytes ++ drop (length bytes) old) old) none)
 
--- a function of the header and the payload that the code finds has the value that it has for those in the definitions
+-- if the code finds the header and the payload of the definitions, a function of both has the same value
 by_parts : {A : Type 0} (f : TransportHeader → List ℕ → A) (found header : TransportHeader) (rest payload : List ℕ) → found ≡ header
     → rest ≡ payload → f found rest ≡ f header payload
 by_parts f found header rest payload header_is payload_is = ap (λ h. f h rest) header_is ∙ ap (λ p. f header p) payload_is

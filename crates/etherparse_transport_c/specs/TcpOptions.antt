@@ -79,7 +79,8 @@ abbrev pub gathered_next : (List TcpOptionElement → Result (List TcpOptionElem
 gathered_next further found option None = Err (no_element option)
 gathered_next further found option (Some element) = further (found ++ (element ∷ []))
 
--- the elements `found`, followed by the element of each of these options, or the error for the first option with a wrong kind or value
+-- The elements `found`, followed by the elements of these options. If an option has a wrong kind or value, the result is the error for the
+-- first such option.
 abbrev pub gathered : List TcpOptionElement → List EtherparseTcpOption → Result (List TcpOptionElement) EtherparseError
 gathered found [] = Ok found
 gathered found (option ∷ options) = gathered_next (λ longer. gathered longer options) found option (element_in option)

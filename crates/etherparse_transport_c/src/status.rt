@@ -42,7 +42,7 @@ pub const OPTION_SIZE: u32 = 12;
 /// The kind of the option is unknown.
 pub const OPTION_UNKNOWN: u32 = 13;
 
-/// The kind of the message is unknown, or the code is unknown for this kind.
+/// No kind of ICMP message has this number, or the kind does not have this code.
 pub const MESSAGE_UNKNOWN: u32 = 14;
 
 /// The bytes end within the IP header, or there are no bytes. The status also means that the bytes end within hop-by-hop options that must

@@ -235,7 +235,7 @@ fn packet_checksum_ipv6(source: [u8; 16], destination: [u8; 16], packet: &UdpSli
     computed_ipv6(source, destination, packet.slice())
 }
 
-/// Computes the checksum of the UDP packet at the front of some bytes, over IPv4. The checksum in the packet is ignored.
+/// Computes the checksum of the UDP packet over IPv4 at the front of some bytes. The checksum in the packet is ignored.
 fn checksum_ipv4(
     bytes: &[u8],
     source: &[u8; 4],
@@ -255,7 +255,7 @@ fn checksum_ipv4(
     }
 }
 
-/// Computes the right checksum of the packet at the front of some bytes, over IPv4 (RFC 768). The packet ends where
+/// Computes the right checksum of a UDP packet over IPv4 (RFC 768). The packet is at the front of the bytes, and ends where
 /// `etherparse_udp_packet_read` finds its end. The call ignores the checksum in the packet. The length in the pseudo header is the number
 /// of bytes of the packet, even if the length field is 0.
 ///
@@ -326,7 +326,7 @@ pub extern "C" fn etherparse_udp_checksum_store_ipv4(
     }
 }
 
-/// Computes the checksum of the UDP packet at the front of some bytes, over IPv6. The checksum in the packet is ignored.
+/// Computes the checksum of the UDP packet over IPv6 at the front of some bytes. The checksum in the packet is ignored.
 fn checksum_ipv6(
     bytes: &[u8],
     source: &[u8; 16],
@@ -346,9 +346,9 @@ fn checksum_ipv6(
     }
 }
 
-/// Computes the right checksum of the packet at the front of some bytes, over IPv6 (RFC 768; RFC 8200, section 8.1). The packet ends where
-/// `etherparse_udp_packet_read` finds its end. The call ignores the checksum in the packet. The length in the pseudo header is the number
-/// of bytes of the packet, even if the length field is 0.
+/// Computes the right checksum of a UDP packet over IPv6 (RFC 768; RFC 8200, section 8.1). The packet is at the front of the bytes, and
+/// ends where `etherparse_udp_packet_read` finds its end. The call ignores the checksum in the packet. The length in the pseudo header is
+/// the number of bytes of the packet, even if the length field is 0.
 ///
 /// # Errors
 ///
@@ -417,7 +417,7 @@ pub extern "C" fn etherparse_udp_checksum_store_ipv6(
     }
 }
 
-/// Tests the checksum of the packet at the front of some bytes, over IPv4 (RFC 768).
+/// Tests the checksum of the UDP packet over IPv4 at the front of some bytes (RFC 768).
 ///
 /// # Errors
 ///
@@ -447,8 +447,8 @@ pub extern "C" fn etherparse_udp_checksum_test_ipv4(
     }
 }
 
-/// Tests the checksum of the packet at the front of some bytes, over IPv6 (RFC 768; RFC 8200, section 8.1). A packet
-/// without a checksum must be discarded, except in a tunnel that allows it (RFC 6935).
+/// Tests the checksum of the UDP packet over IPv6 at the front of some bytes (RFC 768; RFC 8200, section 8.1). A packet without a checksum
+/// must be discarded, except in a tunnel that allows it (RFC 6935).
 ///
 /// # Errors
 ///

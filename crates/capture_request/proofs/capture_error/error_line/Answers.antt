@@ -2,7 +2,7 @@ use Rattle.std.proofs.Common.{◌∙◌, append_assoc, string_bytes}
 use Rattle.std.proofs.lemmas.Result.{IfOk-weaker}
 use Rattle.capture_request.proofs.capture_error.error_line.Goals as goal
 
--- the text follows both names
+-- the text follows the name of the program and the name of the capture
 pub returns-in-Some : goal.returns-in-Some
 returns-in-Some c =
     rw c.in-Some.is (

@@ -5,7 +5,7 @@ use Rattle.capture_request.specs.ErrorLines.{IsErrorText, IsLineOf}
 use Rattle.capture_request.specs.Names.{shown_name}
 use Rattle.capture_request.proofs.capture_error.write_error.Goals as goal
 
--- the line was written, or a beginning of it
+-- the line or its beginning was written
 pub returns : goal.returns
 returns g c =
     writes_one _ _ c.write_whole.result (IsLineOf (option_map (λ text. shown_name text.now) c.args.name) (IsErrorText c.args.error.now))

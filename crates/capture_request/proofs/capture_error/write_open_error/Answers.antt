@@ -3,7 +3,7 @@ use Rattle.capture_request.proofs.LineLemmas.{loses_open_error, writes_one}
 use Rattle.capture_request.specs.ErrorLines.{IsOpenErrorLine}
 use Rattle.capture_request.proofs.capture_error.write_open_error.Goals as goal
 
--- the line was written, or a beginning of it
+-- the line or its beginning was written
 pub returns : goal.returns
 returns g c =
     writes_one _ _ c.write_whole.result (IsOpenErrorLine c.args.name.now) (string_bytes c.in_ok-line.line) c.in_ok-line.ensures

@@ -4,7 +4,7 @@ use Rattle.std.proofs.lemmas.Str.{lead_after_ascii}
 use Rattle.std.specs.List.{slice_index}
 use Rattle.capture_request.proofs.shown_name.without_mark.Goals as goal
 
--- a character follows the mark, which has one byte
+-- the mark has one byte, so the name can be cut after it
 pub range_from-requires : goal.range_from-requires
 range_from-requires c =
     let name = c.args.name.now in
