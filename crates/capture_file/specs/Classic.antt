@@ -91,7 +91,7 @@ header_refusal bytes = first_of (
 
 -- ---- the records (section 5)
 
--- the length of the record header at the front of these bytes
+-- the length of a record header
 abbrev pub record_header_len : ℕ
 record_header_len = 16
 
@@ -111,7 +111,7 @@ record_len order bytes = record_header_len + number_at order bytes 8
 abbrev pub IsRecord : ByteOrder → List ℕ → Type 0
 IsRecord order bytes = length bytes ≡ record_len order bytes
 
--- the bytes do not begin with a whole record: they end within the record header at the front of these bytes, or within its captured bytes
+-- the bytes do not begin with a whole record: they end within the header of a record, or within its captured bytes
 abbrev pub IsPartial : ByteOrder → List ℕ → Type 0
 IsPartial order bytes = (length bytes < record_header_len) ⊎ (length bytes < record_len order bytes)
 

@@ -10,8 +10,8 @@ use Rattle.capture_file.specs.declared.pcapng.block.BlockHeader.{BlockHeader}
 use Rattle.capture_file.specs.declared.pcapng.errors.BodyError.{BodyError}
 use Rattle.capture_file.specs.declared.pcapng.interface_description.InterfaceDescription.{InterfaceDescription}
 
--- The error that refuses a body, if there is one. The type of the block determines the check. The body of a block of any other type is not
--- checked.
+-- The error that refuses a body, if there is one. The type of the block determines the check. Only section headers, interface descriptions
+-- and packet blocks are checked.
 abbrev pub body_refusal : BlockHeader → List InterfaceDescription → List ℕ → Option BodyError
 body_refusal header interfaces body =
     let order = header.byte_order in

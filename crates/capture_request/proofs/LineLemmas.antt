@@ -16,8 +16,7 @@ use Rattle.capture_request.specs.declared.capture_error.CaptureError.{CaptureErr
 pub writes-nothing : (a : Option (List ℕ)) (AreWhole : Type 0) → WritesLines a a AreWhole []
 writes-nothing a AreWhole = record { written = []; appends = Appends-nil a; begun = refl; whole = λ holds. refl }
 
--- if the beginnings of some lines and of if lines and then further lines were written, all these lines were written, the beginnings of all
--- these lines were written
+-- if the beginnings of some lines and of further lines were written, the beginnings of all these lines were written
 begun-append : (lines more : List (List ℕ)) (written others : List ℕ) → AreBegun lines written → AreBegun more others
     → AreBegun (lines ++ more) (written ++ others)
 begun-append [] more written others none are = rw none are

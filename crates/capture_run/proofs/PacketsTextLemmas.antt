@@ -1,4 +1,4 @@
--- Laws of the text of the packets of a capture: the text of another packet follows the text of the packets before it.
+-- Laws of the text of the packets of a capture: the text of one more packet follows the text of the packets before it.
 use Rattle.std.proofs.Common.{◌≡◌, ◌+◌, ℕ, List, [], ◌∷◌, ◌++◌, ◌∙◌, Option, ap, append-nil, append_assoc, arith, length, refl, subst, sym}
 use Rattle.std.proofs.KnownBytes.{Appends-trans}
 use Rattle.std.specs.Io.KnownBytes.{Appends}

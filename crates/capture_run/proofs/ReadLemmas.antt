@@ -1,4 +1,4 @@
--- Laws of the end of the packets of a capture, and the reader after them.
+-- Laws about the item that ends the packets of a capture, and about the reader after this item.
 use Rattle.std.proofs.Common.{◌≡◌, ◌+◌, List, Err, None, Ok, Option, Result, Some, IfSome, length, refl, subst, ℕ}
 use Rattle.capture_file.proofs.CapturePacketsLemmas.{has_packets}
 use Rattle.capture_file.specs.CapturePackets.{EndsWith, FilePacket, HasPackets, ReadsPackets, packet_in}

@@ -232,7 +232,7 @@ summary_of_file = record {
 abbrev file_header : List ℕ
 file_header = 212 ∷ 195 ∷ 178 ∷ 161 ∷ 2 ∷ 0 ∷ 4 ∷ 0 ∷ 0 ∷ 0 ∷ 0 ∷ 0 ∷ 0 ∷ 0 ∷ 0 ∷ 0 ∷ 0 ∷ 0 ∷ 4 ∷ 0 ∷ 147 ∷ 0 ∷ 0 ∷ 0 ∷ []
 
--- a record with the only byte of a packet, captured at 1 second and 2 microseconds
+-- a record of a packet of one byte, captured at 1 second and 2 microseconds
 abbrev one_byte : List ℕ
 one_byte = 1 ∷ 0 ∷ 0 ∷ 0 ∷ 2 ∷ 0 ∷ 0 ∷ 0 ∷ 1 ∷ 0 ∷ 0 ∷ 0 ∷ 1 ∷ 0 ∷ 0 ∷ 0 ∷ 170 ∷ []
 

@@ -1,4 +1,4 @@
--- Laws of the report of several captures: the report of another capture follows the reports of the captures before it.
+-- Laws of the report of several captures: the report of one more capture follows the reports of the captures before it.
 use Rattle.std.proofs.Common.{◌≡◌, ◌<◌, ◌+◌, ◌==◌, ◌∙◌, ℕ, false, true, List, [], ◌∷◌, ◌++◌, Err, IfErr, IfOk, IsNone, OnErr, None, Ok, Option, Result, ap, append-nil, append_assoc, arith, codes, drop, get_or, if◌then◌else◌, length, map, refl, subst, sym, take, take-append-drop}
 use Rattle.std.proofs.KnownBytes.{Appends-nil, Appends-trans}
 use Rattle.std.proofs.lemmas.List.{length-map, length-take-le, map-append, map_more}
@@ -135,7 +135,7 @@ tells_nothing Reads parts count names before e = record {
   tells = writes-nothing e ⊥;
 }
 
--- if nothing was written to the writer of errors, before the first capture nothing was reported there
+-- if nothing was written to the writer of errors, `TellsFirst` holds without a reported capture
 pub untold : {X T E : Type 0} (Reads : List ℕ → Given → Type 0) (parts : Parts) (count : ℕ) (names : List (List ℕ)) (before : Progress)
     (contents : X → Option (List ℕ)) (old new : X) (result : Result T E) → OnErr result (new ≡ old)
     → IfErr result (λ error. TellsFirst Reads parts count names before (contents old) (contents new))

@@ -21,7 +21,7 @@ total-with_checksum place packet checksum even enough small = laws.total-with_ch
 pub from_place : (place : ℕ) (packet : List ℕ) → take (length packet - place) (drop place packet) ≡ drop place packet
 from_place place packet = ap (λ n. take n (drop place packet)) (sym (length-drop place packet)) ∙ take-length (drop place packet)
 
--- a checksum in the front of bytes changes only the front
+-- storing a checksum in the first part of some bytes changes only this part
 pub with_checksum-append : (place : ℕ) (front back : List ℕ) (checksum : ℕ) → place + 2 ≤ length front
     → with_checksum place (front ++ back) checksum ≡ with_checksum place front checksum ++ back
 unfolding with_checksum

@@ -136,7 +136,7 @@ same_header fields message found is fit four finds =
           (refl, refl, take_all 4 fields.bytes4to7 (omega (arith, four)));
     }
 
--- the library finds a header with this checksum and message in the packet, and the call in C reads the same header
+-- the library in Rattle finds a header in the packet, as `Finds` states, and the call in C reads the same header
 abbrev IsFound : Icmpv4Type → ℕ → List ℕ → Type 0
 IsFound message checksum packet = (found : Icmpv4Header) × Finds message checksum found × ((packet_of packet).header ≡ header_read message found)
 

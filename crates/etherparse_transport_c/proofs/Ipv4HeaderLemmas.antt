@@ -43,8 +43,8 @@ verifies header checksum enough small is =
     let within = total-with_checksum 10 header checksum refl (omega (arith, enough)) small in
     ap folded (omega arith) ∙ checksum_verifies (total (with_checksum 10 header 0)) checksum is
 
--- bytes with an IPv4 header still begin with a header after its checksum is replaced; if the sum of this header is all ones, the test
--- accepts it
+-- If the checksum of an IPv4 header is replaced, the bytes still begin with a header. If the sum of this header is all ones, the test
+-- accepts it.
 pub passes : (bytes : List ℕ) (checksum : ℕ) → BeginsWithIpv4Header bytes → refusal bytes ≡ None
     → Verifies [] (with_checksum 10 (ipv4_header bytes) checksum)
     → Answers (TestTells (with_checksum 10 bytes checksum)) numbers.status_ok

@@ -17,8 +17,8 @@ take_again (suc len) (byte ∷ bytes) = ap (λ rest. byte ∷ rest) (take_again 
 whole : (bytes : List ℕ) → take (length bytes) bytes ≡ bytes
 whole bytes = take_all (length bytes) bytes (omega arith)
 
--- the quoted packet is the front of the bytes, whether or not the message has a length field; a message that is not an error quotes no
--- packet
+-- The quoted packet is the front of the bytes, whether or not the message has a length field. A message that is not an error quotes no
+-- packet.
 front : (len : ℕ) (bytes : List ℕ) (has_field is_error is_unused : Bool)
     → IsFront bytes (if has_field then Some (if is_unused then bytes else take len bytes) else (if is_error then Some bytes else None))
 front len bytes true is_error true = whole bytes

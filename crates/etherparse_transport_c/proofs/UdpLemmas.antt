@@ -165,8 +165,7 @@ passes_ipv6 source destination bytes checksum enough whole small is accepted val
 
 -- ---- the library's checksum of header and payload
 
--- the sum of the bytes before and after the checksum is the sum of the header with the checksum 0 is the sum of the bytes before the
--- checksum
+-- the sum of a header without its checksum is the sum of the bytes before the checksum
 total_header : (packet : List ℕ) → IsBytes packet → 8 ≤ length packet
     → total (wire (record (header_of packet) { checksum = 0 })) ≡ total (take 6 packet)
 total_header (a ∷ (b ∷ (c ∷ (d ∷ (e ∷ (f ∷ rest)))))) fits enough = omega (arith, fits 0, fits 1, fits 2, fits 3, fits 4, fits 5)
