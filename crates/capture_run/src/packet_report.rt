@@ -71,8 +71,8 @@ impl PacketReport {
         self.summary
     }
 
-    /// Counts the packet in this frame if it is chosen, and then writes its line if it has a line. `number` is the number of the packet in
-    /// the capture.
+    /// Counts the packet in this frame, if the packet is chosen. Then the call writes the line of the packet, if it has a line. `number` is
+    /// the number of the packet in the capture.
     pub fn add<W: Write>(
         &mut self,
         output: &mut W,
@@ -94,8 +94,8 @@ impl PacketReport {
         self.add_packet(output, number, &captured_info(captured), &packet)
     }
 
-    /// Counts a packet that is longer than the buffer if it is chosen, and then writes its line if it has a line. The checksum of this
-    /// packet is not tested.
+    /// Counts a packet that does not fit in the buffer, if the packet is chosen. Then the call writes the line of the packet, if it has a
+    /// line. The checksum of this packet is not tested.
     pub fn add_too_long<W: Write>(
         &mut self,
         output: &mut W,
@@ -116,7 +116,7 @@ impl PacketReport {
         self.add_packet(output, number, &too_long_info(captured), &packet)
     }
 
-    /// Counts a packet if it is chosen, and then writes its line if it has a line.
+    /// Counts a packet, if it is chosen. Then the function writes the line of the packet, if it has a line.
     fn add_packet<W: Write>(
         &mut self,
         output: &mut W,

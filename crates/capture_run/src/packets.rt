@@ -96,8 +96,8 @@ fn report_each_packet<R: Read, W: Write>(
     Ok(Err(CaptureError::TooManyPackets))
 }
 
-/// Reads the next packet, counts it if it is chosen, and then writes its line if it has a line. Returns `None` if a packet was read.
-/// Otherwise the result states how the report of the capture ends.
+/// Reads the next packet, and counts it if it is chosen. Then the function writes the line of the packet, if it has a line. Returns `None`
+/// if a packet was read. Otherwise the result states how the report of the capture ends.
 fn report_next<R: Read, W: Write>(
     input: &mut R,
     output: &mut W,

@@ -97,7 +97,7 @@ pub const ECHO_REQUEST_SOURCE: u32 = 36;
 /// The source of the reply to an echo request is not the address of one host.
 pub const ECHO_REPLY_SOURCE: u32 = 37;
 
-/// The ICMP message is not an error. A call that writes an ICMP error also returns this status for kind 0. It returns it too for a redirect
+/// The ICMP message is not an error. A call that writes an ICMP error returns this status in two more cases: for kind 0, and for a redirect
 /// whose gateway is not the address of one host.
 pub const NO_ICMP_ERROR: u32 = 38;
 

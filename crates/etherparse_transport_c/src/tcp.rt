@@ -240,7 +240,7 @@ pub extern "C" fn etherparse_tcp_header_store(
     }
 }
 
-/// Computes the checksum of a segment over IPv4, which consists of all bytes. The checksum in the segment is ignored.
+/// Computes the checksum of a segment over IPv4. The segment consists of all bytes. The checksum in the segment is ignored.
 fn checksum_ipv4(
     bytes: &[u8],
     source: &[u8; 4],
@@ -332,7 +332,7 @@ pub extern "C" fn etherparse_tcp_checksum_store_ipv4(
     }
 }
 
-/// Computes the checksum of a segment over IPv6, which consists of all bytes. The checksum in the segment is ignored.
+/// Computes the checksum of a segment over IPv6. The segment consists of all bytes. The checksum in the segment is ignored.
 fn checksum_ipv6(
     bytes: &[u8],
     source: &[u8; 16],
