@@ -92,8 +92,8 @@ abbrev pub next_after : ByteOrder → List ℕ → NextPacket
 next_after order [] = packets.End
 next_after order (byte ∷ bytes) = packets.CutOff (required_len order (byte ∷ bytes)) (length (byte ∷ bytes))
 
--- The bytes after the beginning of a capture begin with these packets. The beginning is the header of a classic capture, or the first block
--- of a pcapng file.
+-- The first packets after the beginning of a capture are these packets. The beginning is the header of a classic capture, or the first
+-- block of a pcapng file.
 abbrev pub BeginsWithPackets : ℕ → CaptureReader → List FilePacket → List ℕ → Type 0
 BeginsWithPackets room (Classic reader) packets bytes =
     (records : List (List ℕ)) × (rest : List ℕ) × (bytes ≡ concat records ++ rest)

@@ -1,4 +1,4 @@
--- Laws of the loop over the packets of a capture: another packet is counted.
+-- Laws of the loop over the packets of a capture: one more packet is counted.
 use Rattle.std.proofs.Common.{◌≡◌, ◌+◌, ◌≤◌, ℕ, List, [], ◌∷◌, ◌++◌, None, Some, Option, Result, IfSome, ap, append-nil, arith, length, refl, subst, sym, take}
 use Rattle.std.specs.Io.KnownBytes.{Appends}
 use Rattle.capture_file.proofs.CapturePacketsLaws.{packets_before_cut}

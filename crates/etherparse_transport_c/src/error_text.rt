@@ -207,8 +207,8 @@ fn translate_error(error: &EtherparseError) -> Option<TranslateError>
     }
 }
 
-/// Returns the reason why a checksum was not tested. `number` is the number of the verdict. The result is `None` if the verdict with this
-/// number states no reason.
+/// Returns the reason why a checksum was not tested. `number` is the number of the verdict. The result is `None` if no verdict with this
+/// number states a reason.
 fn untested(number: usize) -> Option<Untested>
     ensures { result ≡ specs.untested_at number }
 {

@@ -35,7 +35,7 @@ pub struct EtherparseIcmpv4Header {
     pub receive_timestamp: u32,
     /// In a timestamp message or reply: the time at which the echoer last touched the message.
     pub transmit_timestamp: u32,
-    /// The checksum.
+    /// The checksum: bytes 2 and 3 of the message.
     pub checksum: u16,
     /// In an echo or timestamp message, and in its reply: the identifier.
     pub id: u16,
@@ -44,9 +44,9 @@ pub struct EtherparseIcmpv4Header {
     /// In a destination unreachable message of code 4 (fragmentation needed): the MTU of the next hop, in bytes (RFC 1191, section 4). It
     /// is 0 if the router does not report the MTU.
     pub next_hop_mtu: u16,
-    /// The type.
+    /// The type: byte 0 of the message. A call that writes a header uses this field only for kind 0.
     pub type_u8: u8,
-    /// The code.
+    /// The code: byte 1 of the message. A call that writes a header uses this field only for kind 0 and for kinds with several codes.
     pub code_u8: u8,
     /// In a parameter problem message of code 0: the place of the error in the original datagram, in bytes.
     pub pointer: u8,
@@ -59,7 +59,7 @@ pub struct EtherparseIcmpv4Header {
 #[repr(C)]
 #[derive(Clone, Copy)]
 pub struct EtherparseIcmpv4Packet {
-    /// The header.
+    /// The header of the message.
     pub header: EtherparseIcmpv4Header,
     /// The place at which the payload begins, in bytes from the first byte that was read. It is 20 in a timestamp message or reply whose
     /// code is 0, and 8 in any other message.

@@ -32,7 +32,7 @@ pub struct EtherparseIcmpv6Header {
     pub mtu: u32,
     /// In a parameter problem: the place of the error in the original packet, in bytes (RFC 4443, section 3.4).
     pub pointer: u32,
-    /// The checksum.
+    /// The checksum: bytes 2 and 3 of the message.
     pub checksum: u16,
     /// In an echo request or reply: the identifier.
     pub id: u16,
@@ -45,9 +45,9 @@ pub struct EtherparseIcmpv6Header {
     pub cur_hop_limit: u8,
     /// In a router or neighbor advertisement: the flags, each at its bit in the packet. The module `icmpv6_flag` lists them.
     pub flags: u8,
-    /// The type.
+    /// The type: byte 0 of the message. A call that writes a header uses this field only for kind 0.
     pub type_u8: u8,
-    /// The code.
+    /// The code: byte 1 of the message. A call that writes a header uses this field only for kind 0 and for kinds with several codes.
     pub code_u8: u8,
     /// The four bytes after the checksum. A call that reads a message sets them for every kind. A call that writes a header uses them only
     /// for kind 0.
@@ -58,7 +58,7 @@ pub struct EtherparseIcmpv6Header {
 #[repr(C)]
 #[derive(Clone, Copy)]
 pub struct EtherparseIcmpv6Packet {
-    /// The header.
+    /// The header of the message.
     pub header: EtherparseIcmpv6Header,
     /// The place at which the payload begins, in bytes from the first byte that was read. It is 8.
     pub payload_offset: usize,

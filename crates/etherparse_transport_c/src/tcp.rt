@@ -37,7 +37,7 @@ pub struct EtherparseTcpHeader {
     pub flags: u16,
     /// The number of bytes that the sender is willing to receive, before window scaling (RFC 7323, section 2.2).
     pub window_size: u16,
-    /// The checksum.
+    /// The checksum: bytes 16 and 17 of the header.
     pub checksum: u16,
     /// If the flag URG is set: the end of the urgent data, in bytes from the sequence number. Otherwise the field has no meaning.
     pub urgent_pointer: u16,
@@ -47,7 +47,7 @@ pub struct EtherparseTcpHeader {
 #[repr(C)]
 #[derive(Clone, Copy)]
 pub struct EtherparseTcpPacket {
-    /// The header.
+    /// The header of the segment, without its options.
     pub header: EtherparseTcpHeader,
     /// The place at which the options begin, in bytes from the first byte that was read. It is 20.
     pub options_offset: usize,

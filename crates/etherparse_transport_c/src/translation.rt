@@ -131,9 +131,9 @@ pub extern "C" fn etherparse_translate_ipv4(
 ///
 /// # Errors
 ///
-/// The statuses of `etherparse_translate_ipv4`, except `TRANSLATE_SOURCE_ROUTE`. The call returns `IP_VERSION` for an IPv4 packet. It skips
-/// hop-by-hop options, fragment headers, routing headers without segments left, and destination options without a home address. For any
-/// other extension header it returns `TRANSLATE_PROTOCOL`.
+/// The statuses of `etherparse_translate_ipv4`, except `TRANSLATE_SOURCE_ROUTE`. The call returns `IP_VERSION` for an IPv4 packet. It
+/// translates ICMPv6, and returns `TRANSLATE_PROTOCOL` for ICMPv4. It skips hop-by-hop options, fragment headers, routing headers without
+/// segments left, and destination options without a home address. For any other extension header it returns `TRANSLATE_PROTOCOL`.
 #[unsafe(no_mangle)]
 pub extern "C" fn etherparse_translate_ipv6(
     packet: &mut [u8],

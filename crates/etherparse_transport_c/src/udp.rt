@@ -42,7 +42,7 @@ pub struct EtherparseUdpHeader {
 #[repr(C)]
 #[derive(Clone, Copy)]
 pub struct EtherparseUdpPacket {
-    /// The header.
+    /// The header of the packet.
     pub header: EtherparseUdpHeader,
     /// The place at which the payload begins, in bytes from the first byte that was read. It is 8.
     pub payload_offset: usize,

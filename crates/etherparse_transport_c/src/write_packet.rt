@@ -17,9 +17,9 @@ use etherparse_transport::{IpNumber, Proto, TransportHeader, ip_number};
 #[repr(C)]
 #[derive(Clone, Copy)]
 pub struct EtherparseIpv4Header {
-    /// The source.
+    /// The source address.
     pub source: [u8; 4],
-    /// The destination.
+    /// The destination address.
     pub destination: [u8; 4],
     /// The number of hops that are left.
     pub time_to_live: u8,
@@ -31,9 +31,9 @@ pub struct EtherparseIpv4Header {
 #[repr(C)]
 #[derive(Clone, Copy)]
 pub struct EtherparseIpv6Header {
-    /// The source.
+    /// The source address.
     pub source: [u8; 16],
-    /// The destination.
+    /// The destination address.
     pub destination: [u8; 16],
     /// The number of hops that are left.
     pub hop_limit: u8,
