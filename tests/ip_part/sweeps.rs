@@ -210,7 +210,7 @@ fn ipv6_payload(chain: &[Extension], counted_len: usize) -> Result<(u8, usize), 
     Ok((17, start))
 }
 
-/// Tests both calls for a packet with this chain, if the IP header counts this many bytes. Returns whether the packet is accepted.
+/// Tests both calls for a packet with this chain, whose IP header counts `counted_len` bytes. Returns whether the packet is accepted.
 fn is_accepted(rt: &impl Abort, packet: &[u8], chain: &[Extension], counted_len: usize) -> bool {
     let found = transport_in_ip(packet);
     let lax = transport_in_ip_lax(packet);

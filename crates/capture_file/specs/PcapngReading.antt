@@ -34,7 +34,7 @@ pub record ReadsAfter (section : ByteOrder) (first : List ℕ) (left still_left 
   pub is_next : IsNextBlock section (first ++ bytes) buffer next
   pub is_last : IsLastBlock next still_left
 
--- these bytes were read, and they determine the next item
+-- the bytes between `left` and `still_left` were read, and they determine the next item
 abbrev pub ReadsNextBlock : ByteOrder → Option (List ℕ) → Option (List ℕ) → List ℕ → NextBlock → Type 0
 ReadsNextBlock section left still_left buffer next = ReadsAfter section [] left still_left buffer next
 

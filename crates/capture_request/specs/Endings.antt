@@ -1,4 +1,4 @@
--- The end of the report of a capture: a refused beginning, the greatest number of packets, and the exit status.
+-- The end of the report of a capture: when its beginning is refused, how many packets can be counted at most, and the exit status.
 use Rattle.std.specs.Prelude.{◌≡◌, ℕ, List, length, Some, Option, Result, Ok, Err}
 use Rattle.capture_file.specs.Opening.{ReadsBeginning}
 use Rattle.capture_file.specs.declared.classic.capture_header_error.CaptureHeaderError.TheVariants.{CutOff, Magic, Modified, Pcapng, Version}

@@ -114,7 +114,7 @@ pub record ReportsOne (choice : Choice) (reader : CaptureReader) (left still_lef
   pub reads : ReadsOne max_packet_len reader left still_left still_reader packet
   pub counted : CountsCaptured choice packet before after
 
--- some packets were read, and nothing was read after them
+-- zero or more whole packets were read, and nothing was read after them
 abbrev pub ReadsWholePackets : CaptureReader → Option (List ℕ) → Option (List ℕ) → CaptureReader → Type 0
 ReadsWholePackets reader left still_left still_reader =
     (packets : List FilePacket) × ReadsPackets max_packet_len reader left still_left still_reader packets

@@ -8,9 +8,9 @@ pub trait Open {
 
     ghost use Rattle.std.specs.Prelude.{ℕ, List, IfErr, IfOk};
 
-    /// The statement that holds for an input that was opened by this name.
+    /// What holds for an input that was opened by this name. Each implementation chooses it.
     ghost opens: { Self → List ℕ → Self.Input → Type 0 };
-    /// The statement that holds for a name that can't be opened.
+    /// What holds for a name if it can't be opened. Each implementation chooses it.
     ghost misses: { Self → List ℕ → Type 0 };
 
     /// Opens the capture with this name. [`STANDARD_INPUT`](crate::STANDARD_INPUT) is the name of standard input.

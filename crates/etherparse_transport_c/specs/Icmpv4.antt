@@ -51,7 +51,8 @@ timestamp_fields kind message = record nothing {
   transmit_timestamp = message.transmit_timestamp;
 }
 
--- A header with the number of the kind, and with the fields that belong to this kind. The code is not set here: `packet_of` sets `code_u8`.
+-- A header with the number of the kind, and with the fields that only some kinds have. `packet_of` sets the type, the code, the checksum
+-- and `bytes4to7`.
 abbrev pub message_fields : Icmpv4Type → EtherparseIcmpv4Header
 message_fields (Unknown type code fields) = record nothing { kind = numbers.icmpv4_kind_unknown }
 message_fields (EchoReply echo) = echo_fields numbers.icmpv4_kind_echo_reply echo

@@ -11,7 +11,7 @@ use Rattle.etherparse_transport_c.specs.Errors.{of_write_checksum}
 use Rattle.etherparse_transport_c.specs.Numbers as numbers
 use Rattle.etherparse_transport_c.specs.declared.error.EtherparseError.{EtherparseError}
 
--- ---- a checksum that is stored
+-- ---- storing the right checksum
 
 -- the packet is not refused for any reason
 abbrev pub IsAccepted : List ℕ → Type 0

@@ -7,7 +7,7 @@ use Rattle.etherparse_transport_c.specs.Icmpv6 as icmpv6
 use Rattle.etherparse_transport_c.specs.Numbers as numbers
 use Rattle.etherparse_transport_c.specs.declared.error.EtherparseError.{EtherparseError}
 
--- the refusal of a message that quotes this packet; a message that quotes no packet is refused, since it is not an ICMP error
+-- A message without a quoted packet is refused, since it is not an ICMP error. Any other message is not refused here.
 abbrev pub no_error : Option (List ℕ) → Option EtherparseError
 no_error None = Some (of_status numbers.status_no_icmp_error)
 no_error (Some packet) = None

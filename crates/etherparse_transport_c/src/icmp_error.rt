@@ -17,7 +17,8 @@ use etherparse_transport::ip::{IpError, icmpv4_error_about, icmpv6_error_about};
 
 /// Writes an ICMPv4 error about `packet` to `buffer`, and the length of the error to `written` (RFC 792; RFC 1122, section 3.2.2). The
 /// error is a whole IPv4 packet from `source` to the source of `packet`. Both checksums are right. The error has at most 576 bytes (RFC
-/// 1812, section 4.3.2.3). It quotes as many of the first bytes of `packet` as fit. The call ignores the checksum in `message`.
+/// 1812, section 4.3.2.3). It quotes as many of the first bytes of the packet as fit, without padding after the packet. The call ignores
+/// the checksum in `message`.
 ///
 /// # Errors
 ///
@@ -72,7 +73,7 @@ pub extern "C" fn etherparse_icmpv4_error_about(
 
 /// Writes an ICMPv6 error about `packet` to `buffer`, and the length of the error to `written` (RFC 4443, sections 2.4 and 3). The error is
 /// a whole IPv6 packet from `source` to the source of `packet`. Its checksum is right. The error has at most 1,280 bytes. It quotes as many
-/// of the first bytes of `packet` as fit. The call ignores the checksum in `message`.
+/// of the first bytes of the packet as fit, without padding after the packet. The call ignores the checksum in `message`.
 ///
 /// # Errors
 ///

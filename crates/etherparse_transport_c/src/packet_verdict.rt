@@ -16,7 +16,7 @@ use etherparse_transport::ip::{
 };
 use etherparse_transport::{ChecksumVerdict, Proto};
 
-/// An IP packet that was read, and the verdict on its checksum (RFC 791, section 3.1; RFC 8200, sections 3 and 4).
+/// An IP packet that was read (RFC 791, section 3.1; RFC 8200, sections 3 and 4), and the verdict on the checksum of its transport.
 #[repr(C)]
 #[derive(Clone, Copy)]
 pub struct EtherparseIpPacket {

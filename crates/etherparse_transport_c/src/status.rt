@@ -15,7 +15,8 @@ pub const VALUE_TOO_BIG: u32 = 3;
 /// The caller's buffer is too small for the bytes to write.
 pub const BUFFER_TOO_SMALL: u32 = 4;
 
-/// The checksum is wrong: the one's complement sum of the packet and its pseudo header is not all ones. ICMPv4 has no pseudo header.
+/// The checksum is wrong: the one's complement sum of the bytes that it covers is not all ones. For UDP, TCP and ICMPv6 these include a
+/// pseudo header. For an IPv4 header they are only the header.
 pub const CHECKSUM_WRONG: u32 = 5;
 
 /// The checksum field of a UDP packet is 0, which means that there is no checksum.

@@ -1,4 +1,4 @@
-//! Numbers for the verdicts on the checksum of an IP packet, in the interface to C. The meaning of a number never changes.
+//! Numbers for the verdicts on the checksum of the transport in an IP packet, in the interface to C. The meaning of a number never changes.
 
 /// The checksum is right.
 pub const RIGHT: u32 = 1;
@@ -27,5 +27,5 @@ pub const UNTESTED_OTHER_PROTOCOL: u32 = 19;
 /// Not tested: the length field of a UDP packet is 0, and the packet is not a jumbogram.
 pub const UNTESTED_ZERO_LENGTH: u32 = 20;
 
-/// Not tested: the packet is too long for a pseudo header.
+/// Not tested: the transport is too long for the length field of the pseudo header.
 pub const UNTESTED_TOO_LONG: u32 = 21;

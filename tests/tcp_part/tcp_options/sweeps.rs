@@ -273,7 +273,7 @@ fn every_option_kind_and_size_is_read_or_refused(rt: HostRuntime) {
     expect_equal(&rt, &counts, &(256, 264, 1272, 63744));
 }
 
-/// The kinds of options that have a length byte, each with a size that the kind can have.
+/// The known kinds of options with a length byte, with each size that the kind can have.
 #[rattlefmt::skip]
 static WHOLE: [(u8, u8); 8] = [(2, 4), (3, 3), (4, 2), (5, 10), (5, 18), (5, 26), (5, 34), (8, 10)];
 
