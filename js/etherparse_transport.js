@@ -695,6 +695,24 @@ export function lowerHopLimit(packet) {
     putBack(packet);
 }
 
+/**
+ * Lowers the maximum segment size of a SYN to at most `most`, as a router in front of a tunnel does, and returns the old size. If it is at
+ * most `most`, the packet is unchanged. The checksum of TCP is updated: a right checksum stays right, and a wrong checksum stays wrong. No
+ * other byte changes. A partial checksum becomes wrong.
+ *
+ * @param {Uint8Array} packet  changes, unless it is refused
+ * @param {number} most
+ * @returns {number}
+ * @throws {EtherparseError} if the IP headers or the TCP header are refused, if the packet is not a SYN, or if no maximum segment size can
+ *     be read from its options
+ */
+export function lowerMaximumSegmentSize(packet, most) {
+    const length = setInput(packet, "packet");
+    check(calls.etherparse_maximum_segment_size_lower(input, length, integer(most ?? null, 0xffff, "most"), result, error));
+    putBack(packet);
+    return takeChecksum();
+}
+
 /** What the test of a checksum found. Every other status is a refusal. */
 function tested(status) {
     switch (status) {

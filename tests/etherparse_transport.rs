@@ -9,6 +9,7 @@ mod hop_limits;
 mod icmp_errors;
 mod readme;
 mod replies_to_requests;
+mod segment_sizes;
 mod surface;
 mod sweeps;
 mod translations;

@@ -1051,6 +1051,53 @@ static void hop_limits(void)
     EXPECT(packet[7] == 63 && memcmp(packet, request_ipv6, 7) == 0 && memcmp(packet + 8, request_ipv6 + 8, 46) == 0);
 }
 
+/* The maximum segment size 1460 of a SYN becomes 1360, and the checksum of TCP stays right. A lower size stays. */
+static void maximum_segment_sizes(void)
+{
+    static const uint8_t syn[48] = {
+        0x45, 0, 0, 48, 0, 0, 0, 0, 64, 6, 0xF7, 0x74, 192, 168, 1, 1, 192, 168, 1, 2, 0xC3, 0x50, 0, 80, 0, 0, 0, 1, 0, 0, 0, 0, 0x70, 2,
+        0x20, 0, 0x6E, 0xDB, 0, 0, 1, 2, 4, 0x05, 0xB4, 1, 1, 1
+    };
+    uint8_t packet[48];
+    uint16_t size = 7;
+    etherparse_ip_packet found;
+    clear();
+    memcpy(packet, syn, sizeof packet);
+    OK(etherparse_maximum_segment_size_lower(packet, 48, 1460, &size, &error));
+    EXPECT(size == 1460 && memcmp(packet, syn, sizeof packet) == 0);
+    OK(etherparse_maximum_segment_size_lower(packet, 48, 1360, &size, &error));
+    EXPECT(size == 1460 && packet[43] == 0x05 && packet[44] == 0x50 && packet[36] == 0xD2 && packet[37] == 0xDB);
+    EXPECT(memcmp(packet, syn, 36) == 0 && memcmp(packet + 38, syn + 38, 5) == 0 && memcmp(packet + 45, syn + 45, 3) == 0);
+    OK(etherparse_packet_verdict(packet, 48, &found, &error));
+    EXPECT(found.verdict == ETHERPARSE_VERDICT_RIGHT);
+    OK(etherparse_maximum_segment_size_lower(packet, 48, 1460, &size, &error));
+    EXPECT(size == 1360 && error_is_untouched());
+    size = 7;
+    packet[45] = 2;
+    packet[42] = 5;
+    REFUSED(etherparse_maximum_segment_size_lower(packet, 48, 536, &size, &error), ETHERPARSE_STATUS_OPTION_SIZE);
+    EXPECT(size == 7 && error.option_kind == 2 && error.option_size == 5 && packet[44] == 0x50);
+    packet[42] = 1;
+    REFUSED(etherparse_maximum_segment_size_lower(packet, 48, 536, &size, &error), ETHERPARSE_STATUS_OPTION_SIZE);
+    packet[41] = 3;
+    packet[42] = 8;
+    REFUSED(etherparse_maximum_segment_size_lower(packet, 48, 536, &size, &error), ETHERPARSE_STATUS_OPTION_CUT_OFF);
+    packet[41] = 0;
+    REFUSED(etherparse_maximum_segment_size_lower(packet, 48, 536, &size, &error), ETHERPARSE_STATUS_SEGMENT_SIZE_NO_OPTION);
+    packet[33] = 0x10;
+    REFUSED(etherparse_maximum_segment_size_lower(packet, 48, 536, &size, &error), ETHERPARSE_STATUS_SEGMENT_SIZE_NO_SYN);
+    packet[32] = 0x40;
+    REFUSED(etherparse_maximum_segment_size_lower(packet, 48, 536, &size, &error), ETHERPARSE_STATUS_DATA_OFFSET);
+    packet[32] = 0x80;
+    REFUSED(etherparse_maximum_segment_size_lower(packet, 48, 536, &size, &error), ETHERPARSE_STATUS_LENGTH);
+    packet[7] = 1;
+    REFUSED(etherparse_maximum_segment_size_lower(packet, 48, 536, &size, &error), ETHERPARSE_STATUS_SEGMENT_SIZE_LATER_FRAGMENT);
+    packet[9] = 17;
+    REFUSED(etherparse_maximum_segment_size_lower(packet, 48, 536, &size, &error), ETHERPARSE_STATUS_PROTOCOL_UNKNOWN);
+    EXPECT(size == 7 && error.actual == 17);
+    REFUSED(etherparse_maximum_segment_size_lower(packet, 19, 536, &size, &error), ETHERPARSE_STATUS_IP_HEADER_CUT_OFF);
+}
+
 /* The reply from another host, which only the second test accepts; and a reply with another sequence number. */
 static void echo_replies_from_any(void)
 {
@@ -1698,6 +1745,7 @@ static void nulls(etherparse_error *told)
     REFUSED_TO(etherparse_packet_checksum_is_partial(NULL, 0, &is_partial, told), ETHERPARSE_STATUS_IP_HEADER_CUT_OFF);
     REFUSED_TO(etherparse_packet_checksum_store(NULL, 0, &checksum, told), ETHERPARSE_STATUS_IP_HEADER_CUT_OFF);
     REFUSED_TO(etherparse_hop_limit_lower(NULL, 0, told), ETHERPARSE_STATUS_IP_HEADER_CUT_OFF);
+    REFUSED_TO(etherparse_maximum_segment_size_lower(NULL, 0, 0, &checksum, told), ETHERPARSE_STATUS_IP_HEADER_CUT_OFF);
     REFUSED_TO(etherparse_icmpv4_error_about(NULL, 0, &echo4, source4, 64, NULL, 0, &written, told), ETHERPARSE_STATUS_NO_ICMP_ERROR);
     REFUSED_TO(etherparse_icmpv6_error_about(NULL, 0, &echo6, source6, 64, NULL, 0, &written, told), ETHERPARSE_STATUS_NO_ICMP_ERROR);
     REFUSED_TO(etherparse_translate_ipv4(NULL, 0, &to_outside, told), ETHERPARSE_STATUS_IP_HEADER_CUT_OFF);
@@ -1744,6 +1792,7 @@ int main(void)
     echo_refused();
     echo_replies();
     hop_limits();
+    maximum_segment_sizes();
     icmp_errors();
     echo_replies_from_any();
     translations();

@@ -201,7 +201,10 @@ enum etherparse_status_number {
     ETHERPARSE_STATUS_ICMP_ERROR_ABOUT_ERROR = 49,
     ETHERPARSE_STATUS_ICMP_ERROR_ABOUT_GROUP = 50,
     ETHERPARSE_STATUS_ICMP_ERROR_PACKET_SOURCE = 51,
-    ETHERPARSE_STATUS_ICMP_ERROR_SOURCE = 52
+    ETHERPARSE_STATUS_ICMP_ERROR_SOURCE = 52,
+    ETHERPARSE_STATUS_SEGMENT_SIZE_LATER_FRAGMENT = 53,
+    ETHERPARSE_STATUS_SEGMENT_SIZE_NO_SYN = 54,
+    ETHERPARSE_STATUS_SEGMENT_SIZE_NO_OPTION = 55
 };
 
 /*
@@ -323,6 +326,12 @@ enum etherparse_status_number {
 #define ETHERPARSE_STATUS_ICMP_ERROR_PACKET_SOURCE 51
 /* The source of the ICMP error is not the address of one host: no other field. */
 #define ETHERPARSE_STATUS_ICMP_ERROR_SOURCE 52
+/* The packet is a later fragment, so it contains no maximum segment size: no other field. */
+#define ETHERPARSE_STATUS_SEGMENT_SIZE_LATER_FRAGMENT 53
+/* The segment is not a SYN, so it contains no maximum segment size: no other field. */
+#define ETHERPARSE_STATUS_SEGMENT_SIZE_NO_SYN 54
+/* The options of the segment contain no maximum segment size: no other field. */
+#define ETHERPARSE_STATUS_SEGMENT_SIZE_NO_OPTION 55
 
 /* The layer whose length was wrong. 0 means no layer. The numbers from 8 on are reserved for IP headers. */
 enum {
@@ -688,6 +697,23 @@ etherparse_status etherparse_packet_checksum_store(uint8_t *packet, size_t packe
  */
 ETHERPARSE_CHECK_RESULT
 etherparse_status etherparse_hop_limit_lower(uint8_t *packet, size_t packet_len, etherparse_error *error);
+
+/*
+ * Lowers the maximum segment size of a SYN to at most `most`, as a router in front of a tunnel does (RFC 9293, section 3.7.1; RFC 6691), and
+ * writes the size that the packet contained to `size`. If it is at most `most`, the packet is unchanged. The checksum of TCP is updated (RFC
+ * 1624): a right checksum stays right, and a wrong checksum stays wrong. No other byte changes. The packet may be a first fragment, be cut
+ * off or state no length, if it contains the whole TCP header. A partial checksum becomes wrong, so store it again afterwards.
+ *
+ * In this order: a status of etherparse_transport_in_ip, except ETHERPARSE_STATUS_IP_PACKET_CUT_OFF and
+ * ETHERPARSE_STATUS_IP_JUMBO_PAYLOAD_MISSING; ETHERPARSE_STATUS_PROTOCOL_UNKNOWN: the protocol is not TCP;
+ * ETHERPARSE_STATUS_SEGMENT_SIZE_LATER_FRAGMENT: a later fragment; ETHERPARSE_STATUS_LENGTH or ETHERPARSE_STATUS_DATA_OFFSET: the TCP header
+ * is refused; ETHERPARSE_STATUS_SEGMENT_SIZE_NO_SYN: the segment is not a SYN; ETHERPARSE_STATUS_OPTION_CUT_OFF or
+ * ETHERPARSE_STATUS_OPTION_SIZE: an option up to the maximum segment size can't be read, or the size has another length than 4;
+ * ETHERPARSE_STATUS_SEGMENT_SIZE_NO_OPTION: there is no maximum segment size. The packet and `size` are then unchanged.
+ */
+ETHERPARSE_CHECK_RESULT
+etherparse_status etherparse_maximum_segment_size_lower(uint8_t *packet, size_t packet_len, uint16_t most, uint16_t *size,
+                                                        etherparse_error *error);
 
 /*
  * Writes the name of a verdict in this file, such as ETHERPARSE_VERDICT_RIGHT, and returns its length, both as etherparse_error_text
@@ -1603,6 +1629,9 @@ static inline const char *etherparse_name_of_status(etherparse_status status)
     ETHERPARSE_CASE(ETHERPARSE_STATUS_ICMP_ERROR_ABOUT_GROUP)
     ETHERPARSE_CASE(ETHERPARSE_STATUS_ICMP_ERROR_PACKET_SOURCE)
     ETHERPARSE_CASE(ETHERPARSE_STATUS_ICMP_ERROR_SOURCE)
+    ETHERPARSE_CASE(ETHERPARSE_STATUS_SEGMENT_SIZE_LATER_FRAGMENT)
+    ETHERPARSE_CASE(ETHERPARSE_STATUS_SEGMENT_SIZE_NO_SYN)
+    ETHERPARSE_CASE(ETHERPARSE_STATUS_SEGMENT_SIZE_NO_OPTION)
     default: return "unknown status";
     }
 }

@@ -42,11 +42,11 @@ __all__ = [
     "UdpPacket", "ValueType", "Verdict", "VerdictKind", "answer_echo", "canonical_header", "check_icmpv4", "check_icmpv6",
     "check_ipv4_header", "check_tcp", "check_udp", "flow", "header_addresses", "icmpv4_checksum", "icmpv4_error_about", "icmpv6_checksum",
     "icmpv6_error_about", "ipv4_header_checksum", "is_checksum_partial", "is_reply_from_any", "is_reply_to", "library_version",
-    "lower_hop_limit", "quoted_by_icmpv4", "quoted_by_icmpv6", "read_icmpv4", "read_icmpv6", "read_tcp", "read_udp", "status_name",
-    "store_checksum", "store_icmpv4_checksum", "store_icmpv6_checksum", "store_ipv4_header_checksum", "store_tcp_checksum",
-    "store_tcp_header", "store_udp_checksum", "tcp_checksum", "tcp_option_values", "tcp_options", "translate", "transport", "udp_checksum",
-    "verdict", "verdict_name", "write_icmpv4_header", "write_icmpv6_header", "write_packet", "write_tcp_header", "write_tcp_options",
-    "write_udp_header",
+    "lower_hop_limit", "lower_maximum_segment_size", "quoted_by_icmpv4", "quoted_by_icmpv6", "read_icmpv4", "read_icmpv6", "read_tcp",
+    "read_udp", "status_name", "store_checksum", "store_icmpv4_checksum", "store_icmpv6_checksum", "store_ipv4_header_checksum",
+    "store_tcp_checksum", "store_tcp_header", "store_udp_checksum", "tcp_checksum", "tcp_option_values", "tcp_options", "translate",
+    "transport", "udp_checksum", "verdict", "verdict_name", "write_icmpv4_header", "write_icmpv6_header", "write_packet",
+    "write_tcp_header", "write_tcp_options", "write_udp_header",
 ]
 
 Bytes = Union[bytes, bytearray, memoryview]
@@ -126,6 +126,9 @@ class Status(_Number):
     ICMP_ERROR_ABOUT_GROUP = 50
     ICMP_ERROR_PACKET_SOURCE = 51
     ICMP_ERROR_SOURCE = 52
+    SEGMENT_SIZE_LATER_FRAGMENT = 53
+    SEGMENT_SIZE_NO_SYN = 54
+    SEGMENT_SIZE_NO_OPTION = 55
 
     @property
     def text(self) -> str:
@@ -691,6 +694,7 @@ _CALLS = {
     "packet_checksum_is_partial": (ctypes.c_uint32, *_reader(ctypes.c_uint32)),
     "packet_checksum_store": (ctypes.c_uint32, *_PACKET, *_CHECKSUM),
     "hop_limit_lower": (ctypes.c_uint32, *_PACKET, *_ERROR),
+    "maximum_segment_size_lower": (ctypes.c_uint32, *_PACKET, ctypes.c_uint16, *_CHECKSUM),
     "icmpv4_error_about": (
         ctypes.c_uint32, *_PACKET, ctypes.POINTER(_Icmpv4Header), ctypes.c_char_p, ctypes.c_uint8, *_PACKET, *_REPLY,
     ),
@@ -1118,6 +1122,20 @@ def lower_hop_limit(packet: bytearray | memoryview) -> None:
     Raises `Error` if the IP header is refused, or if the hop limit is 0 or 1 (`HOP_LIMIT_EXPIRED`). The packet is then unchanged.
     """
     _changed("hop_limit_lower", packet)
+
+
+def lower_maximum_segment_size(packet: bytearray | memoryview, most: int) -> int:
+    """Lowers the maximum segment size of a SYN to at most `most`, in place, as a router in front of a tunnel does. Returns the old size.
+
+    If the old size is at most `most`, the packet is unchanged. The checksum of TCP is updated: a right checksum stays right, and a wrong
+    checksum stays wrong. No other byte changes. A partial checksum becomes wrong.
+
+    Raises `Error` if the IP headers or the TCP header are refused, if the packet is not a SYN, or if no maximum segment size can be read
+    from its options. The packet is then unchanged.
+    """
+    size = ctypes.c_uint16()
+    _changed("maximum_segment_size_lower", packet, _integer(most, 16, "most"), ctypes.byref(size))
+    return size.value
 
 
 def _packed(address: AnyAddress) -> bytes:

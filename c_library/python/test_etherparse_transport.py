@@ -553,6 +553,20 @@ class Calls(unittest.TestCase):
         self.assertEqual((caught.exception.status, caught.exception.actual, packet), (Status.HOP_LIMIT_EXPIRED, 1, before))
         self.assertEqual(str(caught.exception), "Hop Limit Error: the hop limit is 1.")
 
+    def test_a_maximum_segment_size_is_lowered(self):
+        packet = bytearray.fromhex(
+            "4500002C000000004006F778C0A80101C0A80102C3500050000000010000000060022000313100000204" "05B4")
+        self.assertEqual(ept.lower_maximum_segment_size(packet, 1360), 1460)
+        self.assertEqual((packet[36:38], packet[42:]), (b"\x31\x95", b"\x05\x50"))
+        self.assertEqual(ept.verdict(packet).kind, ept.VerdictKind.RIGHT)
+        before = bytes(packet)
+        self.assertEqual((ept.lower_maximum_segment_size(packet, 1460), packet), (1360, before))
+        with self.assertRaises(ValueError):
+            ept.lower_maximum_segment_size(packet, 65536)
+        with self.assertRaises(ept.Error) as caught:
+            ept.lower_maximum_segment_size(bytearray(PACKET), 1360)
+        self.assertEqual((caught.exception.status, caught.exception.actual), (Status.PROTOCOL_UNKNOWN, PACKET[9]))
+
     def test_a_partial_checksum_is_completed(self):
         packet = bytearray(PACKET)
         self.assertIs(ept.is_checksum_partial(packet), False)

@@ -151,6 +151,19 @@ export const TESTS = {
         expect([status, actual, message], [Status.HOP_LIMIT_EXPIRED, 1, "Hop Limit Error: the hop limit is 1."]);
     },
 
+    maximumSegmentSizeOfAPacket() {
+        const packet = Uint8Array.of(
+            0x45, 0, 0, 44, 0, 0, 0, 0, 64, 6, 0xf7, 0x78, 192, 168, 1, 1, 192, 168, 1, 2,
+            0xc3, 0x50, 0, 80, 0, 0, 0, 1, 0, 0, 0, 0, 0x60, 2, 0x20, 0, 0x31, 0x31, 0, 0, 2, 4, 0x05, 0xb4,
+        );
+        expect([library.lowerMaximumSegmentSize(packet, 1360), packet[36], packet[37], packet[43]], [1460, 0x31, 0x95, 0x50]);
+        expect(library.verdict(packet).kind, VerdictKind.RIGHT);
+        thrown(() => library.lowerMaximumSegmentSize(packet), RangeError);
+        packet[33] = 0x10;
+        const { status, message } = thrown(() => library.lowerMaximumSegmentSize(packet, 1360), library.EtherparseError);
+        expect([status, message], [Status.SEGMENT_SIZE_NO_SYN, "Maximum Segment Size Error: the segment is not a SYN."]);
+    },
+
     /** The memory grows with its input, from call to call. */
     growth() {
         for (const length of [0, 60000, 65536, 65528, 1000000, 3, 5000001]) {

@@ -371,7 +371,7 @@ static void call_icmp_errors(void)
     (void)(etherparse_icmpv6_error_about(packet, len, &header6, router6, 64, room, sizeof room, &written, &error) == 0);
 }
 
-/* Tests whether the checksum is partial, stores the right checksum, and lowers the hop limit. */
+/* Tests whether the checksum is partial, stores the right checksum, and lowers the hop limit and the maximum segment size. */
 static void call_packet_checksum(void)
 {
     uint32_t is_partial;
@@ -381,6 +381,8 @@ static void call_packet_checksum(void)
     (void)(etherparse_packet_checksum_store(copy, len, &checksum, &error) == 0);
     memcpy(copy, packet, len);
     (void)(etherparse_hop_limit_lower(copy, len, &error) == 0);
+    memcpy(copy, packet, len);
+    (void)(etherparse_maximum_segment_size_lower(copy, len, 536, &checksum, &error) == 0);
 }
 
 /* Writes a packet with this message between these addresses. */

@@ -355,6 +355,10 @@ const CALLS = {
         return { packet: changed(packet, (copy) => void (checksum = library.storeChecksum(copy))), checksum };
     },
     hop_limit_lower: ({ packet }) => ({ packet: changed(packet, (copy) => library.lowerHopLimit(copy)) }),
+    maximum_segment_size_lower: ({ packet, most }) => {
+        let size;
+        return { packet: changed(packet, (copy) => void (size = library.lowerMaximumSegmentSize(copy, most))), size };
+    },
     icmpv4_error_about: ({ packet, message, source, time_to_live: hopLimit }) =>
         ({ buffer: library.icmpv4ErrorAbout(packet, headerOf(message), source, { hopLimit }) }),
     icmpv6_error_about: ({ packet, message, source, hop_limit: hopLimit }) =>

@@ -4,8 +4,8 @@ use crate::expect::{expect_clone, expect_equal, expect_ok, expect_some};
 use etherparse_transport::checksum::Sum16BitWords;
 use etherparse_transport::checksum_change::ChecksumChange;
 use etherparse_transport::err::packet::{
-    AnswerEchoError, BuildSliceWriteError, LowerHopLimitError, TranslateError,
-    TransportChecksumError, WriteChecksumError,
+    AnswerEchoError, BuildSliceWriteError, LowerHopLimitError, LowerMaximumSegmentSizeError,
+    TranslateError, TransportChecksumError, WriteChecksumError,
 };
 use etherparse_transport::err::tcp::{HeaderError, HeaderSliceError};
 use etherparse_transport::err::{Layer, LenError, TextPart, ValueTooBigError, ValueType};
@@ -53,6 +53,7 @@ fn errors_are_cloned(rt: HostRuntime) {
     expect_clone(&rt, &BuildSliceWriteError::Icmpv4InIpv6);
     expect_clone(&rt, &AnswerEchoError::NoEchoRequest);
     expect_clone(&rt, &LowerHopLimitError::Expired { hop_limit: 1 });
+    expect_clone(&rt, &LowerMaximumSegmentSizeError::NoSyn);
     expect_clone(&rt, &TranslateError::Protocol(IpNumber(47)));
     expect_clone(&rt, &WriteChecksumError::Untested(Untested::Fragment));
     expect_clone(&rt, &TcpOptionReadError::UnknownId(34));

@@ -222,6 +222,12 @@ pub enum ErrorKind {
     IcmpErrorPacketSource,
     /// The source of the ICMP error is not the address of one host.
     IcmpErrorSource,
+    /// The packet is a later fragment, so it contains no maximum segment size.
+    SegmentSizeLaterFragment,
+    /// The segment is not a SYN, so it contains no maximum segment size.
+    SegmentSizeNoSyn,
+    /// The options of the segment contain no maximum segment size.
+    SegmentSizeNoOption,
     /// A status that this crate does not know.
     Other {
         /// The status.
@@ -387,6 +393,9 @@ impl Error {
             sys::STATUS_ICMP_ERROR_ABOUT_GROUP => ErrorKind::IcmpErrorAboutGroup,
             sys::STATUS_ICMP_ERROR_PACKET_SOURCE => ErrorKind::IcmpErrorPacketSource,
             sys::STATUS_ICMP_ERROR_SOURCE => ErrorKind::IcmpErrorSource,
+            sys::STATUS_SEGMENT_SIZE_LATER_FRAGMENT => ErrorKind::SegmentSizeLaterFragment,
+            sys::STATUS_SEGMENT_SIZE_NO_SYN => ErrorKind::SegmentSizeNoSyn,
+            sys::STATUS_SEGMENT_SIZE_NO_OPTION => ErrorKind::SegmentSizeNoOption,
             status => ErrorKind::Other { status },
         }
     }

@@ -548,6 +548,34 @@ pub fn lower_hop_limit(packet: &mut [u8]) -> Result<(), Error> {
     answer(status, (), error)
 }
 
+/// Lowers the maximum segment size of a SYN to at most `most`, as a router in front of a tunnel does, and returns the size that the packet
+/// contained. If it is at most `most`, the packet is as it was. The checksum of TCP is updated: a right checksum stays right, and a wrong
+/// checksum stays wrong. No other byte changes. A partial checksum becomes wrong.
+///
+/// Errors: those of [`Transport::read_lax`] for the IP headers, `ProtocolUnknown` if the protocol is not TCP, `SegmentSizeLaterFragment`, `Length`
+/// or `DataOffset` of the TCP header, `SegmentSizeNoSyn`, `OptionCutOff` or `OptionSize` of an option, and `SegmentSizeNoOption`. The
+/// bytes are as they were.
+///
+/// ```
+/// use etherparse_transport_c::ip;
+/// let mut packet = [
+///     0x45, 0, 0, 44, 0, 0, 0, 0, 64, 6, 0xF7, 0x78, 192, 168, 1, 1, 192, 168, 1, 2, 0xC3, 0x50, 0, 80, 0, 0, 0, 1, 0, 0, 0, 0, 0x60, 2,
+///     0x20, 0, 0x31, 0x31, 0, 0, 2, 4, 0x05, 0xB4,
+/// ];
+/// assert_eq!(ip::lower_maximum_segment_size(&mut packet, 1360)?, 1460);
+/// assert_eq!((&packet[36..38], &packet[42..]), (&[0x31, 0x95][..], &[0x05, 0x50][..]));
+/// packet[33] = 0x10;
+/// let error = ip::lower_maximum_segment_size(&mut packet, 1360).unwrap_err();
+/// assert_eq!(error.to_string(), "Maximum Segment Size Error: the segment is not a SYN.");
+/// # Ok::<(), etherparse_transport_c::Error>(())
+/// ```
+pub fn lower_maximum_segment_size(packet: &mut [u8], most: u16) -> Result<u16, Error> {
+    let (mut size, mut error) = (0, sys::Error::default());
+    // SAFETY: as above.
+    let status = unsafe { sys::etherparse_maximum_segment_size_lower(packet.as_mut_ptr(), packet.len(), most, &mut size, &mut error) };
+    answer(status, (), error).map(|()| size)
+}
+
 /// What [`translate_ipv4`] replaces. `None` keeps what the packet contains.
 #[derive(Clone, Copy, Debug, Default, PartialEq, Eq, Hash)]
 pub struct Ipv4Translation {

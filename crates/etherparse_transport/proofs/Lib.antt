@@ -11,6 +11,8 @@ pub mod Ipv6ThereAndBack
 pub mod PacketLemmas
 pub mod ReplacedBytes
 pub mod ReplyToLemmas
+pub mod SegmentSizeExamples
+pub mod SegmentSizeLemmas
 pub mod SkippedHeaderLemmas
 mod SourceRouteLemmas
 pub mod ThereAndBack

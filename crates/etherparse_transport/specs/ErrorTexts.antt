@@ -10,6 +10,8 @@ use Rattle.etherparse_transport.specs.declared.err.packet.error_about_error.Erro
 use Rattle.etherparse_transport.specs.declared.err.packet.error_about_error.ErrorAboutError.TheVariants as about
 use Rattle.etherparse_transport.specs.declared.err.packet.lower_hop_limit_error.LowerHopLimitError.{LowerHopLimitError}
 use Rattle.etherparse_transport.specs.declared.err.packet.lower_hop_limit_error.LowerHopLimitError.TheVariants as lower
+use Rattle.etherparse_transport.specs.declared.err.packet.lower_maximum_segment_size_error.LowerMaximumSegmentSizeError.{LowerMaximumSegmentSizeError}
+use Rattle.etherparse_transport.specs.declared.err.packet.lower_maximum_segment_size_error.LowerMaximumSegmentSizeError.TheVariants as segment_size
 use Rattle.etherparse_transport.specs.declared.err.packet.translate_error.TranslateError.{TranslateError}
 use Rattle.etherparse_transport.specs.declared.err.packet.translate_error.TranslateError.TheVariants as translate
 use Rattle.etherparse_transport.specs.declared.err.packet.transport_checksum_error.TransportChecksumError.{TransportChecksumError}
@@ -18,6 +20,7 @@ use Rattle.etherparse_transport.specs.declared.err.packet.write_checksum_error.W
 use Rattle.etherparse_transport.specs.declared.err.packet.write_checksum_error.WriteChecksumError.TheVariants as write
 use Rattle.ip_part.specs.ErrorTexts.{ip_text}
 use Rattle.net_base.specs.ErrorTexts.{header_slice_text, len_text, value_text}
+use Rattle.tcp_part.specs.ErrorTexts.{raw_option_text}
 use Rattle.transport_part.specs.declared.checksum_verdict.Untested.{Untested}
 use Rattle.transport_part.specs.declared.checksum_verdict.Untested.TheVariants as reasons
 
@@ -60,6 +63,19 @@ error_about_text (about.Space required_len len) = concat (
 abbrev pub lower_hop_limit_text : LowerHopLimitError → List ℕ
 lower_hop_limit_text (lower.Ip error) = ip_text error
 lower_hop_limit_text (lower.Expired hop_limit) = concat (codes "Hop Limit Error: the hop limit is " ∷ decimal hop_limit ∷ codes "." ∷ [])
+
+-- the text for a packet whose maximum segment size is not lowered
+abbrev pub lower_maximum_segment_size_text : LowerMaximumSegmentSizeError → List ℕ
+lower_maximum_segment_size_text (segment_size.Ip error) = ip_text error
+lower_maximum_segment_size_text (segment_size.Protocol protocol) = concat (
+    codes "Maximum Segment Size Error: the protocol " ∷ decimal protocol.0 ∷ codes " is not TCP." ∷ [])
+lower_maximum_segment_size_text segment_size.LaterFragment = codes "Maximum Segment Size Error: the packet is a later fragment."
+lower_maximum_segment_size_text (segment_size.Header error) = header_slice_text error
+lower_maximum_segment_size_text segment_size.NoSyn = codes "Maximum Segment Size Error: the segment is not a SYN."
+lower_maximum_segment_size_text (segment_size.Options error) = raw_option_text error
+lower_maximum_segment_size_text (segment_size.OptionLength len) = concat (
+    codes "Maximum Segment Size Error: the length of the option is " ∷ decimal len ∷ codes "." ∷ [])
+lower_maximum_segment_size_text segment_size.NoOption = codes "Maximum Segment Size Error: the segment contains no maximum segment size."
 
 -- the text for a packet that is not translated
 abbrev pub translate_text : TranslateError → List ℕ

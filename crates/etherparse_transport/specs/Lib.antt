@@ -31,6 +31,7 @@ pub mod Ipv4Translations
 pub mod Ipv6Translations
 pub mod Packets
 pub mod ReplyTo
+pub mod SegmentSizes
 pub mod SkippedHeaders
 pub mod SourceRoutes
 pub mod Translations

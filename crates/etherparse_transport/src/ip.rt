@@ -2,8 +2,8 @@
 //! `transport_slice` returns it as a typed slice, and `checksum_verdict` returns the verdict on its checksum. `write_packet_ipv4` and
 //! `write_packet_ipv6` write a packet from a transport header and a payload. `answer_echo` turns an echo request into its reply, and
 //! `is_reply_to` recognises the reply. `flow` returns addresses and ports. `translate_ipv4` and `translate_ipv6` replace addresses and
-//! ports. `write_checksum` writes the right checksum into a packet, and `lower_hop_limit` lowers its hop limit. `icmpv4_error_about` and
-//! `icmpv6_error_about` write an ICMP error about a packet.
+//! ports. `write_checksum` writes the right checksum into a packet, `lower_hop_limit` lowers its hop limit, and `lower_maximum_segment_size`
+//! lowers the maximum segment size of a SYN. `icmpv4_error_about` and `icmpv6_error_about` write an ICMP error about a packet.
 
 mod echo_reply;
 mod flow_ends;
@@ -15,6 +15,7 @@ mod ipv6_translation;
 mod message_place;
 mod packet_flow;
 mod reply_to;
+mod segment_size;
 mod skipped_headers;
 mod source_route;
 mod translated_ipv4;
@@ -35,6 +36,7 @@ pub use ipv4_translation::Ipv4Translation;
 pub use ipv6_translation::Ipv6Translation;
 pub use packet_flow::{PacketFlow, flow};
 pub use reply_to::{is_reply_from_any, is_reply_to};
+pub use segment_size::lower_maximum_segment_size;
 pub use translated_ipv4::{translate_ipv4, translate_ipv4_with_quoted};
 pub use translated_ipv6::{translate_ipv6, translate_ipv6_with_quoted};
 pub use transport_part::ip::{checksum_verdict, proto_in_ip, transport_slice};

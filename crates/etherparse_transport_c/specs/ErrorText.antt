@@ -3,13 +3,14 @@ use Rattle.std.specs.Prelude.{ℕ, ◌==◌, ◌&&◌, nat_lt, nat_le, if◌then
 use Rattle.std.specs.Fmt.{decimal}
 use Rattle.std.specs.List.{concat}
 use Rattle.std.specs.Option.{option_map}
-use Rattle.etherparse_transport.specs.ErrorTexts.{answer_echo_text, build_text, error_about_text, lower_hop_limit_text, translate_text, untested_text}
+use Rattle.etherparse_transport.specs.ErrorTexts.{answer_echo_text, build_text, error_about_text, lower_hop_limit_text, lower_maximum_segment_size_text, translate_text, untested_text}
 use Rattle.etherparse_transport.specs.declared.err.packet.answer_echo_error.AnswerEchoError.TheVariants as echo
 use Rattle.etherparse_transport.specs.declared.err.packet.answer_echo_error.AnswerEchoError.{AnswerEchoError}
 use Rattle.etherparse_transport.specs.declared.err.packet.build_slice_write_error.BuildSliceWriteError.TheVariants as build
 use Rattle.etherparse_transport.specs.declared.err.packet.build_slice_write_error.BuildSliceWriteError.{BuildSliceWriteError}
 use Rattle.etherparse_transport.specs.declared.err.packet.error_about_error.ErrorAboutError.TheVariants as about
 use Rattle.etherparse_transport.specs.declared.err.packet.lower_hop_limit_error.LowerHopLimitError.TheVariants as lower
+use Rattle.etherparse_transport.specs.declared.err.packet.lower_maximum_segment_size_error.LowerMaximumSegmentSizeError.TheVariants as segment_size
 use Rattle.etherparse_transport.specs.declared.err.packet.translate_error.TranslateError.{TranslateError}
 use Rattle.etherparse_transport.specs.declared.err.packet.translate_error.TranslateError.TheVariants as translate
 use Rattle.ip_part.specs.ErrorTexts.{ip_text}
@@ -223,6 +224,9 @@ own_text error =
     else if error.status == numbers.status_icmp_error_about_group then error_about_text about.GroupDestination
     else if error.status == numbers.status_icmp_error_packet_source then error_about_text about.PacketSource
     else if error.status == numbers.status_icmp_error_source then error_about_text about.ErrorSource
+    else if error.status == numbers.status_segment_size_later_fragment then lower_maximum_segment_size_text segment_size.LaterFragment
+    else if error.status == numbers.status_segment_size_no_syn then lower_maximum_segment_size_text segment_size.NoSyn
+    else if error.status == numbers.status_segment_size_no_option then lower_maximum_segment_size_text segment_size.NoOption
     else codes "Unknown error."
 
 -- The text for a value that is too big. In the library in Rattle, the payload length of a written packet is not a `ValueType`. So the text

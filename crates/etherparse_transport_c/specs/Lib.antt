@@ -16,6 +16,7 @@ pub mod Numbers
 pub mod PacketChecksum
 pub mod PacketVerdict
 pub mod QuotedPackets
+pub mod SegmentSize
 pub mod StatusName
 pub mod StatusText
 pub mod Sums

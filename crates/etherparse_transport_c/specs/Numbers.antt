@@ -167,6 +167,18 @@ status_icmp_error_packet_source = 51
 abbrev pub status_icmp_error_source : ℕ
 status_icmp_error_source = 52
 
+-- the packet is a later fragment, so it contains no maximum segment size
+abbrev pub status_segment_size_later_fragment : ℕ
+status_segment_size_later_fragment = 53
+
+-- the segment is not a SYN, so it contains no maximum segment size
+abbrev pub status_segment_size_no_syn : ℕ
+status_segment_size_no_syn = 54
+
+-- the options of the segment contain no maximum segment size
+abbrev pub status_segment_size_no_option : ℕ
+status_segment_size_no_option = 55
+
 -- ---- layers whose length can be wrong; 8 and above are reserved for IP headers
 
 abbrev pub layer_udp_header : ℕ

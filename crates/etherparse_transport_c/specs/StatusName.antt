@@ -56,4 +56,7 @@ status_name status =
     else if status == numbers.status_icmp_error_about_group then codes "ETHERPARSE_STATUS_ICMP_ERROR_ABOUT_GROUP"
     else if status == numbers.status_icmp_error_packet_source then codes "ETHERPARSE_STATUS_ICMP_ERROR_PACKET_SOURCE"
     else if status == numbers.status_icmp_error_source then codes "ETHERPARSE_STATUS_ICMP_ERROR_SOURCE"
+    else if status == numbers.status_segment_size_later_fragment then codes "ETHERPARSE_STATUS_SEGMENT_SIZE_LATER_FRAGMENT"
+    else if status == numbers.status_segment_size_no_syn then codes "ETHERPARSE_STATUS_SEGMENT_SIZE_NO_SYN"
+    else if status == numbers.status_segment_size_no_option then codes "ETHERPARSE_STATUS_SEGMENT_SIZE_NO_OPTION"
     else codes "unknown status"

@@ -56,4 +56,7 @@ status_text status =
     else if status == numbers.status_icmp_error_about_group then codes "the destination of the packet is an address of several hosts"
     else if status == numbers.status_icmp_error_packet_source then codes "the source of the packet is not the address of one host"
     else if status == numbers.status_icmp_error_source then codes "the source of the ICMP error is not the address of one host"
+    else if status == numbers.status_segment_size_later_fragment then codes "a later fragment has no maximum segment size"
+    else if status == numbers.status_segment_size_no_syn then codes "the segment is not a SYN"
+    else if status == numbers.status_segment_size_no_option then codes "the segment contains no maximum segment size"
     else codes "unknown status"

@@ -9,7 +9,8 @@ use crate::text::{Char, cut, put_string};
 use crate::{layer, len_source, status, value_type, verdict_kind};
 use etherparse_transport::err::TextPart::{Number, Words};
 use etherparse_transport::err::packet::{
-    AnswerEchoError, BuildSliceWriteError, ErrorAboutError, TranslateError, WriteChecksumError,
+    AnswerEchoError, BuildSliceWriteError, ErrorAboutError, LowerMaximumSegmentSizeError,
+    TranslateError, WriteChecksumError,
 };
 use etherparse_transport::err::tcp::HeaderError;
 use etherparse_transport::err::{ErrorText, Layer, LenError, ValueTooBigError, ValueType};
@@ -295,6 +296,9 @@ fn own_text(error: &EtherparseError) -> ErrorText
         status::ICMP_ERROR_ABOUT_GROUP => ErrorAboutError::GroupDestination.text(),
         status::ICMP_ERROR_PACKET_SOURCE => ErrorAboutError::PacketSource.text(),
         status::ICMP_ERROR_SOURCE => ErrorAboutError::ErrorSource.text(),
+        status::SEGMENT_SIZE_LATER_FRAGMENT => LowerMaximumSegmentSizeError::LaterFragment.text(),
+        status::SEGMENT_SIZE_NO_SYN => LowerMaximumSegmentSizeError::NoSyn.text(),
+        status::SEGMENT_SIZE_NO_OPTION => LowerMaximumSegmentSizeError::NoOption.text(),
         _ => ErrorText::from_words("Unknown error."),
     }
 }

@@ -30,6 +30,7 @@ mod packet_flow;
 mod packet_verdict;
 mod protocol;
 mod quoted_packet;
+mod segment_size;
 mod status;
 mod status_name;
 mod status_text;

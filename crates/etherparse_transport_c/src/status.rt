@@ -147,3 +147,12 @@ pub const ICMP_ERROR_PACKET_SOURCE: u32 = 51;
 
 /// The source of the ICMP error is not the address of one host.
 pub const ICMP_ERROR_SOURCE: u32 = 52;
+
+/// The packet is a later fragment, so it contains no maximum segment size.
+pub const SEGMENT_SIZE_LATER_FRAGMENT: u32 = 53;
+
+/// The segment is not a SYN. Only a SYN contains a maximum segment size.
+pub const SEGMENT_SIZE_NO_SYN: u32 = 54;
+
+/// The options of the segment contain no maximum segment size.
+pub const SEGMENT_SIZE_NO_OPTION: u32 = 55;

@@ -76,6 +76,9 @@ fn meaning(status: u32) -> &'static str
         status::ICMP_ERROR_PACKET_SOURCE =>
             "the source of the packet is not the address of one host",
         status::ICMP_ERROR_SOURCE => "the source of the ICMP error is not the address of one host",
+        status::SEGMENT_SIZE_LATER_FRAGMENT => "a later fragment has no maximum segment size",
+        status::SEGMENT_SIZE_NO_SYN => "the segment is not a SYN",
+        status::SEGMENT_SIZE_NO_OPTION => "the segment contains no maximum segment size",
         _ => "unknown status",
     }
 }

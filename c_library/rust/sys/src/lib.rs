@@ -63,6 +63,9 @@ pub const STATUS_ICMP_ERROR_ABOUT_ERROR: u32 = 49;
 pub const STATUS_ICMP_ERROR_ABOUT_GROUP: u32 = 50;
 pub const STATUS_ICMP_ERROR_PACKET_SOURCE: u32 = 51;
 pub const STATUS_ICMP_ERROR_SOURCE: u32 = 52;
+pub const STATUS_SEGMENT_SIZE_LATER_FRAGMENT: u32 = 53;
+pub const STATUS_SEGMENT_SIZE_NO_SYN: u32 = 54;
+pub const STATUS_SEGMENT_SIZE_NO_OPTION: u32 = 55;
 
 // ---- Layers: which length was wrong. 8 and up are kept for the headers of IP.
 
@@ -786,6 +789,8 @@ extern "C" {
     pub fn etherparse_packet_checksum_store(packet: *mut u8, packet_len: usize, checksum: *mut u16, error: *mut Error) -> u32;
     /// Lowers the hop limit of an IP packet by one, and updates the checksum of an IPv4 header.
     pub fn etherparse_hop_limit_lower(packet: *mut u8, packet_len: usize, error: *mut Error) -> u32;
+    /// Lowers the maximum segment size of a SYN, and writes the size that the packet contained.
+    pub fn etherparse_maximum_segment_size_lower(packet: *mut u8, packet_len: usize, most: u16, size: *mut u16, error: *mut Error) -> u32;
     /// Writes where the packet that an ICMPv4 error is about lies in the message.
     pub fn etherparse_icmpv4_quoted_packet(
         bytes: *const u8,
