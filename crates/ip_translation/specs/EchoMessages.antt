@@ -34,9 +34,13 @@ echo_refusal new_type message = first_of (
 abbrev pub icmp_checksum : List ℕ → ℕ
 icmp_checksum message = be_number message icmp_checksum_place 2
 
+-- the first 16-bit word of a message with this type and this code
+abbrev pub first_word : ℕ → ℕ → ℕ
+first_word type code = type * 256 + code
+
 -- the first 16-bit word of a message: its type and its code
 abbrev pub type_and_code : List ℕ → ℕ
-type_and_code message = slice_index message 0 * 256 + slice_index message 1
+type_and_code message = first_word (slice_index message 0) (slice_index message 1)
 
 -- the message with this type instead of its own type
 abbrev pub with_type : ℕ → List ℕ → List ℕ
@@ -45,7 +49,7 @@ with_type type message = slice_set message 0 type
 -- the checksum, updated for the new type and for the new pseudo header; the pseudo header of ICMPv4 is empty
 abbrev pub updated_checksum : ℕ → List ℕ → List ℕ → List ℕ → ℕ
 updated_checksum type old new message =
-    updated_checksum_of (icmp_checksum message) (folded (type_and_code message + total old)) (folded (type * 256 + slice_index message 1 + total new))
+    updated_checksum_of (icmp_checksum message) (folded (type_and_code message + total old)) (folded (first_word type (slice_index message 1) + total new))
 
 -- The checksum of the translated message. Without a pseudo header, all other bytes of a reply may be 0. Then its checksum must be all ones,
 -- but the update returns 0 (RFC 1624). So 0 is replaced by all ones. In any other message a receiver accepts both values.

@@ -1,4 +1,4 @@
-ghost use Rattle.std.specs.Prelude.{◌≡◌, ◌≢◌, ◌⊎◌, ◌≤◌, ◌<◌, ◌+◌, ◌*◌, ◌%◌, ◌↔◌, [], ℕ, IfOk, length, slice_index};
+ghost use Rattle.std.specs.Prelude.{◌≡◌, ◌≢◌, ◌⊎◌, ◌≤◌, ◌<◌, ◌+◌, ◌%◌, ◌↔◌, [], ℕ, IfOk, length, slice_index};
 ghost use Rattle.net_base.specs.IpNumbers.{icmpv6_number};
 ghost use Rattle.net_base.specs.PseudoHeader.{ipv6_pseudo_header};
 ghost use Rattle.net_base.specs.Refusals.{RefusesExactly};
@@ -121,7 +121,7 @@ pub(crate) fn write_echo(translated: &mut [u8], message: &[u8], type_u8: u8, old
 fn echo_checksum(message: &[u8], type_u8: u8, old: &[u8], new: &[u8]) -> u16
     requires there { 8 ≤ length message.now }
     ensures checksum { result ≡ specs.new_checksum type_u8 old.now new.now message.now }
-    ensures remainder { (rest : ℕ) → (total new.now + (type_u8 * 256 + slice_index message.now 1 + rest + result)) % 65535
+    ensures remainder { (rest : ℕ) → (total new.now + (specs.first_word type_u8 (slice_index message.now 1) + rest + result)) % 65535
         ≡ (total old.now + (specs.type_and_code message.now + rest + specs.icmp_checksum message.now)) % 65535 }
     ensures some { new.now ≡ [] → result ≢ 0 }
 {
@@ -136,7 +136,7 @@ fn echo_checksum(message: &[u8], type_u8: u8, old: &[u8], new: &[u8]) -> u16
 fn updated_checksum(message: &[u8], type_u8: u8, old: &[u8], new: &[u8]) -> u16
     requires there { 8 ≤ length message.now }
     ensures checksum { result ≡ specs.updated_checksum type_u8 old.now new.now message.now }
-    ensures remainder { (rest : ℕ) → (total new.now + (type_u8 * 256 + slice_index message.now 1 + rest + result)) % 65535
+    ensures remainder { (rest : ℕ) → (total new.now + (specs.first_word type_u8 (slice_index message.now 1) + rest + result)) % 65535
         ≡ (total old.now + (specs.type_and_code message.now + rest + specs.icmp_checksum message.now)) % 65535 }
 {
     let code = message[1];

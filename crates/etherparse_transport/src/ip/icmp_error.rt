@@ -73,8 +73,8 @@ pub fn icmpv4_error_about(
 ) -> Result<usize, ErrorAboutError>
     ensures refused { RefusesExactly result (icmpv4_refusal icmp_type source packet.now (length slice.old)) }
     ensures unchanged { IfErr result (λ _. slice.new ≡ slice.old) }
-    ensures len { IfOk result (λ len. len ≡ 28 + length (ipv4_quote packet.now)) }
-    ensures most { IfOk result (λ len. len ≤ 576) }
+    ensures len { IfOk result (λ len. len ≡ specs.ipv4_front_len + length (ipv4_quote packet.now)) }
+    ensures most { IfOk result (λ len. len ≤ specs.max_error_len_ipv4) }
     ensures written { IfOk result (λ len. slice.new ≡ icmpv4_error icmp_type source time_to_live packet.now ++ drop len slice.old) }
     // The error is read back with the beginning of the packet as its payload, and its checksum is right.
     ensures read { IfOk result (λ _. IsReadAs slice.new (addresses.Ipv4 source (slice_range packet.now 12 16))
@@ -144,8 +144,8 @@ pub fn icmpv6_error_about(
 ) -> Result<usize, ErrorAboutError>
     ensures refused { RefusesExactly result (icmpv6_refusal icmp_type source packet.now (length slice.old)) }
     ensures unchanged { IfErr result (λ _. slice.new ≡ slice.old) }
-    ensures len { IfOk result (λ len. len ≡ 48 + length (ipv6_quote packet.now)) }
-    ensures most { IfOk result (λ len. len ≤ 1280) }
+    ensures len { IfOk result (λ len. len ≡ specs.ipv6_front_len + length (ipv6_quote packet.now)) }
+    ensures most { IfOk result (λ len. len ≤ specs.max_error_len_ipv6) }
     ensures written { IfOk result (λ len. slice.new ≡ icmpv6_error icmp_type source hop_limit packet.now ++ drop len slice.old) }
     // The error is read back with the beginning of the packet as its payload, and its checksum is right.
     ensures read { IfOk result (λ _. IsReadAs slice.new (addresses.Ipv6 source (Some (slice_range packet.now 8 24)))
