@@ -880,6 +880,9 @@ static const uint8_t request_ipv4[34] = {0x45, 0, 0, 32, 0, 7, 0, 0, 9, 1, 0x2e,
                                          168, 1, 2, 8, 0, 0x19, 0x2c, 0, 1, 0, 2, 'p', 'i', 'n', 'g', 0xaa, 0xbb};
 static const uint8_t reply_ipv4[34] = {0x45, 0, 0, 32, 0, 7, 0x40, 0, 64, 1, 0xb7, 0x82, 192, 168, 1, 2, 192,
                                        168, 1, 1, 0, 0, 0x21, 0x2c, 0, 1, 0, 2, 'p', 'i', 'n', 'g', 0xaa, 0xbb};
+/* The request over IPv4 with the options "no operation", twice, and "end of option list", and a byte behind it. */
+static const uint8_t padded_ipv4[38] = {0x46, 0, 0, 36, 0, 7, 0, 0, 9, 1, 0x2c, 0x77, 192, 168, 1, 1, 192, 168, 1,
+                                        2, 1, 1, 0, 7, 8, 0, 0x19, 0x2c, 0, 1, 0, 2, 'p', 'i', 'n', 'g', 0xaa, 0xbb};
 static const uint8_t request_ipv6[54] = {0x60, 0, 0, 0, 0, 12, 58, 9, 0x20, 0x01, 0x0d, 0xb8, 0, 0, 0, 0, 0, 0,
                                          0, 0, 0, 0, 0, 1, 0x20, 0x01, 0x0d, 0xb8, 0, 0, 0, 0, 0, 0, 0, 0,
                                          0, 0, 0, 2, 128, 0, 0x45, 0x70, 0, 1, 0, 2, 'p', 'i', 'n', 'g', 0xaa, 0xbb};
@@ -924,6 +927,23 @@ static int is_not_answered(size_t place, uint8_t byte, etherparse_status status)
     memcpy(untouched, changed, 34);
     return etherparse_echo_answer(changed, 34, 64, &written, &error) == status && error.status == status && written == 77 &&
            memcmp(changed, untouched, 34) == 0;
+}
+
+/* The reply to a request with such options is the reply to the request without them. All bytes behind the reply stay. */
+static void echo_padded(void)
+{
+    static const uint8_t host4[4] = {192, 168, 1, 2};
+    uint8_t packet[38];
+    clear();
+    memcpy(packet, padded_ipv4, 38);
+    OK(etherparse_echo_answer(packet, 38, 64, &written, &error));
+    EXPECT(memcmp(packet, reply_ipv4, 32) == 0 && memcmp(packet + 32, padded_ipv4 + 32, 6) == 0 && written == 32);
+    memcpy(packet, padded_ipv4, 38);
+    OK(etherparse_echo_answer_ipv4(packet, 38, host4, 64, &written, &error));
+    EXPECT(memcmp(packet, reply_ipv4, 32) == 0 && memcmp(packet + 32, padded_ipv4 + 32, 6) == 0 && written == 32);
+    memcpy(packet, padded_ipv4, 38);
+    packet[20] = 7;
+    REFUSED(etherparse_echo_answer(packet, 38, 64, &written, &error), ETHERPARSE_STATUS_ECHO_HAS_OPTIONS);
 }
 
 static void echo_refused(void)
@@ -1789,6 +1809,7 @@ int main(void)
     written_packets();
     ipv4_header();
     echo();
+    echo_padded();
     echo_refused();
     echo_replies();
     hop_limits();

@@ -491,6 +491,8 @@ class Calls(unittest.TestCase):
                 self.assertEqual((reply.kind.name, reply.id, reply.sequence_number, reply.payload), ("ECHO_REPLY", 1, 2, b"ping"))
         answered = ept.answer_echo(REQUEST, 7)
         self.assertEqual((answered[8], sum_of(answered[:20])), (7, 0xFFFF))
+        with_options = bytes.fromhex("4600002400070000" "0901" "2c77" "c0a80101" "c0a80102" "01010007") + REQUEST[20:]
+        self.assertEqual(ept.answer_echo(with_options, 7), answered)
 
     def test_what_is_no_echo_request_is_not_answered(self):
         for packet, source, status in (

@@ -174,7 +174,7 @@ pub enum ErrorKind {
     EchoFragment,
     /// The packet is no echo request, or has another IP version.
     EchoNoRequest,
-    /// The packet contains IPv4 options, an authentication header, or IPv6 extension headers.
+    /// The packet contains IPv4 options of another kind than 0 and 1, an authentication header, or IPv6 extension headers.
     EchoHasOptions,
     /// The checksum of the IPv4 header of an echo request is wrong.
     EchoHeaderChecksumWrong,

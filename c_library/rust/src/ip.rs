@@ -378,7 +378,7 @@ pub fn test_ipv4_header_checksum(bytes: &[u8]) -> Result<Verdict, Error> {
 }
 
 /// Turns the echo request in the IP packet at the front of the bytes into its reply, in place, and returns the length of the reply. The
-/// reply goes from the destination of the request to its source. The bytes behind the packet stay.
+/// reply goes from the destination of the request to its source, without IPv4 options. The bytes behind the reply stay.
 ///
 /// Errors: as [`Transport::read`]; `EchoFragment`, `EchoNoRequest`, `EchoHasOptions`, `Length`, `ChecksumWrong`, `EchoHeaderChecksumWrong`,
 /// `EchoRequestSource`, `EchoReplySource`. The bytes are as they were.

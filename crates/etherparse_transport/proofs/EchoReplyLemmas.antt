@@ -29,7 +29,7 @@ use Rattle.net_base.specs.PseudoHeader.{ipv6_pseudo_header}
 use Rattle.net_base.specs.Refusals.{refused_if}
 use Rattle.word_sum.specs.Checksum.{AcceptsChecksum, IsAllOnes, Verifies, checksum_of, folded, total}
 use Rattle.word_sum.proofs.ChecksumLemmas.{accepted_checksum, checksum_verifies, folded-some, total-append_twice}
-use Rattle.etherparse_transport.specs.EchoReplies.{IsIpv4Request, IsIpv6Request, icmpv4_refusal, icmpv4_reply, icmpv4_reply_to, icmpv6_refusal, icmpv6_reply, icmpv6_reply_to, ipv4_reply, ipv4_reply_start, ipv6_reply, message_after, is_all_ones}
+use Rattle.etherparse_transport.specs.EchoReplies.{IsPlainRequest, IsIpv6Request, icmpv4_refusal, icmpv4_reply, icmpv4_reply_to, icmpv6_refusal, icmpv6_reply, icmpv6_reply_to, plain_reply, ipv4_reply_start, ipv6_reply, message_after, is_all_ones}
 use Rattle.etherparse_transport.specs.declared.err.packet.answer_echo_error.AnswerEchoError.TheVariants.{Checksum, Len, NoEchoRequest}
 use Rattle.etherparse_transport.specs.Formats.{IsReadBack, proto_of, wire}
 use Rattle.etherparse_transport.specs.Packets.{IsReadAs, ipv4_fields, ipv4_header, ipv6_header, number_of}
@@ -228,7 +228,7 @@ icmpv4_reply_valid echo payload =
     icmpv4_valid.built_valid header payload refl small (checksum_verifies _ _ refl)
 
 -- the packet of the reply contains its message
-pub ipv4_reply_has : (packet source destination : List ℕ) (time_to_live : ℕ) (echo : IcmpEchoHeader) → IsIpv4Request packet
+pub ipv4_reply_has : (packet source destination : List ℕ) (time_to_live : ℕ) (echo : IcmpEchoHeader) → IsPlainRequest packet
     → length source ≡ 4 → length destination ≡ 4
     → HasMessage
     (ipv4_header (ipv4_reply_start packet) time_to_live 1 source destination ++ (icmpv4.wire (icmpv4_reply echo (drop 8 (message_after 20 packet))) ++ drop 28 packet))
@@ -261,7 +261,7 @@ ipv4_reply_has packet source destination time_to_live echo is len len_too =
     let Has : List ℕ → Type 0 = λ bytes. HasMessage bytes (addresses.Ipv4 source destination) 1 sent in
     subst Has (sym reply_is) has
 
-pub ipv4_reply_read : (packet source destination : List ℕ) (time_to_live : ℕ) (echo : IcmpEchoHeader) → IsIpv4Request packet
+pub ipv4_reply_read : (packet source destination : List ℕ) (time_to_live : ℕ) (echo : IcmpEchoHeader) → IsPlainRequest packet
     → length source ≡ 4 → length destination ≡ 4
     → IsReadBack (headers.Icmpv4 (icmpv4_reply echo (drop 8 (message_after 20 packet)))) (drop 8 (message_after 20 packet))
     → IsReadAs
@@ -274,7 +274,7 @@ ipv4_reply_read packet source destination time_to_live echo is len len_too reads
     (ipv4_reply_has packet source destination time_to_live echo is len len_too)
     (icmpv4_right source destination (icmpv4.wire header ++ payload) reads.accepted (icmpv4_reply_valid echo payload)) reads
 
-pub ipv4_reply_verifies : (packet source destination after : List ℕ) (time_to_live : ℕ) → IsIpv4Request packet
+pub ipv4_reply_verifies : (packet source destination after : List ℕ) (time_to_live : ℕ) → IsPlainRequest packet
     → length source ≡ 4 → length destination ≡ 4
     → Verifies [] (ip.ipv4_header (ipv4_header (ipv4_reply_start packet) time_to_live 1 source destination ++ after))
 ipv4_reply_verifies packet source destination after time_to_live is len len_too =
@@ -296,12 +296,12 @@ pub reply_start_len : (packet : List ℕ) → 6 ≤ length packet → length (ip
 reply_start_len packet there = omega (arith, length-append (take 6 packet) (0x40 ∷ 0 ∷ []), length-take-le 6 packet there)
 
 -- the bytes that are written are the packet of the reply
-pub ipv4_written : (packet new first part source : List ℕ) (time_to_live : ℕ) → IsIpv4Request packet
+pub ipv4_written : (packet new first part source : List ℕ) (time_to_live : ℕ) → IsPlainRequest packet
     → length source ≡ 4 → length (slice_range packet 12 16) ≡ 4
     → first ≡ ipv4_header (ipv4_reply_start packet) time_to_live 1 source (slice_range packet 12 16)
     → part ≡ take 4 (icmpv4.wire (icmpv4_reply_to (message_after 20 packet)))
     → echoed (icmpv4.wire (icmpv4_reply_to (message_after 20 packet)) ++ drop 8 (message_after 20 packet)) ≡ echoed (message_after 20 packet)
-    → new ≡ first ++ (part ++ drop (length first + length part) packet) → new ≡ ipv4_reply source time_to_live packet
+    → new ≡ first ++ (part ++ drop (length first + length part) packet) → new ≡ plain_reply source time_to_live packet
 ipv4_written packet new first part source time_to_live is len len_too first_is part_is same new_is =
     let start_len : length (ipv4_reply_start packet) ≡ 8 = reply_start_len packet (omega (arith, is.end, is.there)) in
     let destination : List ℕ = slice_range packet 12 16 in

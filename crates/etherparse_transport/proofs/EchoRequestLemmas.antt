@@ -14,7 +14,7 @@ use Rattle.net_base.specs.declared.ipv4_header.Ipv4Header.{Ipv4Header}
 use Rattle.net_base.specs.declared.ipv6_header.Ipv6Header.{Ipv6Header}
 use Rattle.net_base.specs.Refusals.{first_of, refused_if}
 use Rattle.word_sum.specs.Checksum.{IsAllOnes, Verifies, folded, total}
-use Rattle.etherparse_transport.specs.EchoReplies.{IsIpv4Request, IsIpv6Request, icmpv4_refusal, icmpv6_refusal, ipv4_request_refusal, ipv4_rules, ipv6_request_refusal, ipv6_rules, is_host_ipv4, is_host_ipv6, message_after, refusal_by_headers, is_all_ones, transport_refusal}
+use Rattle.etherparse_transport.specs.EchoReplies.{IsIpv4Request, IsIpv6Request, are_padding, icmpv4_refusal, icmpv6_refusal, ipv4_options, ipv4_request_refusal, ipv4_rules, ipv6_request_refusal, ipv6_rules, is_host_ipv4, is_host_ipv6, message_after, refusal_by_headers, is_all_ones, transport_refusal}
 use Rattle.etherparse_transport.specs.declared.err.packet.answer_echo_error.AnswerEchoError.{AnswerEchoError}
 use Rattle.etherparse_transport.specs.declared.err.packet.answer_echo_error.AnswerEchoError.TheVariants.{Fragment, HeaderChecksum, Ip, NoEchoRequest, Options, RequestSource}
 use Rattle.etherparse_transport.proofs.BuiltLemmas.{none_first, none_if}
@@ -106,34 +106,28 @@ found_at packet found header_len carries stated whole offset =
       there = there;
     }
 
--- the header of a packet whose message comes after 20 bytes has five words
-pub five_words : (packet : List ℕ) (found : TransportInIp) → IsAfterHeaders packet found → BeginsWithIpv4Header packet → found.payload_offset ≡ 20
-    → ipv4_header_len packet ≡ 20
-five_words packet found after begins offset =
-    let header_is : length (ip.ip_header packet) ≡ ipv4_header_len packet =
-    ap (λ v. length (if v == 4 then ip.ipv4_header packet else ip.ipv6_header packet)) begins.is_version_4
-    ∙ length-take-le (ipv4_header_len packet) packet begins.whole in
-    omega (arith, after.offset, offset, header_is, begins.five_words)
-
-pub ipv4_request_of : (packet : List ℕ) (found : TransportInIp) → Carries packet found → IsAfterHeaders packet found → IsOverIpv4 packet found
+pub ipv4_request_of : (packet : List ℕ) (found : TransportInIp) → Carries packet found → IsOverIpv4 packet found
     → BeginsWithIpv4Header packet → found.is_length_missing ≡ false → found.is_cut_off ≡ false
-    → transport_refusal 1 20 found.is_fragment found.protocol.0 found.payload_offset ≡ None → icmpv4_refusal found.payload.now ≡ None
-    → IsIpv4Request packet
-ipv4_request_of packet found carries after over begins stated whole transport message =
-    let is : IsFoundTransport found 1 20 = found_transport 1 20 found transport in
-    let at : IsFound packet found 20 = found_at packet found 20 carries stated whole is.offset in
-    let len : ipv4_header_len packet ≡ 20 = five_words packet found after begins is.offset in
+    → transport_refusal 1 (ipv4_header_len packet) found.is_fragment found.protocol.0 found.payload_offset ≡ None
+    → icmpv4_refusal found.payload.now ≡ None → Verifies [] (ip.ipv4_header packet) → IsIpv4Request packet
+ipv4_request_of packet found carries over begins stated whole transport message verifies =
+    let len : ℕ = ipv4_header_len packet in
+    let is : IsFoundTransport found 1 len = found_transport 1 len found transport in
+    let at : IsFound packet found len = found_at packet found len carries stated whole is.offset in
     record {
-      five_words = omega (arith, len, begins.is_version_4);
+      is_ipv4 = begins.is_version_4;
+      five_words = begins.five_words;
       whole = sym over.is_fragment ∙ is.whole;
-      end = at.end ∙ ap (λ bytes. 20 + length bytes) at.message_is;
+      end = at.end ∙ ap (λ bytes. len + length bytes) at.message_is;
       there = at.there;
       message = ap icmpv4_refusal (sym at.message_is) ∙ message;
+      verifies = verifies;
     }
 
--- the rules that follow the rules for the message
-abbrev pub last_rules : Bool → Bool → List (Option AnswerEchoError)
-last_rules sums host = refused_if (not sums) HeaderChecksum ∷ refused_if (not host) RequestSource ∷ []
+-- the rules for an IPv4 packet that follow the rules for its transport: for its options, its message, its checksum and its source
+abbrev pub last_rules : Bool → Option AnswerEchoError → Bool → Bool → List (Option AnswerEchoError)
+last_rules padding message sums host =
+    refused_if (not padding) Options ∷ message ∷ refused_if (not sums) HeaderChecksum ∷ refused_if (not host) RequestSource ∷ []
 
 -- the IPv4 header at the front of a packet has the addresses of the packet
 pub addresses_of : (packet header : List ℕ) (found : Ipv4Header) → BeginsWithIpv4Header packet → header ≡ take (ipv4_header_len packet) packet
@@ -149,29 +143,73 @@ pub source_of : (packet header : List ℕ) (found : Ipv4Header) → BeginsWithIp
     → found ≡ ipv4_header_of header → found.source ≡ slice_range packet 12 16
 source_of packet header found begins kept is = ap (λ addresses. addresses.source) (addresses_of packet header found begins kept is)
 
-pub ipv4_last_rules : (packet header : List ℕ) (found : TransportInIp) (valid : Bool) → ip.refusal packet ≡ None → (carries : Carries packet found)
-    → IsAfterHeaders packet found → BeginsWithIpv4Header packet → found.is_length_missing ≡ false → found.is_cut_off ≡ false
-    → transport_refusal 1 20 found.is_fragment found.protocol.0 found.payload_offset ≡ None → icmpv4_refusal found.payload.now ≡ None
-    → header ≡ take (ipv4_header_len packet) packet → (IsTrue valid ↔ Verifies [] header)
+-- an accepted packet is refused only by the last rules
+pub ipv4_last_rules : (packet : List ℕ) (found : TransportInIp) → ip.refusal packet ≡ None → (carries : Carries packet found)
+    → BeginsWithIpv4Header packet → found.is_length_missing ≡ false → found.is_cut_off ≡ false
+    → transport_refusal 1 (ipv4_header_len packet) found.is_fragment found.protocol.0 found.payload_offset ≡ None
     → ipv4_request_refusal packet
-    ≡ first_of (last_rules valid (is_host_ipv4 (slice_range packet 12 16)))
-ipv4_last_rules packet header found valid accepted carries after begins stated whole transport message kept verifies =
+    ≡ first_of (last_rules (are_padding (ipv4_options packet)) (icmpv4_refusal found.payload.now) (is_all_ones (total (ip.ipv4_header packet)))
+    (is_host_ipv4 (slice_range packet 12 16)))
+ipv4_last_rules packet found accepted carries begins stated whole transport =
     let headers : Headers = carries.headers in
-    let is : IsFoundTransport found 1 20 = found_transport 1 20 found transport in
-    let at : IsFound packet found 20 = found_at packet found 20 carries stated whole is.offset in
+    let len : ℕ = ipv4_header_len packet in
+    let is : IsFoundTransport found 1 len = found_transport 1 len found transport in
+    let at : IsFound packet found len = found_at packet found len carries stated whole is.offset in
     let read : ip.headers_of false packet ≡ Ok headers = sym (ap (λ missing. ip.headers_of missing packet) stated) ∙ carries.read in
-    let same_transport : transport_refusal 1 20 headers.is_fragment headers.protocol.0 headers.len ≡ None =
-    sym (ap (λ b. transport_refusal 1 20 b headers.protocol.0 headers.len) carries.is_fragment)
-    ∙ sym (ap (λ protocol. transport_refusal 1 20 found.is_fragment protocol.0 headers.len) carries.protocol)
-    ∙ sym (ap (λ n. transport_refusal 1 20 found.is_fragment found.protocol.0 n) carries.payload_offset) ∙ transport in
-    let header_is : header ≡ take 20 packet = kept ∙ ap (λ n. take n packet) (five_words packet found after begins is.offset) in
-    let Sums : List ℕ → Type 0 = λ bytes. IsTrue valid ↔ Verifies [] bytes in
-    let sums : is_all_ones (total (take 20 packet)) ≡ valid = is_all_ones_by valid (total (take 20 packet)) (subst Sums header_is verifies) in
+    let same_transport : transport_refusal 1 len headers.is_fragment headers.protocol.0 headers.len ≡ None =
+    sym (ap (λ b. transport_refusal 1 len b headers.protocol.0 headers.len) carries.is_fragment)
+    ∙ sym (ap (λ protocol. transport_refusal 1 len found.is_fragment protocol.0 headers.len) carries.protocol)
+    ∙ sym (ap (λ n. transport_refusal 1 len found.is_fragment found.protocol.0 n) carries.payload_offset) ∙ transport in
+    let sums : Bool = is_all_ones (total (ip.ipv4_header packet)) in
     by_rules packet headers (ipv4_rules packet) accepted read
     ∙ skipped (refused_if (not (version packet == 4)) NoEchoRequest) _ (ap (λ v. refused_if (not (v == 4)) NoEchoRequest) begins.is_version_4)
-    ∙ skipped (transport_refusal 1 20 headers.is_fragment headers.protocol.0 headers.len) _ same_transport
-    ∙ skipped (icmpv4_refusal (message_after 20 packet)) _ (ap icmpv4_refusal (sym at.message_is) ∙ message)
-    ∙ ap (λ sums. first_of (last_rules sums (is_host_ipv4 (slice_range packet 12 16)))) sums
+    ∙ skipped (transport_refusal 1 len headers.is_fragment headers.protocol.0 headers.len) _ same_transport
+    ∙ ap (λ message. first_of (last_rules (are_padding (ipv4_options packet)) (icmpv4_refusal message) sums (is_host_ipv4 (slice_range packet 12 16))))
+    (sym at.message_is)
+
+-- what is known of a packet over IPv4 whose transport, options and message are accepted
+pub record IsIpv4Echo (packet header : List ℕ) (found : TransportInIp) : Type 0 where
+  pub accepted : ip.refusal packet ≡ None
+  pub carries : Carries packet found
+  pub begins : BeginsWithIpv4Header packet
+  pub stated : found.is_length_missing ≡ false
+  pub whole : found.is_cut_off ≡ false
+  pub transport : transport_refusal 1 (ipv4_header_len packet) found.is_fragment found.protocol.0 found.payload_offset ≡ None
+  pub padding : are_padding (ipv4_options packet) ≡ true
+  pub message : icmpv4_refusal found.payload.now ≡ None
+  pub kept : header ≡ ip.ipv4_header packet
+
+pub ipv4_echo : (packet header bytes options : List ℕ) (found : TransportInIp) (padding : Bool) → ip.refusal packet ≡ None → Carries packet found
+    → BeginsWithIpv4Header packet → found.is_length_missing ≡ false → found.is_cut_off ≡ false → header ≡ ip.ipv4_header packet → bytes ≡ header
+    → transport_refusal 1 (length bytes) found.is_fragment found.protocol.0 found.payload_offset ≡ None → options ≡ drop 20 header
+    → padding ≡ are_padding options → padding ≡ true → icmpv4_refusal found.payload.now ≡ None → IsIpv4Echo packet header found
+ipv4_echo packet header bytes options found padding accepted carries begins stated whole kept bytes_are transport options_are padding_is is_padding message =
+    let len_is : length bytes ≡ ipv4_header_len packet =
+    ap length (bytes_are ∙ kept) ∙ length-take-le (ipv4_header_len packet) packet begins.whole in
+    record {
+      accepted = accepted;
+      carries = carries;
+      begins = begins;
+      stated = stated;
+      whole = whole;
+      transport = sym (ap (λ n. transport_refusal 1 n found.is_fragment found.protocol.0 found.payload_offset) len_is) ∙ transport;
+      padding = sym (ap are_padding (options_are ∙ ap (drop 20) kept)) ∙ sym padding_is ∙ is_padding;
+      message = message;
+      kept = kept;
+    }
+
+-- only the rules for the checksum of the header and for the source are left
+pub ipv4_rules_left : (packet header : List ℕ) (found : TransportInIp) (valid : Bool) → IsIpv4Echo packet header found
+    → (IsTrue valid ↔ Verifies [] header)
+    → ipv4_request_refusal packet ≡ first_of (last_rules true None valid (is_host_ipv4 (slice_range packet 12 16)))
+ipv4_rules_left packet header found valid is verifies =
+    let host : Bool = is_host_ipv4 (slice_range packet 12 16) in
+    let sums : Bool = is_all_ones (total (ip.ipv4_header packet)) in
+    let Sums : List ℕ → Type 0 = λ bytes. IsTrue valid ↔ Verifies [] bytes in
+    ipv4_last_rules packet found is.accepted is.carries is.begins is.stated is.whole is.transport
+    ∙ ap (λ padding. first_of (last_rules padding (icmpv4_refusal found.payload.now) sums host)) is.padding
+    ∙ ap (λ message. first_of (last_rules true message sums host)) is.message
+    ∙ ap (λ sums. first_of (last_rules true None sums host)) (is_all_ones_by valid (total (ip.ipv4_header packet)) (subst Sums is.kept verifies))
 
 -- ---- an accepted IPv6 packet
 

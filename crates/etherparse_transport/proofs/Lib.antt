@@ -21,5 +21,6 @@ pub mod TranslationLemmas
 pub mod TranslationReading
 pub mod TranslationSums
 pub mod UpdatedAlike
+pub mod WithoutOptionsLemmas
 pub mod WorkedExamples
 pub mod WrittenChecksumLemmas

@@ -48,7 +48,7 @@ drop_two n source destination len len_too =
     drop_all (n + n) (source ++ destination) (omega (arith, len, len_too, length-append source destination))
 
 -- the bytes between the header and the padding
-message_between : (k n : ℕ) (header message padding : List ℕ) → length header ≡ k → n ≡ k + length message
+pub message_between : (k n : ℕ) (header message padding : List ℕ) → length header ≡ k → n ≡ k + length message
     → drop k (take n (header ++ (message ++ padding))) ≡ message
 message_between k n header message padding len whole =
     let both : n ≡ length (header ++ message) = omega (arith, len, whole, length-append header message) in
@@ -148,7 +148,7 @@ pub record HasMessage (packet : List ℕ) (between : Addresses) (number : ℕ) (
   pub whole : headers.is_fragment ≡ false
   pub bytes_are : drop headers.len (counted false packet) ≡ bytes
 
-front_of_ipv4 : (start : Start) (time_to_live protocol checksum_high checksum_low : ℕ) (source destination after : List ℕ)
+pub front_of_ipv4 : (start : Start) (time_to_live protocol checksum_high checksum_low : ℕ) (source destination after : List ℕ)
     → length source ≡ 4 → length destination ≡ 4
     → ip.ipv4_header (front_ipv4 start time_to_live protocol checksum_high checksum_low ((source ++ destination) ++ after))
     ≡ front_ipv4 start time_to_live protocol checksum_high checksum_low (source ++ destination)

@@ -11,18 +11,20 @@ use Rattle.ip_part.specs.Addresses as addresses
 use Rattle.ip_part.specs.ExtensionHeaders.{is_extension}
 use Rattle.ip_part.specs.Ip.{Carries, IsAfterHeaders, first_headers, ipv4_headers, ipv6_headers, is_extended, is_jumbogram, next_header}
 use Rattle.ip_part.specs.Ip as ip
+use Rattle.ip_part.specs.Options.{routed}
 use Rattle.ip_part.specs.declared.transport.TransportInIp.{TransportInIp}
 use Rattle.ip_part.proofs.TransportLemmas.{over_ipv4, over_ipv6}
 use Rattle.net_base.specs.IpHeaders.{BeginsWithIpv4Header, BeginsWithIpv6Header, ipv4_header_len, version}
 use Rattle.net_base.specs.Refusals.{RefusesExactly, refused_if}
 use Rattle.word_sum.specs.Checksum.{Verifies}
-use Rattle.etherparse_transport.specs.EchoReplies.{IsIpv4Request, IsIpv6Request, icmpv4_reply_to, icmpv6_reply_to, ipv4_answer_refusal, ipv4_reply, ipv4_request_refusal, ipv6_answer_refusal, ipv6_reply, ipv6_request_refusal, is_group_ipv4, is_group_ipv6, is_host_ipv4, is_host_ipv6, message_after, transport_refusal}
+use Rattle.etherparse_transport.specs.EchoReplies.{IsPlainRequest, IsIpv6Request, are_padding, icmpv4_reply_to, icmpv6_reply_to, ipv4_answer_refusal, ipv4_message, ipv4_options, plain_reply, ipv4_request_refusal, ipv6_answer_refusal, ipv6_reply, ipv6_request_refusal, is_group_ipv4, is_group_ipv6, is_host_ipv4, is_host_ipv6, message_after, transport_refusal}
 use Rattle.etherparse_transport.specs.ReplyTo.{CarriesIcmp, IsReplyTo, MayAnswerIpv4, MayAnswerIpv6, echoed, icmp_number}
 use Rattle.etherparse_transport.specs.declared.err.packet.answer_echo_error.AnswerEchoError.TheVariants.{Len, ReplySource}
 use Rattle.etherparse_transport.proofs.BuiltLemmas.{mapped_none, none_first, none_if}
 use Rattle.etherparse_transport.proofs.EchoReplyLemmas.{icmpv4_reply_valid, icmpv4_request, icmpv6_reply_valid, icmpv6_request, ipv4_reply_has, ipv6_reply_has, once}
-use Rattle.etherparse_transport.proofs.EchoRequestLemmas.{IsFound, IsFoundTransport, five_words, found_at, found_transport, in_front, next_is}
-use Rattle.etherparse_transport.proofs.PacketLemmas.{HasMessage, no_options, over_ipv4_addresses}
+use Rattle.etherparse_transport.proofs.EchoRequestLemmas.{IsFound, IsFoundTransport, found_at, found_transport, in_front, next_is}
+use Rattle.etherparse_transport.proofs.PacketLemmas.{HasMessage}
+use Rattle.etherparse_transport.proofs.WithoutOptionsLemmas.{no_route}
 
 -- ---- the packets
 
@@ -40,23 +42,23 @@ found_carried packet found between accepted carries stated whole number same = r
   content = sym (ap (λ missing. drop carries.headers.len (ip.counted missing packet)) stated) ∙ sym carries.payload;
 }
 
-pub ipv4_request_carried : (packet : List ℕ) (found : TransportInIp) → ip.refusal packet ≡ None → Carries packet found → IsAfterHeaders packet found
+pub ipv4_request_carried : (packet : List ℕ) (found : TransportInIp) → ip.refusal packet ≡ None → Carries packet found
     → BeginsWithIpv4Header packet → found.is_length_missing ≡ false → found.is_cut_off ≡ false
-    → transport_refusal 1 20 found.is_fragment found.protocol.0 found.payload_offset ≡ None
-    → CarriesIcmp packet (addresses.Ipv4 (slice_range packet 12 16) (slice_range packet 16 20)) (message_after 20 packet)
-ipv4_request_carried packet found accepted carries after begins stated whole transport =
+    → transport_refusal 1 (ipv4_header_len packet) found.is_fragment found.protocol.0 found.payload_offset ≡ None
+    → are_padding (ipv4_options packet) ≡ true
+    → CarriesIcmp packet (addresses.Ipv4 (slice_range packet 12 16) (slice_range packet 16 20)) (ipv4_message packet)
+ipv4_request_carried packet found accepted carries begins stated whole transport padding =
     let between : Addresses = addresses.Ipv4 (slice_range packet 12 16) (slice_range packet 16 20) in
-    let is : IsFoundTransport found 1 20 = found_transport 1 20 found transport in
-    let at : IsFound packet found 20 = found_at packet found 20 carries stated whole is.offset in
-    let len : ipv4_header_len packet ≡ 20 = five_words packet found after begins is.offset in
+    let len : ℕ = ipv4_header_len packet in
+    let is : IsFoundTransport found 1 len = found_transport 1 len found transport in
+    let at : IsFound packet found len = found_at packet found len carries stated whole is.offset in
     let header : List ℕ = ip.ipv4_header packet in
-    let nothing : drop 20 header ≡ [] =
-    drop_all 20 header (omega (arith, length-take-le (ipv4_header_len packet) packet begins.whole, len)) in
     let over = over_ipv4 packet found begins.is_version_4 carries in
     let same : by_value found.addresses ≡ between =
-    over_ipv4_addresses header (slice_range packet 12 16) (slice_range packet 16 20) over.options (by_value found.addresses)
-    (in_front (ipv4_header_len packet) 12 4 packet (omega (arith, len))) (in_front (ipv4_header_len packet) 16 4 packet (omega (arith, len)))
-    (no_options (drop 20 header) over.options nothing over.are_options) over.addresses in
+    over.addresses
+    ∙ ap (λ route. addresses.Ipv4 (slice_range header 12 16) (routed (slice_range header 16 20) route)) (no_route (drop 20 header) over.options padding over.are_options)
+    ∙ ap (λ source. addresses.Ipv4 source (slice_range header 16 20)) (in_front len 12 4 packet (omega (arith, begins.five_words)))
+    ∙ ap (addresses.Ipv4 (slice_range packet 12 16)) (in_front len 16 4 packet (omega (arith, begins.five_words))) in
     subst (CarriesIcmp packet between) at.message_is (found_carried packet found between accepted carries stated is.whole is.number_is same)
 
 pub ipv6_request_carried : (packet : List ℕ) (found : TransportInIp) → ip.refusal packet ≡ None → Carries packet found → IsAfterHeaders packet found
@@ -122,19 +124,19 @@ if_accepted (Err error) refusal P refuses given = tt
 
 -- ---- the reply
 
-pub ipv4_is_reply : (packet source : List ℕ) (time_to_live : ℕ) → IsIpv4Request packet
-    → CarriesIcmp packet (addresses.Ipv4 (slice_range packet 12 16) (slice_range packet 16 20)) (message_after 20 packet)
+pub ipv4_is_reply : (request packet source : List ℕ) (time_to_live : ℕ) → IsPlainRequest packet
+    → CarriesIcmp request (addresses.Ipv4 (slice_range packet 12 16) (slice_range packet 16 20)) (message_after 20 packet)
     → length source ≡ 4 → length (slice_range packet 12 16) ≡ 4
     → icmpv4.refusal (icmpv4.wire (icmpv4_reply_to (message_after 20 packet)) ++ drop 8 (message_after 20 packet)) ≡ None
     → echoed (icmpv4.wire (icmpv4_reply_to (message_after 20 packet)) ++ drop 8 (message_after 20 packet)) ≡ echoed (message_after 20 packet)
-    → Verifies [] (ip.ipv4_header (ipv4_reply source time_to_live packet))
+    → Verifies [] (ip.ipv4_header (plain_reply source time_to_live packet))
     → MayAnswerIpv4 (slice_range packet 16 20) source
-    → IsReplyTo packet (ipv4_reply source time_to_live packet)
-ipv4_is_reply packet source time_to_live is carries len len_too reads same verifies answers =
+    → IsReplyTo request (plain_reply source time_to_live packet)
+ipv4_is_reply request packet source time_to_live is carries len len_too reads same verifies answers =
     let message : List ℕ = message_after 20 packet in
     let back : Addresses = addresses.Ipv4 source (slice_range packet 12 16) in
     let received : List ℕ = icmpv4.wire (icmpv4_reply_to message) ++ drop 8 message in
-    let request = icmpv4_request message is.message in
+    let echo = icmpv4_request message is.message in
     let accepted = none_first (option_map Len (icmpv4.refusal message)) _ is.message in
     record {
       request_addresses = addresses.Ipv4 (slice_range packet 12 16) (slice_range packet 16 20);
@@ -146,7 +148,7 @@ ipv4_is_reply packet source time_to_live is carries len len_too reads same verif
           (ipv4_reply_has packet source (slice_range packet 12 16) time_to_live (echo_of message 4) is len len_too);
       goes_back = (refl, answers);
       answers = record {
-        is_request = record { accepted = mapped_none Len (icmpv4.refusal message) accepted.0; type_is = request.type_is; code_is = request.code_is };
+        is_request = record { accepted = mapped_none Len (icmpv4.refusal message) accepted.0; type_is = echo.type_is; code_is = echo.code_is };
         is_reply = record { accepted = reads; type_is = refl; code_is = refl };
         same = same;
         checksum = icmpv4_reply_valid (echo_of message 4) (drop 8 message);

@@ -16,6 +16,7 @@ use Rattle.etherparse_transport.specs.Ipv4Translations.{ipv4_refusal, ipv4_trans
 use Rattle.etherparse_transport.specs.Ipv6Translations.{ipv6_refusal, ipv6_translated}
 use Rattle.etherparse_transport.specs.SkippedHeaders.{skip}
 use Rattle.etherparse_transport.specs.WaysBack.{ipv4_way_back}
+use Rattle.etherparse_transport.specs.declared.err.packet.answer_echo_error.AnswerEchoError.TheVariants.{Options}
 use Rattle.etherparse_transport.specs.declared.err.packet.translate_error.TranslateError.TheVariants.{Protocol}
 use Rattle.etherparse_transport.specs.declared.ip.ipv4_translation.Ipv4Translation.{Ipv4Translation}
 use Rattle.etherparse_transport.specs.declared.ip.ipv6_translation.Ipv6Translation.{Ipv6Translation}
@@ -100,6 +101,30 @@ echo_request_with_flag_answered : reply 64 echo_request_with_flag
     0x75 ∷ 0x5A ∷ 0xAB ∷ 0xCD ∷ 0 ∷ 7 ∷ 0x70 ∷ 0x69 ∷ 0x6E ∷ 0x67 ∷ []
 unfolding echo_request_with_flag folded
 echo_request_with_flag_answered = refl
+
+-- a request with the options "no operation" and "end of option list"
+echo_request_with_padding : List ℕ
+echo_request_with_padding =
+    0x46 ∷ 0x10 ∷ 0 ∷ 0x24 ∷ 0x12 ∷ 0x34 ∷ 0x40 ∷ 0 ∷ 0x37 ∷ 1 ∷ 0xAA ∷ 0x90 ∷ 0xC0 ∷ 0 ∷ 2 ∷ 1 ∷ 0xC0 ∷ 0 ∷ 2 ∷ 2 ∷ 1 ∷ 1 ∷ 1 ∷ 0 ∷
+    8 ∷ 0 ∷ 0x6D ∷ 0x5A ∷ 0xAB ∷ 0xCD ∷ 0 ∷ 7 ∷ 0x70 ∷ 0x69 ∷ 0x6E ∷ 0x67 ∷ []
+
+echo_request_with_padding_accepted : answer_refusal echo_request_with_padding ≡ None
+unfolding echo_request_with_padding folded headers_to_transport options_within
+echo_request_with_padding_accepted = refl
+
+-- the last four bytes are those of the request, after the reply
+echo_request_with_padding_answered : reply 64 echo_request_with_padding
+    ≡ 0x45 ∷ 0x10 ∷ 0 ∷ 0x20 ∷ 0x12 ∷ 0x34 ∷ 0x40 ∷ 0 ∷ 0x40 ∷ 1 ∷ 0xA4 ∷ 0x95 ∷ 0xC0 ∷ 0 ∷ 2 ∷ 2 ∷ 0xC0 ∷ 0 ∷ 2 ∷ 1 ∷ 0 ∷ 0 ∷
+    0x75 ∷ 0x5A ∷ 0xAB ∷ 0xCD ∷ 0 ∷ 7 ∷ 0x70 ∷ 0x69 ∷ 0x6E ∷ 0x67 ∷ 0x70 ∷ 0x69 ∷ 0x6E ∷ 0x67 ∷ []
+unfolding echo_request_with_padding folded
+echo_request_with_padding_answered = refl
+
+-- a request with a record route, option 7, has no reply
+echo_request_with_route_refused : answer_refusal (
+    0x46 ∷ 0x10 ∷ 0 ∷ 0x24 ∷ 0x12 ∷ 0x34 ∷ 0x40 ∷ 0 ∷ 0x37 ∷ 1 ∷ 0xA1 ∷ 0x8E ∷ 0xC0 ∷ 0 ∷ 2 ∷ 1 ∷ 0xC0 ∷ 0 ∷ 2 ∷ 2 ∷ 7 ∷ 3 ∷ 4 ∷ 0 ∷
+    8 ∷ 0 ∷ 0x6D ∷ 0x5A ∷ 0xAB ∷ 0xCD ∷ 0 ∷ 7 ∷ 0x70 ∷ 0x69 ∷ 0x6E ∷ 0x67 ∷ []) ≡ Some Options
+unfolding folded headers_to_transport options_within
+echo_request_with_route_refused = refl
 
 echo_request_over_ipv6 : List ℕ
 echo_request_over_ipv6 =

@@ -1,7 +1,7 @@
 -- The reply to the echo request in an IP packet (RFC 792, "Echo or Echo Reply Message"; RFC 1122, section 3.2.2.6; RFC 4443,
 -- section 4.2): which packets have no reply, and the bytes of the reply.
-use Rattle.std.specs.Prelude.{◌≡◌, ◌≤◌, ℕ, ◌+◌, ◌/◌, ◌==◌, ◌&&◌, ◌||◌, not, Bool, false, if◌then◌else◌, List, [], ◌∷◌, ◌++◌, length, take, drop, slice_index, slice_range, Option, Some, None, Result, Ok, Err, unwrap_or}
-use Rattle.std.specs.Int.{from_be_bytes, w32, w128}
+use Rattle.std.specs.Prelude.{◌≡◌, ◌≤◌, ℕ, ◌+◌, ◌/◌, ◌==◌, ◌&&◌, ◌||◌, not, Bool, true, false, if◌then◌else◌, List, [], ◌∷◌, ◌++◌, length, take, drop, slice_index, slice_range, Option, Some, None, Result, Ok, Err, unwrap_or}
+use Rattle.std.specs.Int.{from_be_bytes, to_be_bytes, w16, w32, w128}
 use Rattle.std.specs.Option.{option_map}
 use Rattle.icmp_part.specs.IcmpEcho.{echo_of}
 use Rattle.icmp_part.specs.Icmpv4Format as icmpv4
@@ -15,11 +15,11 @@ use Rattle.ip_part.specs.Addresses.{Addresses, Ipv4, Ipv6}
 use Rattle.ip_part.specs.Headers.{Headers}
 use Rattle.ip_part.specs.Ip as ip
 use Rattle.ip_part.specs.declared.ip_error.IpError.{IpError}
-use Rattle.net_base.specs.IpHeaders.{ipv4_is_fragment, version}
+use Rattle.net_base.specs.IpHeaders.{ipv4_header_len, ipv4_is_fragment, version}
 use Rattle.net_base.specs.IpNumbers.{icmpv4_number, icmpv6_number}
 use Rattle.net_base.specs.PseudoHeader.{ipv6_pseudo_header}
 use Rattle.net_base.specs.Refusals.{first_of, refused_if}
-use Rattle.word_sum.specs.Checksum.{all_ones, checksum_of, folded, total}
+use Rattle.word_sum.specs.Checksum.{Verifies, all_ones, checksum_of, folded, total}
 use Rattle.etherparse_transport.specs.Packets.{ipv4_header, ipv6_header}
 use Rattle.etherparse_transport.specs.declared.err.packet.answer_echo_error.AnswerEchoError.{AnswerEchoError}
 use Rattle.etherparse_transport.specs.declared.err.packet.answer_echo_error.AnswerEchoError.TheVariants.{Checksum, Fragment, HeaderChecksum, Ip, Len, NoEchoRequest, Options, ReplySource, RequestSource}
@@ -70,8 +70,7 @@ echo_header_len = 8
 -- ---- the request
 
 -- The error for the transport of a packet: the packet is a fragment, it has another protocol, or its transport does not begin directly
--- after an IP header of this length. In the last case the packet has options or extension headers, and a reply would need options too (RFC
--- 1122, section 3.2.2.6).
+-- after an IP header of this length. In the last case the packet has extension headers.
 abbrev pub transport_refusal : ℕ → ℕ → Bool → ℕ → ℕ → Option AnswerEchoError
 transport_refusal number header_len is_fragment protocol offset = first_of (
     refused_if is_fragment Fragment
@@ -104,27 +103,39 @@ icmpv6_refusal source destination message = first_of (
 abbrev pub message_after : ℕ → List ℕ → List ℕ
 message_after len packet = drop len (ip.counted false packet)
 
--- the message of an IPv4 packet without options
+-- the options of an IPv4 header, which follow its first five words (RFC 791, section 3.1)
+abbrev pub ipv4_options : List ℕ → List ℕ
+ipv4_options packet = drop ipv4_len_without_options (ip.ipv4_header packet)
+
+-- These options are only padding. Each byte is the option "no operation", of kind 1, up to the end of the options or to the option "end of
+-- option list", of kind 0. The bytes after that option are no options (RFC 791, section 3.1).
+abbrev pub are_padding : List ℕ → Bool
+are_padding [] = true
+are_padding (kind ∷ rest) = kind == 0 || (kind == 1 && are_padding rest)
+
+-- the message of an IPv4 packet, which follows its header directly
 abbrev pub ipv4_message : List ℕ → List ℕ
-ipv4_message packet = message_after ipv4_len_without_options packet
+ipv4_message packet = message_after (ipv4_header_len packet) packet
 
 -- the message of an IPv6 packet without extension headers
 abbrev pub ipv6_message : List ℕ → List ℕ
 ipv6_message packet = message_after ipv6_header_len packet
 
--- The error for an IPv4 packet with these headers. The rules concern, in this order, the version, the transport, the message, the checksum
--- of the header, and the source. A host discards a packet with a wrong header checksum (RFC 1122, section 3.2.1.2). The source must be the
--- address of one host, since the reply goes to it.
+-- The error for an IPv4 packet with these headers. The rules concern, in this order, the version, the transport, the options, the message,
+-- the checksum of the header, and the source. A reply to a request with other options than padding would need options of its own (RFC 1122,
+-- section 3.2.2.6). A host discards a packet with a wrong header checksum (RFC 1122, section 3.2.1.2). The source must be the address of
+-- one host, since the reply goes to it.
 abbrev pub ipv4_rules : List ℕ → Headers → Option AnswerEchoError
 ipv4_rules packet headers = first_of (
     refused_if (not (version packet == 4)) NoEchoRequest
-    ∷ transport_refusal icmpv4_number ipv4_len_without_options headers.is_fragment headers.protocol.0 headers.len
+    ∷ transport_refusal icmpv4_number (ipv4_header_len packet) headers.is_fragment headers.protocol.0 headers.len
+    ∷ refused_if (not (are_padding (ipv4_options packet))) Options
     ∷ icmpv4_refusal (ipv4_message packet)
-    ∷ refused_if (not (is_all_ones (total (take ipv4_len_without_options packet)))) HeaderChecksum
+    ∷ refused_if (not (is_all_ones (total (ip.ipv4_header packet)))) HeaderChecksum
     ∷ refused_if (not (is_host_ipv4 (slice_range packet 12 16))) RequestSource
     ∷ [])
 
--- the error for an IPv6 packet, by the rules of `ipv4_rules`, except that an IPv6 header has no checksum
+-- the error for an IPv6 packet, by the rules of `ipv4_rules`, except that an IPv6 header has neither options nor a checksum
 abbrev pub ipv6_rules : List ℕ → Headers → Option AnswerEchoError
 ipv6_rules packet headers = first_of (
     refused_if (not (version packet == 6)) NoEchoRequest
@@ -167,13 +178,25 @@ ipv6_answer_refusal source packet = first_of (
     ∷ refused_if (not (is_host_ipv6 (unwrap_or source (slice_range packet 24 40)))) ReplySource
     ∷ [])
 
--- An accepted IPv4 packet: its header has five words, and the counted bytes after the header are a whole echo request.
+-- An accepted IPv4 packet: its header has at least five words and a right checksum, and the counted bytes after the header are a whole echo
+-- request.
 pub record IsIpv4Request (packet : List ℕ) : Type 0 where
-  pub five_words : slice_index packet 0 ≡ 0x45
+  pub is_ipv4 : version packet ≡ 4
+  pub five_words : ipv4_len_without_options ≤ ipv4_header_len packet
   pub whole : ipv4_is_fragment (ip.ipv4_header packet) ≡ false
-  pub end : ip.counted_len false packet ≡ ipv4_len_without_options + length (ipv4_message packet)
+  pub end : ip.counted_len false packet ≡ ipv4_header_len packet + length (ipv4_message packet)
   pub there : ip.counted_len false packet ≤ length packet
   pub message : icmpv4_refusal (ipv4_message packet) ≡ None
+  pub verifies : Verifies [] (ip.ipv4_header packet)
+
+-- an accepted IPv4 packet without options
+pub record IsPlainRequest (packet : List ℕ) : Type 0 where
+  pub five_words : slice_index packet 0 ≡ 0x45
+  pub whole : ipv4_is_fragment (ip.ipv4_header packet) ≡ false
+  pub end : ip.counted_len false packet ≡ ipv4_len_without_options + length (message_after ipv4_len_without_options packet)
+  pub there : ip.counted_len false packet ≤ length packet
+  pub message : icmpv4_refusal (message_after ipv4_len_without_options packet) ≡ None
+  pub verifies : Verifies [] (take ipv4_len_without_options packet)
 
 -- an accepted IPv6 packet: the bytes that its payload length counts are a whole echo request
 pub record IsIpv6Request (packet : List ℕ) : Type 0 where
@@ -213,12 +236,40 @@ icmpv6_reply_to source destination message = icmpv6_reply source destination (ec
 abbrev pub ipv4_reply_start : List ℕ → List ℕ
 ipv4_reply_start packet = take 6 packet ++ (0x40 ∷ 0 ∷ [])
 
--- The reply from this source, with this time to live. Its destination is the source of the request. The type of service, the length, the
--- identification, the payload and the bytes after the packet are those of the request.
-abbrev pub ipv4_reply : List ℕ → ℕ → List ℕ → List ℕ
-ipv4_reply source time_to_live packet =
+-- The reply to a request without options, from this source and with this time to live. Its destination is the source of the request. The
+-- type of service, the length, the identification, the payload and the bytes after the packet are those of the request.
+abbrev pub plain_reply : List ℕ → ℕ → List ℕ → List ℕ
+plain_reply source time_to_live packet =
     ipv4_header (ipv4_reply_start packet) time_to_live icmpv4_number source (slice_range packet 12 16)
-    ++ (icmpv4.wire (icmpv4_reply_to (ipv4_message packet)) ++ drop (ipv4_len_without_options + echo_header_len) packet)
+    ++ (icmpv4.wire (icmpv4_reply_to (message_after ipv4_len_without_options packet))
+    ++ drop (ipv4_len_without_options + echo_header_len) packet)
+
+-- the length of an IPv4 packet without its options: a header of five words, and the message
+abbrev pub len_without_options : List ℕ → ℕ
+len_without_options packet = ipv4_len_without_options + length (ipv4_message packet)
+
+-- the first eight bytes of the header without options: they state five words and the new length, and otherwise stay
+abbrev pub start_without_options : List ℕ → List ℕ
+start_without_options packet =
+    (0x45 ∷ slice_index packet 1 ∷ to_be_bytes w16 (len_without_options packet))
+    ++ (slice_index packet 4 ∷ slice_index packet 5 ∷ slice_index packet 6 ∷ slice_index packet 7 ∷ [])
+
+-- the header without options, with a right checksum
+abbrev pub header_without_options : List ℕ → List ℕ
+header_without_options packet =
+    ipv4_header (start_without_options packet) (slice_index packet 8) icmpv4_number (slice_range packet 12 16) (slice_range packet 16 20)
+
+-- The request without its options, which are only padding. The message follows the shorter header. The bytes after the message stay. A
+-- request that has no options stays as it is.
+abbrev pub without_options : List ℕ → List ℕ
+without_options packet =
+    if ipv4_header_len packet == ipv4_len_without_options then packet
+    else header_without_options packet ++ (ipv4_message packet ++ drop (len_without_options packet) packet)
+
+-- The reply from this source, with this time to live: the reply to the request without its options. A host need not return these options,
+-- and only a record route, a timestamp and a source route are returned (RFC 1122, section 3.2.2.6).
+abbrev pub ipv4_reply : List ℕ → ℕ → List ℕ → List ℕ
+ipv4_reply source time_to_live packet = plain_reply source time_to_live (without_options packet)
 
 -- The reply over IPv6, from this source and with this hop limit. Its first six bytes, its payload and the bytes after the packet are those
 -- of the request. In the pseudo header, the source of the request is the destination.
@@ -233,6 +284,10 @@ ipv6_reply source hop_limit packet =
 -- the error if a packet of either IP version is not answered; `transport_in_ip` refuses any other version
 abbrev pub answer_refusal : List ℕ → Option AnswerEchoError
 answer_refusal packet = if version packet == 6 then ipv6_answer_refusal None packet else ipv4_answer_refusal None packet
+
+-- the length of the reply: the length of the request without the options of an IPv4 header
+abbrev pub reply_len : List ℕ → ℕ
+reply_len packet = if version packet == 6 then ip.counted_len false packet else len_without_options packet
 
 -- the reply that goes from the destination of the request to its source
 abbrev pub reply : ℕ → List ℕ → List ℕ

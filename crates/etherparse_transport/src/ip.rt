@@ -21,6 +21,7 @@ mod source_route;
 mod translated_ipv4;
 mod translated_ipv6;
 mod translated_message;
+mod without_options;
 mod write_packet;
 mod written_checksum;
 

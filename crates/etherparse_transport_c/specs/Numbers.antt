@@ -90,7 +90,7 @@ status_echo_fragment = 32
 abbrev pub status_echo_no_request : ℕ
 status_echo_no_request = 33
 
--- IPv4 options, an authentication header or IPv6 extension headers precede the message
+-- IPv4 options of another kind than 0 and 1, an authentication header or IPv6 extension headers precede the message
 abbrev pub status_echo_has_options : ℕ
 status_echo_has_options = 34
 

@@ -17,7 +17,7 @@ use etherparse_transport::ip::{
 
 /// Turns an echo request over IPv4 or IPv6 into its reply, in place, and writes the length of the reply to `reply_len`. The destination of
 /// the request becomes the source of the reply, and the source becomes the destination. The time to live or hop limit of the reply is
-/// `hop_limit`. The reply is as long as the request. Bytes after the packet are unchanged.
+/// `hop_limit`. The reply is as long as the request without its IPv4 options. Bytes after the reply are unchanged.
 ///
 /// # Errors
 ///
@@ -25,7 +25,7 @@ use etherparse_transport::ip::{
 /// - An error of `etherparse_transport_in_ip`.
 /// - `ECHO_FRAGMENT` for a fragment.
 /// - `ECHO_NO_REQUEST` if the protocol is not the ICMP of this IP version.
-/// - `ECHO_HAS_OPTIONS` for IPv4 options, an authentication header, or IPv6 extension headers.
+/// - `ECHO_HAS_OPTIONS` for IPv4 options of another kind than 0 and 1, an authentication header, or IPv6 extension headers.
 /// - `LENGTH` if the call that reads the message returns it.
 /// - `ECHO_NO_REQUEST` if the message is not an echo request.
 /// - `CHECKSUM_WRONG` if the checksum of the message is wrong.
@@ -43,7 +43,7 @@ pub extern "C" fn etherparse_echo_answer(
 ) -> Answer
     ensures status { result.status ≡ status_of (refusal packet.old) }
     ensures error { Leaves error result (unwrap_or (refusal packet.old) error.before) }
-    ensures reply_len { reply_len.new ≡ unless_refused (refusal packet.old) (counted_len false packet.old) reply_len.old }
+    ensures reply_len { reply_len.new ≡ unless_refused (refusal packet.old) (replies.reply_len packet.old) reply_len.old }
     ensures packet { packet.new ≡ unless_refused (refusal packet.old) (replies.reply hop_limit packet.old) packet.old }
     // The reply has the identifier, the sequence number and the payload of the request, and its checksum is right.
     ensures read { refusal packet.old ≡ None → IsReadAs packet.new (replies.reply_addresses packet.old)
@@ -74,12 +74,12 @@ pub extern "C" fn etherparse_echo_answer_ipv4(
 ) -> Answer
     ensures status { result.status ≡ status_of (ipv4_refusal source.now packet.old) }
     ensures error { Leaves error result (unwrap_or (ipv4_refusal source.now packet.old) error.before) }
-    ensures reply_len { reply_len.new ≡ unless_refused (ipv4_refusal source.now packet.old) (counted_len false packet.old) reply_len.old }
+    ensures reply_len { reply_len.new ≡ unless_refused (ipv4_refusal source.now packet.old) (replies.len_without_options packet.old) reply_len.old }
     ensures packet { packet.new ≡ unless_refused (ipv4_refusal source.now packet.old) (ipv4_reply source.now time_to_live packet.old) packet.old }
     // The reply has the identifier, the sequence number and the payload of the request, and its checksum is right.
     ensures read { ipv4_refusal source.now packet.old ≡ None → IsReadAs packet.new
         (addresses.Ipv4 source.now (slice_range packet.old 12 16))
-        (headers.Icmpv4 (icmpv4_reply_to (message_after 20 packet.old))) (drop 8 (message_after 20 packet.old)) }
+        (headers.Icmpv4 (icmpv4_reply_to (replies.ipv4_message packet.old))) (drop 8 (replies.ipv4_message packet.old)) }
 {
     match answer_echo_ipv4(packet, Some(*source), time_to_live) {
         Ok(len) => {

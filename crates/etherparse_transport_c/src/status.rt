@@ -86,7 +86,8 @@ pub const ECHO_FRAGMENT: u32 = 32;
 /// The packet is not an echo request, or it has an IP version that the call does not accept.
 pub const ECHO_NO_REQUEST: u32 = 33;
 
-/// The packet contains IPv4 options, an authentication header, or IPv6 extension headers. The reply would need these headers too.
+/// The packet contains IPv4 options of another kind than 0 and 1, an authentication header, or IPv6 extension headers. The reply would
+/// need these headers too.
 pub const ECHO_HAS_OPTIONS: u32 = 34;
 
 /// The checksum of the IPv4 header of an echo request is wrong.

@@ -1,15 +1,15 @@
-ghost use Rattle.std.specs.Prelude.{◌≡◌, ◌≢◌, ◌≤◌, ◌+◌, ◌++◌, [], IfErr, IfOk, None, Some, drop, false, length, slice_range, take, unwrap_or};
+ghost use Rattle.std.specs.Prelude.{◌≡◌, ◌≢◌, ℕ, List, ◌≤◌, ◌+◌, ◌++◌, [], IfErr, IfOk, None, Some, drop, false, length, slice_range, unwrap_or};
 ghost use Rattle.std.specs.Option.{option_map};
 ghost use Rattle.icmp_part.specs.Icmpv4Format.{wire as icmpv4_wire};
 ghost use Rattle.icmp_part.specs.Icmpv6Format.{wire as icmpv6_wire};
 ghost use Rattle.ip_part.specs.Addresses as addresses;
 ghost use Rattle.ip_part.specs.Ip.{Carries, IsAfterHeaders, IsOverIpv4, counted_len, ipv4_header as header_bytes, refusal};
-ghost use Rattle.net_base.specs.IpHeaders.{ipv4_header_of, ipv6_header_of, version};
+ghost use Rattle.net_base.specs.IpHeaders.{ipv4_header_len, ipv4_header_of, ipv6_header_of, version};
 ghost use Rattle.net_base.specs.Refusals.{RefusesExactly};
 ghost use Rattle.word_sum.specs.Checksum.{Verifies, checksum_of, total};
 ghost use Rattle.word_sum.specs.ChecksumChange.{IsExtendedBy, added_value};
 ghost use Rattle.etherparse_transport.specs.EchoReplies as specs;
-ghost use Rattle.etherparse_transport.specs.EchoReplies.{IsIpv4Request, IsIpv6Request, echo_header_len, icmpv4_refusal, icmpv4_reply_to, icmpv6_refusal, icmpv6_reply_to, ipv4_answer_refusal, ipv4_message, ipv4_reply, ipv6_answer_refusal, ipv6_message, ipv6_reply, transport_refusal};
+ghost use Rattle.etherparse_transport.specs.EchoReplies.{IsIpv4Request, IsIpv6Request, IsPlainRequest, echo_header_len, icmpv4_refusal, icmpv4_reply_to, icmpv6_refusal, icmpv6_reply_to, ipv4_answer_refusal, ipv4_message, ipv4_reply, len_without_options, message_after, plain_reply, ipv6_answer_refusal, ipv6_message, ipv6_reply, transport_refusal};
 ghost use Rattle.net_base.specs.IpNumbers.{icmpv4_number};
 ghost use Rattle.etherparse_transport.specs.Packets.{IsReadAs, ipv4_fields};
 ghost use Rattle.etherparse_transport.specs.ReplyTo.{CarriesIcmp, IsReplyTo, MayAnswerIpv4, MayAnswerIpv6, echoed};
@@ -22,6 +22,7 @@ use crate::ip::ip_header::{
     IPV4_CHECKSUM_AT, IPV4_DESTINATION_AT, IPV4_LEN, IPV4_PROTOCOL_AT, IPV4_TIME_TO_LIVE_AT,
     IPV6_LEN, ipv4_fields, ipv6_header,
 };
+use crate::ip::without_options::{are_padding, remove_options};
 use crate::ip::{TransportInIp, transport_in_ip};
 use crate::{
     IcmpEchoHeader, Icmpv4Header, Icmpv4Slice, Icmpv4Type, Icmpv6Header, Icmpv6Slice, Icmpv6Type,
@@ -43,7 +44,7 @@ use crate::{
 pub fn answer_echo(packet: &mut [u8], hop_limit: u8) -> Result<usize, AnswerEchoError>
     ensures refused { RefusesExactly result (specs.answer_refusal packet.old) }
     ensures unchanged { IfErr result (λ _. packet.new ≡ packet.old) }
-    ensures len { IfOk result (λ len. len ≡ counted_len false packet.old) }
+    ensures len { IfOk result (λ len. len ≡ specs.reply_len packet.old) }
     ensures answered { IfOk result (λ _. packet.new ≡ specs.reply hop_limit packet.old) }
     // The reply has the identifier, the sequence number and the payload of the request, and its checksum is right.
     ensures read { IfOk result (λ _. IsReadAs packet.new (specs.reply_addresses packet.old) (specs.reply_header packet.old)
@@ -59,11 +60,14 @@ pub fn answer_echo(packet: &mut [u8], hop_limit: u8) -> Result<usize, AnswerEcho
 }
 
 /// Turns the echo request in an IPv4 packet into its reply (RFC 792, "Echo or Echo Reply Message"; RFC 1122, section 3.2.2.6). Returns the
-/// length of the reply in bytes, which is the length of the request. The bytes after the packet are not changed.
+/// length of the reply in bytes. The bytes after the reply are not changed.
 ///
 /// The reply goes to the source of the request. Its source is the passed address, or the destination of the request if `None` is passed. It
 /// has the passed time to live, the type of a reply, and right checksums of header and message. All other fields except the flags, and the
 /// payload, are those of the request.
+///
+/// The reply has no options. If the options of the request are only padding, of the kinds 0 and 1, the reply is shorter than the request
+/// by the length of the options. A host need not return them (RFC 1122, section 3.2.2.6). Any other option is refused.
 ///
 /// The only flag of the reply is "don't fragment", whatever flags the request has. So the reply is an atomic datagram, in
 /// which the identification of the request has no meaning (RFC 6864, section 4.1). To send a reply in fragments, clear that
@@ -76,7 +80,8 @@ pub fn answer_echo(packet: &mut [u8], hop_limit: u8) -> Result<usize, AnswerEcho
 /// The call checks these cases, in this order, and changes nothing after an error:
 /// - `Ip` if `transport_in_ip` refuses the packet.
 /// - `NoEchoRequest` for an IPv6 packet.
-/// - `Fragment` for a fragment, `NoEchoRequest` for another protocol, and `Options` if the message does not begin after 20 bytes.
+/// - `Fragment` for a fragment, and `NoEchoRequest` for another protocol.
+/// - `Options` if the message does not begin directly after the IPv4 header, or if the header has other options than padding.
 /// - `Len` if `Icmpv4Slice::from_slice` refuses the message, `NoEchoRequest` if the message is no echo request, and `Checksum` if its
 ///   checksum is wrong.
 /// - `HeaderChecksum` if the checksum of the IPv4 header is wrong (RFC 1122, section 3.2.1.2).
@@ -89,7 +94,7 @@ pub fn answer_echo_ipv4(
 ) -> Result<usize, AnswerEchoError>
     ensures refused { RefusesExactly result (ipv4_answer_refusal source packet.old) }
     ensures unchanged { IfErr result (λ _. packet.new ≡ packet.old) }
-    ensures len { IfOk result (λ len. len ≡ counted_len false packet.old) }
+    ensures len { IfOk result (λ len. len ≡ len_without_options packet.old) }
     ensures answered { IfOk result (λ _. packet.new ≡ ipv4_reply (unwrap_or source (slice_range packet.old 16 20)) time_to_live packet.old) }
     // The reply has the identifier, the sequence number and the payload of the request, and its checksum is right.
     ensures read { IfOk result (λ _. IsReadAs packet.new
@@ -101,22 +106,47 @@ pub fn answer_echo_ipv4(
     ensures replies { MayAnswerIpv4 (slice_range packet.old 16 20) (unwrap_or source (slice_range packet.old 16 20)) →
         IfOk result (λ _. IsReplyTo packet.old packet.new) }
 {
-    let (addresses, len) = ipv4_request(packet)?;
-    let passed = source;
-    let source = passed.unwrap_or(addresses.destination);
-    if !is_host_ipv4(source) {
+    let (addresses, header_len, len) = ipv4_request(packet)?;
+    if !is_host_ipv4(source.unwrap_or(addresses.destination)) {
         return Err(AnswerEchoError::ReplySource);
     }
+    let len = remove_options(packet, &addresses, header_len, len);
+    reply_ipv4(packet, &addresses, len, source, time_to_live);
+    Ok(usize::from(len))
+}
+
+/// Turns an echo request without options into its reply. It has the addresses `between`, and `len` is its length.
+#[inline(always)]
+fn reply_ipv4(
+    packet: &mut [u8],
+    between: &Ipv4Header,
+    len: u16,
+    passed: Option<[u8; 4]>,
+    time_to_live: u8,
+)
+    requires request { IsPlainRequest packet.old }
+    requires addresses { between.now ≡ ipv4_header_of packet.old }
+    requires len { len ≡ counted_len false packet.old }
+    ensures answered { packet.new ≡ plain_reply (unwrap_or passed (slice_range packet.old 16 20)) time_to_live packet.old }
+    ensures read { IsReadAs packet.new
+        (addresses.Ipv4 (unwrap_or passed (slice_range packet.old 16 20)) (slice_range packet.old 12 16))
+        (headers.Icmpv4 (icmpv4_reply_to (message_after 20 packet.old))) (drop echo_header_len (message_after 20 packet.old)) }
+    ensures verifies { Verifies [] (header_bytes packet.new) }
+    // The packet becomes the reply to any request with these addresses and this message.
+    ensures replies { (request : List ℕ) → MayAnswerIpv4 (slice_range packet.old 16 20) (unwrap_or passed (slice_range packet.old 16 20)) →
+        CarriesIcmp request (addresses.Ipv4 (slice_range packet.old 12 16) (slice_range packet.old 16 20)) (message_after 20 packet.old) →
+        IsReplyTo request packet.new }
+{
+    let source = passed.unwrap_or(between.destination);
     let checksum = reply_header_checksum(&packet[..IPV4_LEN], time_to_live, passed);
-    let reply = icmpv4_reply_to(&packet[IPV4_LEN..len]);
+    let reply = icmpv4_reply_to(&packet[IPV4_LEN..usize::from(len)]);
     let start = ipv4_reply_start(packet);
-    let destination = addresses.source;
+    let destination = between.source;
     let protocol = ip_number::ICMP;
     let ip_header = ipv4_fields(start, time_to_live, protocol, source, destination, checksum);
     let header = reply.to_bytes();
     let front: [u8; ECHOED_AT] = [header[0], header[1], header[2], header[3]];
     replace_front(packet, &ip_header, front);
-    Ok(len)
 }
 
 /// Turns the echo request in an IPv6 packet into its reply (RFC 4443, section 4.2). Returns the length of the reply in bytes, which is the
@@ -200,13 +230,13 @@ fn replace_start(message: &mut [u8], start: [u8; ECHOED_AT])
 
 // ---- the request
 
-/// The addresses and the length of an IPv4 packet that contains an echo request.
-fn ipv4_request(packet: &[u8]) -> Result<(Ipv4Header, usize), AnswerEchoError>
+/// The addresses, the length of the header and the length of an IPv4 packet that contains an echo request.
+fn ipv4_request(packet: &[u8]) -> Result<(Ipv4Header, usize, u16), AnswerEchoError>
     ensures refused { RefusesExactly result (specs.ipv4_request_refusal packet.now) }
     ensures addresses { IfOk result (λ request. request.0 ≡ ipv4_header_of packet.now) }
-    ensures len { IfOk result (λ request. request.1 ≡ counted_len false packet.now) }
+    ensures header_len { IfOk result (λ request. request.1 ≡ ipv4_header_len packet.now) }
+    ensures len { IfOk result (λ request. request.2 ≡ counted_len false packet.now) }
     ensures request { IfOk result (λ _. IsIpv4Request packet.now) }
-    ensures verifies { IfOk result (λ _. Verifies [] (take 20 packet.now)) }
     ensures carried { IfOk result (λ _. CarriesIcmp packet.now
         (addresses.Ipv4 (slice_range packet.now 12 16) (slice_range packet.now 16 20)) (ipv4_message packet.now)) }
 {
@@ -214,7 +244,11 @@ fn ipv4_request(packet: &[u8]) -> Result<(Ipv4Header, usize), AnswerEchoError>
     let Some(header) = Ipv4HeaderSlice::from_slice(packet) else {
         return Err(AnswerEchoError::NoEchoRequest);
     };
-    check_transport(&found, ip_number::ICMP, IPV4_LEN)?;
+    let header_len = header.slice().len();
+    check_transport(&found, ip_number::ICMP, header_len)?;
+    if !are_padding(header.options()) {
+        return Err(AnswerEchoError::Options);
+    }
     check_icmpv4(found.payload)?;
     if !header.is_checksum_valid() {
         return Err(AnswerEchoError::HeaderChecksum);
@@ -223,7 +257,7 @@ fn ipv4_request(packet: &[u8]) -> Result<(Ipv4Header, usize), AnswerEchoError>
     if !is_host_ipv4(addresses.source) {
         return Err(AnswerEchoError::RequestSource);
     }
-    Ok((addresses, IPV4_LEN + found.payload.len()))
+    Ok((addresses, header_len, header.total_len()))
 }
 
 /// The addresses and the length of an IPv6 packet that contains an echo request.

@@ -3,10 +3,10 @@ ghost use Rattle.ip_part.specs.Options.{is_source_route};
 ghost use Rattle.etherparse_transport.specs.SourceRoutes as specs;
 
 /// The kind that ends the list of options (RFC 791, section 3.1).
-const END_OF_LIST: u8 = 0;
+pub(crate) const END_OF_LIST: u8 = 0;
 
 /// The kind of the option "no operation", which has no length byte (RFC 791, section 3.1).
-const NO_OPERATION: u8 = 1;
+pub(crate) const NO_OPERATION: u8 = 1;
 
 /// The kind of a loose source route (RFC 791, section 3.1).
 const LOOSE_SOURCE_ROUTE: u8 = 131;

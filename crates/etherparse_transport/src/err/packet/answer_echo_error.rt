@@ -28,8 +28,8 @@ pub enum AnswerEchoError {
     /// The packet is no echo request, or has an IP version that the call does not accept. An echo request has the type
     /// 8 over IPv4 (RFC 792) and 128 over IPv6 (RFC 4443, section 4.1), and code 0.
     NoEchoRequest,
-    /// The packet contains IPv4 options, an authentication header, or IPv6 extension headers. A reply would also need options, for example
-    /// a reversed source route (RFC 1122, section 3.2.2.6).
+    /// The packet contains IPv4 options of another kind than 0 and 1, an authentication header, or IPv6 extension headers. A reply would
+    /// also need options, for example a reversed source route (RFC 1122, section 3.2.2.6).
     Options,
     /// `Icmpv4Slice::from_slice` or `Icmpv6Slice::from_slice` refuses the message, for example because it is shorter than its header.
     Len(LenError),
