@@ -6,8 +6,8 @@ use etherparse_transport::err::packet::WriteChecksumError;
 use etherparse_transport::err::tcp::{HeaderError, HeaderSliceError};
 use etherparse_transport::err::{Layer, LenError};
 use etherparse_transport::ip::{
-    IpError, Ipv4Translation, checksum_verdict, translate_ipv4, transport_in_ip, transport_slice,
-    write_checksum,
+    IpError, Ipv4Translation, checksum_verdict, is_checksum_partial, translate_ipv4,
+    transport_in_ip, transport_slice, write_checksum,
 };
 use etherparse_transport::{ChecksumVerdict, LenSource, Untested};
 use std::process::Abort;
@@ -262,6 +262,7 @@ fn a_partial_checksum_is_the_sum_of_the_pseudo_header(rt: HostRuntime) {
         let transport = expect_some(&rt, expect_ok(&rt, transport_slice(&found)));
         let is_partial = transport.is_checksum_partial(found.addresses);
         expect_equal(&rt, &is_partial, &PARTIAL.contains(&row));
+        expect_equal(&rt, &is_checksum_partial(packet), &is_partial);
         let stored = Some(transport.stored_checksum());
         let is_stored = transport.partial_checksum(found.addresses) == stored;
         expect_equal(&rt, &is_stored, &is_partial);

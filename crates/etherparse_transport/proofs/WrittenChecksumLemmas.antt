@@ -2,7 +2,7 @@
 use Rattle.std.proofs.Common.{◌≡◌, ℕ, ◌+◌, ◌*◌, ◌/◌, ◌<◌, ◌≤◌, ◌==◌, ◌&&◌, not, nat_lt, Bool, true, false, if◌then◌else◌, List, [], ◌∷◌, ◌++◌, length, take, drop, slice_index, Option, Some, None, Result, Ok, Err, refl, sym, ap, ◌∙◌, subst, arith}
 use Rattle.std.specs.Int.{to_be_bytes, w16}
 use Rattle.std.specs.Option.{option_map}
-use Rattle.std.specs.Prelude.{IfOk, MatchBool, MatchOption, MatchResult}
+use Rattle.std.specs.Prelude.{◌↔◌, IfOk, IsTrue, MatchBool, MatchOption, MatchResult}
 use Rattle.std.proofs.lemmas.Bool.{ltb-false}
 use Rattle.std.proofs.lemmas.List.{drop-append-le, drop-drop, drop-take, get_or-drop, get_or-take, length-drop, length-take-le, take-append-le, take-take}
 use Rattle.icmp_part.specs.Icmpv4Format as icmpv4
@@ -28,7 +28,7 @@ use Rattle.net_base.specs.declared.err.tcp.header_slice_error.HeaderSliceError.T
 use Rattle.net_base.proofs.StoredChecksumLemmas.{byte-with_checksum, length-with_checksum, take-with_checksum, with_checksum-stored}
 use Rattle.udp_part.specs.UdpFormat as udp
 use Rattle.udp_part.specs.UdpSlice.{cut, length_counts, length_field, strict_refusal}
-use Rattle.transport_part.specs.StoredChecksums.{IsRightBy, checksum_place, stored_checksum, with_stored}
+use Rattle.transport_part.specs.StoredChecksums.{IsPartial, IsRightBy, SaysWhetherPartial, checksum_place, stored_checksum, with_stored}
 use Rattle.transport_part.specs.Transports.{kept, kept_by, proto_in, proto_of, refusal, refusal_by}
 use Rattle.transport_part.specs.Verdicts.{HasChecksum, Judges, JudgesFound}
 use Rattle.transport_part.specs.declared.checksum_verdict.ChecksumVerdict.{ChecksumVerdict}
@@ -36,8 +36,8 @@ use Rattle.transport_part.specs.declared.checksum_verdict.ChecksumVerdict.TheVar
 use Rattle.transport_part.specs.declared.checksum_verdict.Untested.TheVariants.{CutOff, Fragment, OtherProtocol}
 use Rattle.transport_part.specs.declared.transport_slice.TransportSlice.{TransportSlice}
 use Rattle.transport_part.specs.declared.transport_slice.TransportSlice.TheVariants.{Icmpv4, Icmpv6, Tcp, Udp}
-use Rattle.transport_part.proofs.RightChecksumLaws.{length_field_kept}
-use Rattle.etherparse_transport.specs.WrittenChecksums.{HasVerdict, IsRefusedFor, IsRefusedIn, IsRightIn, IsWritten, WritesBy}
+use Rattle.transport_part.proofs.RightChecksumLaws.{length_field_kept, says_partial}
+use Rattle.etherparse_transport.specs.WrittenChecksums.{HasPartialChecksum, HasVerdict, IsPartialIn, IsRefusedFor, IsRefusedIn, IsRightIn, IsWritten, WritesBy}
 use Rattle.etherparse_transport.specs.declared.err.packet.write_checksum_error.WriteChecksumError.{WriteChecksumError}
 use Rattle.etherparse_transport.specs.declared.err.packet.write_checksum_error.WriteChecksumError.TheVariants.{Ip, Transport, Untested as UntestedFor}
 use Rattle.etherparse_transport.proofs.BuiltLemmas.{mapped_none, none_first, none_if}
@@ -480,6 +480,52 @@ module _ (packet : List ℕ) (found : TransportInIp) (place checksum : ℕ) (acc
       by_verdict (Wrong expected) same = same
       by_verdict (Partial expected) same = same
       by_verdict (Untested why) none = none
+
+-- ---- a partial checksum
+
+partial_same : (found again : TransportInIp) → IsSame found again → IsPartialIn found → IsPartialIn again
+partial_same found again same is =
+    let kept_same : kept again ≡ kept found =
+    ap (λ p. kept_by p again.payload.now) (proto_same found again same) ∙ ap (kept_by (proto_in found)) same.payload in
+    let P : Option TransportSlice → Type 0 = λ k. MatchOption k ⊥ (λ t. IsPartial (by_value again.addresses) t) in
+    let Q : Addresses → Type 0 = λ a. MatchOption (kept found) ⊥ (λ t. IsPartial a t) in
+    (refusal_same found again same ∙ is.0, subst P (sym kept_same) (subst Q (sym same.addresses) is.1))
+
+pub has_partial_in : (packet : List ℕ) (found : TransportInIp) (partial : Bool) → ip.refusal packet ≡ None → Carries packet found
+    → found.is_length_missing ≡ false → (IsTrue partial ↔ IsPartialIn found) → (IsTrue partial ↔ HasPartialChecksum packet)
+has_partial_in packet found partial accepted carries stated whether = (
+  λ is. record {
+    accepted = accepted;
+    found = λ again carries_too stated_too. partial_same found again (same_found packet found again carries carries_too stated stated_too) (whether.0 is);
+  },
+  λ has. whether.1 (has.found found carries stated),
+)
+
+-- what the verdict on a found transport says of its checksum
+partial_by : (is_fragment is_cut_off : Bool) (k : Option TransportSlice) (between : Addresses) (verdict : ChecksumVerdict)
+    → MatchBool is_fragment (verdict ≡ Untested Fragment) (MatchBool is_cut_off (verdict ≡ Untested CutOff)
+    (MatchOption k (verdict ≡ Untested OtherProtocol) (λ t. Judges between t verdict)))
+    → SaysWhetherPartial (MatchOption k ⊥ (λ t. IsPartial between t)) verdict
+partial_by true is_cut_off k between verdict is = subst (SaysWhetherPartial (MatchOption k ⊥ (λ t. IsPartial between t))) (sym is) tt
+partial_by false true k between verdict is = subst (SaysWhetherPartial (MatchOption k ⊥ (λ t. IsPartial between t))) (sym is) tt
+partial_by false false None between verdict is = subst (SaysWhetherPartial ⊥) (sym is) tt
+partial_by false false (Some t) between verdict is = says_partial between t verdict is
+
+pub says_whether : (packet : List ℕ) (found : TransportInIp) (verdict : ChecksumVerdict) → Carries packet found → found.is_length_missing ≡ false
+    → HasVerdict packet verdict → SaysWhetherPartial (HasPartialChecksum packet) verdict
+says_whether packet found (Partial expected) carries stated has = record {
+  accepted = has.accepted;
+  found = λ again carries_too stated_too. (
+    (has.found again carries_too stated_too).0,
+    partial_by again.is_fragment again.is_cut_off (kept again) (by_value again.addresses) (Partial expected) (has.found again carries_too stated_too).1,
+  );
+}
+says_whether packet found (Wrong expected) carries stated has = λ partial.
+    partial_by found.is_fragment found.is_cut_off (kept found) (by_value found.addresses) (Wrong expected) (has.found found carries stated).1
+    (partial.found found carries stated).1
+says_whether packet found Right carries stated has = tt
+says_whether packet found Absent carries stated has = tt
+says_whether packet found (Untested why) carries stated has = tt
 
 -- ---- the results of calls
 

@@ -1,5 +1,5 @@
 -- Writing the right checksum into an IP packet: which packets are refused, and what changes.
-use Rattle.std.specs.Prelude.{◌≡◌, ◌≢◌, ℕ, ◌+◌, false, List, None, Some, Ok}
+use Rattle.std.specs.Prelude.{◌≡◌, ◌≢◌, ℕ, ◌+◌, false, List, MatchOption, None, Some, Ok}
 use Rattle.ip_part.specs.Addresses.{by_value}
 use Rattle.ip_part.specs.Headers.{Headers}
 use Rattle.ip_part.specs.Ip as ip
@@ -7,7 +7,7 @@ use Rattle.ip_part.specs.Protocols.{proto_over}
 use Rattle.ip_part.specs.declared.proto.Proto.{Proto}
 use Rattle.ip_part.specs.declared.transport.TransportInIp.{TransportInIp}
 use Rattle.net_base.specs.StoredChecksum.{with_checksum}
-use Rattle.transport_part.specs.StoredChecksums.{IsRightBy, checksum_place, stored_checksum, with_stored}
+use Rattle.transport_part.specs.StoredChecksums.{IsPartial, IsRightBy, checksum_place, stored_checksum, with_stored}
 use Rattle.transport_part.specs.Transports.{kept, proto_of, refusal}
 use Rattle.transport_part.specs.Verdicts.{HasChecksum, Judges, JudgesFound}
 use Rattle.transport_part.specs.declared.checksum_verdict.ChecksumVerdict.{ChecksumVerdict}
@@ -26,6 +26,16 @@ pub record IsFoundWith (packet : List ℕ) (holds : TransportInIp → Type 0) : 
 -- `checksum_verdict` returns this verdict for the transport of the packet
 abbrev pub HasVerdict : List ℕ → ChecksumVerdict → Type 0
 HasVerdict packet verdict = IsFoundWith packet (λ found. (refusal found ≡ None) × JudgesFound found verdict)
+
+-- ---- a partial checksum
+
+-- `transport_slice` accepts the transport that was found, and its checksum is partial
+abbrev pub IsPartialIn : TransportInIp → Type 0
+IsPartialIn found = (refusal found ≡ None) × MatchOption (kept found) ⊥ (λ transport. IsPartial (by_value found.addresses) transport)
+
+-- the checksum in the packet is partial: the sum of only the pseudo header
+abbrev pub HasPartialChecksum : List ℕ → Type 0
+HasPartialChecksum packet = IsFoundWith packet IsPartialIn
 
 -- ---- the errors
 

@@ -14,6 +14,7 @@ mod ipv4_translation;
 mod ipv6_translation;
 mod message_place;
 mod packet_flow;
+mod partial_checksum;
 mod reply_to;
 mod segment_size;
 mod skipped_headers;
@@ -36,6 +37,7 @@ pub use ip_part::{
 pub use ipv4_translation::Ipv4Translation;
 pub use ipv6_translation::Ipv6Translation;
 pub use packet_flow::{PacketFlow, flow};
+pub use partial_checksum::is_checksum_partial;
 pub use reply_to::{is_reply_from_any, is_reply_to};
 pub use segment_size::lower_maximum_segment_size;
 pub use translated_ipv4::{translate_ipv4, translate_ipv4_with_quoted};
