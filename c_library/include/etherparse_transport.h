@@ -1306,9 +1306,9 @@ etherparse_status etherparse_icmpv6_checksum_test(const uint8_t *bytes, size_t l
 
 /*
  * Turns the echo request in the IP packet at the front of the bytes into its reply, in place, and writes the length of the reply in
- * bytes to *reply_len. It is the length of the request without IPv4 options. The reply goes to the source of the request. It has this
- * hop limit, which is the time to live of IPv4, the type of a reply, and right checksums. Over IPv4 its only flag is "don't fragment"
- * (RFC 6864), and it has no options. All other fields, the payload and the bytes behind the reply stay.
+ * bytes to *reply_len. It is the length of the request without IPv4 options. The reply goes to the source of the request. It has
+ * this hop limit, which is the time to live of IPv4, the type of a reply, and right checksums. Over IPv4 its only flag is "don't
+ * fragment" (RFC 6864), and it has no options. All other fields, the payload and the bytes behind the reply stay.
  *
  * etherparse_echo_answer accepts a packet of either IP version. Its reply comes from the destination of the request. The reply of
  * the other two calls comes from `source`. For a request to a multicast or broadcast address, pass an address of the host.
