@@ -39,6 +39,7 @@ use Rattle.translator.specs.declared.blocks.Blocks.{Blocks}
 use Rattle.translator.specs.declared.capture_error.CaptureError.{CaptureError}
 use Rattle.translator.specs.declared.capture_error.CaptureError.TheVariants as capture_errors
 use Rattle.translator.specs.declared.counts.Counts.{Counts}
+use Rattle.translator.specs.declared.done.Done.{Done}
 use Rattle.translator.specs.declared.reason.Reason.{Reason}
 use Rattle.translator.specs.declared.table.Table.{Table}
 
@@ -119,7 +120,7 @@ takes_grown before after header read more taken within is least kept takes =
     (subst (λ body. TakesBlock before header body after taken) (sym (body_front header read more least kept)) takes)
 
 -- the packet in a block, whose first bytes are `read`, was translated
-pub block_translated : (table : Table) (before after : Section) (header : BlockHeader) (read written more : List ℕ) (outcome : Option (Result Bool Reason))
+pub block_translated : (table : Table) (before after : Section) (header : BlockHeader) (read written more : List ℕ) (outcome : Option (Result Done Reason))
     → 12 ≤ length read → header ≡ block_header before.byte_order read → 12 ≤ header.total_len → length read ≡ min header.total_len max_packet_len
     → TranslatesKept table before header read written after (Ok outcome)
     → TranslatesBlock table before (record { read = read ++ more; written = written ++ more; outcome = outcome }) after
@@ -317,7 +318,7 @@ rest_end table state (capture_errors.Write error) front total_len len is some re
 
 -- the packet of a long block was translated, and then its rest was copied up to an error
 stops_rest : (table : Table) (error : CaptureError) (state : Blocks) (after : Section) (left middle still_left held then_held now_held : Option (List ℕ))
-    (counts now_counts : Counts) (header : BlockHeader) (first bytes read written : List ℕ) (outcome : Option (Result Bool Reason))
+    (counts now_counts : Counts) (header : BlockHeader) (first bytes read written : List ℕ) (outcome : Option (Result Done Reason))
     → read ≡ first ++ bytes → 12 ≤ length first → block_header_refusal state.section.byte_order first ≡ None → header ≡ block_header state.section.byte_order first
     → 12 ≤ header.total_len → length read ≡ min header.total_len max_packet_len
     → TranslatesKept table state.section header read written after (Ok outcome) → Consumes left middle read → Appends held then_held written
@@ -354,7 +355,7 @@ stops_rest table error state after left middle still_left held then_held now_hel
 
 -- the packet of a long block was translated, and then its rest was copied, but the last total length is another number
 stops_differs : (table : Table) (error : CaptureError) (state : Blocks) (after : Section) (left middle still_left held then_held now_held : Option (List ℕ))
-    (counts now_counts : Counts) (header : BlockHeader) (first bytes read written : List ℕ) (outcome : Option (Result Bool Reason))
+    (counts now_counts : Counts) (header : BlockHeader) (first bytes read written : List ℕ) (outcome : Option (Result Done Reason))
     → read ≡ first ++ bytes → 12 ≤ length first → block_header_refusal state.section.byte_order first ≡ None → header ≡ block_header state.section.byte_order first
     → 12 ≤ header.total_len → length read ≡ min header.total_len max_packet_len
     → TranslatesKept table state.section header read written after (Ok outcome) → Consumes left middle read → Appends held then_held written
@@ -402,7 +403,7 @@ stops_differs table error state after left middle still_left held then_held now_
 
 pub next_rest : {A : Type 0} → (table : Table) (result : Result A CaptureError) (error : CaptureError) (state then_state : Blocks) (after : Section)
     (left middle still_left held then_held now_held : Option (List ℕ))
-    (counts now_counts : Counts) (header : BlockHeader) (first bytes read written : List ℕ) (outcome : Option (Result Bool Reason))
+    (counts now_counts : Counts) (header : BlockHeader) (first bytes read written : List ℕ) (outcome : Option (Result Done Reason))
     → read ≡ first ++ bytes → 12 ≤ length first → block_header_refusal state.section.byte_order first ≡ None → header ≡ block_header state.section.byte_order first
     → 12 ≤ header.total_len → length read ≡ min header.total_len max_packet_len
     → TranslatesKept table state.section header read written after (Ok outcome) → Consumes left middle read → Appends held then_held written
@@ -445,7 +446,7 @@ long_block section header read left still_left held now_held within is accepted 
 
 -- the block with these first bytes and these bytes after them was passed
 block_part : (table : Table) (state then_state : Blocks) (left middle still_left held then_held now_held : Option (List ℕ)) (counts now_counts : Counts)
-    (header : BlockHeader) (first bytes read written more : List ℕ) (outcome : Option (Result Bool Reason))
+    (header : BlockHeader) (first bytes read written more : List ℕ) (outcome : Option (Result Done Reason))
     → read ≡ first ++ bytes → 12 ≤ length first → header ≡ block_header state.section.byte_order first → 12 ≤ header.total_len
     → length read ≡ min header.total_len max_packet_len → IsBlock state.section.byte_order (read ++ more)
     → TranslatesKept table state.section header read written then_state.section (Ok outcome) → then_state.offset ≡ offset_after state.offset header
@@ -467,7 +468,7 @@ block_part table state then_state left middle still_left held then_held now_held
 
 -- the block was passed; its rest was copied if the buffer has no room for the block
 pub block_passed : (table : Table) (state then_state : Blocks) (left middle still_left held then_held now_held : Option (List ℕ)) (counts now_counts : Counts)
-    (header : BlockHeader) (first bytes read written : List ℕ) (outcome : Option (Result Bool Reason))
+    (header : BlockHeader) (first bytes read written : List ℕ) (outcome : Option (Result Done Reason))
     → read ≡ first ++ bytes → 12 ≤ length first → block_header_refusal state.section.byte_order first ≡ None
     → header ≡ block_header state.section.byte_order first → 12 ≤ header.total_len → length read ≡ min header.total_len max_packet_len
     → (header.total_len ≤ max_packet_len → block_refusal state.section.byte_order read ≡ None)

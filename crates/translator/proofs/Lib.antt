@@ -1,6 +1,8 @@
+pub mod ArgumentLemmas
 pub mod BlockLemmas
 pub mod CaptureLemmas
 pub mod CountLemmas
+pub mod MergingLemmas
 pub mod OutputLemmas
 pub mod PacketLemmas
 pub mod RecordLemmas

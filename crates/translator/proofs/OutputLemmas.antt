@@ -1,13 +1,15 @@
 -- Laws of the text on standard error.
-use Rattle.std.proofs.Common.{◌≡◌, ◌∙◌, ℕ, List, [], ◌++◌, Err, IsErr, IsOk, Ok, OnOk, Option, Result, append_assoc, ap, arith, refl, subst, sym}
+use Rattle.std.proofs.Common.{◌≡◌, ◌∙◌, ℕ, List, [], ◌++◌, Err, IsErr, IsOk, MatchOption, None, Ok, Some, codes, OnOk, Option, Result, append_assoc, ap, arith, refl, subst, sym}
 use Rattle.std.proofs.KnownBytes.{Appends-nil, Appends-trans}
 use Rattle.std.specs.Io.KnownBytes.{Appends}
 use Rattle.streams.specs.Streams.{AppendsBeginning}
 use Rattle.std.specs.declared.io.Error.{Error}
-use Rattle.translator.specs.Outcomes.{counts_text}
-use Rattle.translator.specs.Outputs.{IsEndLine, IsEndText, IsFollowedBy, WritesText, counts_after, ended_status}
+use Rattle.translator.specs.ErrorTexts.{IsErrorLine, IsErrorText, compressed_text, cut_off_text, decompressor_of, line_start}
+use Rattle.translator.specs.Outputs.{IsEndLine, IsEndText, IsFollowedBy, WritesText, ended_status, summary_after, summary_text}
 use Rattle.translator.specs.declared.capture_error.CaptureError.{CaptureError}
+use Rattle.translator.specs.declared.capture_error.CaptureError.TheVariants.{Block, Header, Read, RecordCutOff, TooManyParts, Write}
 use Rattle.translator.specs.declared.counts.Counts.{Counts}
+use Rattle.translator.specs.declared.table.Table.{Table}
 
 -- a result is not both an error and a success
 pub not_both : {T E : Type 0} (result : Result T E) → IsErr result → IsOk result → ⊥
@@ -87,12 +89,31 @@ writes_more a b c First Second Both IsText more holds to_second first second = r
   whole = λ both. Appends-trans a b c first.text more (first.whole holds) (rw second.is_text at second.whole (to_second both));
 }
 
--- the counts, or a beginning of them, were written after the line of the end of a capture
-pub counts_follow : (a b c : Option (List ℕ)) (First Second Both : Type 0) (ended : Result (Unit {0}) CaptureError)
-    (flushed : Result (Unit {0}) Error) (counts : Counts) (number : ℕ) → ended_status ended ≡ Ok number → IsOk flushed → First
-    → (Both → Second) → WritesText a b First (IsEndLine ended) → WritesText b c Second (λ text. text ≡ counts_text counts)
-    → WritesText a c Both (IsEndText ended flushed counts)
-counts_follow a b c First Second Both ended (Ok done) counts number is ok holds to_second first second =
-    subst (λ status. WritesText a c Both (IsFollowedBy (counts_after status (Ok done) counts) (IsEndLine ended))) (sym is)
-    (writes_more a b c First Second Both (IsEndLine ended) (counts_text counts) holds to_second first second)
-counts_follow a b c First Second Both ended (Err error) counts number is ok holds to_second first second = absurd (grind (arith, ok))
+-- the counts and the warning, or a beginning of them, were written after the line of the end of a capture
+pub summary_follows : (a b c : Option (List ℕ)) (First Second Both : Type 0) (name : Option (List ℕ)) (table : Table)
+    (ended : Result (Unit {0}) CaptureError) (flushed : Result (Unit {0}) Error) (counts : Counts) (number : ℕ)
+    → ended_status ended ≡ Ok number → IsOk flushed → First → (Both → Second) → WritesText a b First (IsEndLine name ended)
+    → WritesText b c Second (λ text. text ≡ summary_text table counts) → WritesText a c Both (IsEndText name table ended flushed counts)
+summary_follows a b c First Second Both name table ended (Ok done) counts number is ok holds to_second first second =
+    subst (λ status. WritesText a c Both (IsFollowedBy (summary_after table status (Ok done) counts) (IsEndLine name ended))) (sym is)
+    (writes_more a b c First Second Both (IsEndLine name ended) (summary_text table counts) holds to_second first second)
+summary_follows a b c First Second Both name table ended (Err error) counts number is ok holds to_second first second = absurd (grind (arith, ok))
+
+-- ---- texts of errors
+
+some_header_text : (command : Option (List ℕ)) → (text : List ℕ) × MatchOption command (Unit {0}) (λ name. text ≡ compressed_text name)
+some_header_text None = ([], tt)
+some_header_text (Some command) = (compressed_text command, refl)
+
+-- each error has a text
+some_text : (error : CaptureError) → (text : List ℕ) × IsErrorText error text
+some_text (Header error) = some_header_text (decompressor_of error)
+some_text (RecordCutOff offset required_len len) = (cut_off_text offset required_len len, refl)
+some_text (Block error) = ([], tt)
+some_text (Read offset error) = (_, ([], refl))
+some_text TooManyParts = (_, refl)
+some_text (Write error) = (_, ([], refl))
+
+-- each error has a line
+pub some_line : (name : Option (List ℕ)) (error : CaptureError) → (line : List ℕ) × IsErrorLine name error line
+some_line name error = let some = some_text error in (line_start name ++ (some.0 ++ codes "\n"), (some.0, some.1, refl))

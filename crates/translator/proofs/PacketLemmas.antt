@@ -28,9 +28,11 @@ use Rattle.net_base.specs.Refusals.{first_of, refused_if}
 use Rattle.net_base.specs.declared.ipv4_header.Ipv4Header.{Ipv4Header}
 use Rattle.net_base.specs.declared.ipv6_header.Ipv6Header.{Ipv6Header}
 use Rattle.translator.specs.Given.{headers_in, ipv4_by, ipv4_by_quoted, ipv4_given, ipv4_opposite, ipv6_by, ipv6_by_quoted, ipv6_given, ipv6_opposite, message_after, ports_after, ports_of, proto_after, quoted_after, quoted_at, quoted_in, quoted_of}
-use Rattle.translator.specs.Packets.{HasNoPacket, IsPacketIn, TranslatesFrame, TranslatesIpv4, TranslatesIpv6, TranslatesPacket}
+use Rattle.translator.specs.Outcomes.{done_with, outcome_of}
+use Rattle.translator.specs.Packets.{HasNoPacket, IsPacketIn, TranslatesFrame, TranslatesIp, TranslatesIpv4, TranslatesIpv6, TranslatesPacket}
 use Rattle.translator.specs.Reasons.{ipv4_reason, ipv4_unknown_reason, ipv6_reason, ipv6_unknown_reason, is_ipv4_nothing, is_ipv6_nothing, is_read, is_same, is_same_ipv4, is_same_ipv6, quoted_reason, reason_by, unknown_reason}
 use Rattle.translator.specs.Replacements.{exchanged, ipv4_translation, ipv6_translation}
+use Rattle.translator.specs.declared.done.Done.{Done}
 use Rattle.translator.specs.declared.reason.Reason.{Reason}
 use Rattle.translator.specs.declared.reason.Reason.TheVariants as reasons
 use Rattle.translator.specs.declared.table.Table.{Table}
@@ -324,10 +326,10 @@ ipv6_same_is outer inner given same is =
 six : (packet : List ℕ) → version packet ≡ 6 → (version packet == 6) ≡ true
 six packet is = ap (λ number. number == 6) is
 
--- the law for a packet that begins with an IPv6 header
-pub ipv6_translates : (table : Table) (packet after : List ℕ) (result : Result Bool Reason) → version packet ≡ 6
-    → TranslatesIpv6 table packet after result → TranslatesPacket table packet after result
-ipv6_translates table packet after (Ok true) is translates = (
+-- the law for a packet of version 6
+six_translates : (table : Table) (packet after : List ℕ) (result : Result Bool Reason) → version packet ≡ 6
+    → TranslatesIpv6 table packet after result → TranslatesIp table packet after result
+six_translates table packet after (Ok true) is translates = (
   ap (λ six. if six then ipv6_reason table packet else ipv4_reason table packet) (six packet is) ∙ translates.0,
   ap (λ six. if six then is_ipv6_nothing (ipv6_given table packet) else is_ipv4_nothing (ipv4_given table packet)) (six packet is)
       ∙ translates.1,
@@ -335,20 +337,20 @@ ipv6_translates table packet after (Ok true) is translates = (
       ∙ sym (ap (λ six. if six then ipv6_translated (ipv6_given table packet) packet else ipv4_translated (ipv4_given table packet) packet)
       (six packet is)),
 )
-ipv6_translates table packet after (Ok false) is translates = (
+six_translates table packet after (Ok false) is translates = (
   ap (λ six. if six then ipv6_reason table packet else ipv4_reason table packet) (six packet is) ∙ translates.0,
   ap (λ six. if six then is_ipv6_nothing (ipv6_given table packet) else is_ipv4_nothing (ipv4_given table packet)) (six packet is)
       ∙ translates.1,
   translates.2,
 )
-ipv6_translates table packet after (Err reason) is translates = (
+six_translates table packet after (Err reason) is translates = (
   ap (λ six. if six then ipv6_reason table packet else ipv4_reason table packet) (six packet is) ∙ translates.0,
   translates.1,
 )
 
 -- the law for a packet of another version
 other_translates : (table : Table) (packet after : List ℕ) (result : Result Bool Reason) → (version packet == 6) ≡ false
-    → TranslatesIpv4 table packet after result → TranslatesPacket table packet after result
+    → TranslatesIpv4 table packet after result → TranslatesIp table packet after result
 other_translates table packet after (Ok true) other translates = (
   ap (λ six. if six then ipv6_reason table packet else ipv4_reason table packet) other ∙ translates.0,
   ap (λ six. if six then is_ipv6_nothing (ipv6_given table packet) else is_ipv4_nothing (ipv4_given table packet)) other ∙ translates.1,
@@ -385,7 +387,7 @@ some_is_none : {A : Type 0} → (value : A) → Some value ≡ None → ⊥
 some_is_none value clash = cc
 
 by_version : (table : Table) (packet after : List ℕ) (result : Result Bool Reason) (is : Bool) → (version packet == 6) ≡ is
-    → (BeginsWithIpv6Header packet → ⊥) → TranslatesIpv4 table packet after result → TranslatesPacket table packet after result
+    → (BeginsWithIpv6Header packet → ⊥) → TranslatesIpv4 table packet after result → TranslatesIp table packet after result
 by_version table packet after result false other none translates = other_translates table packet after result other translates
 by_version table packet after (Ok true) true is none translates =
     absurd (some_is_none reasons.IpHeaders
@@ -400,10 +402,29 @@ by_version table packet after (Err reason) true is none translates = (
   translates.1,
 )
 
+-- the law for a packet that begins with an IPv6 header
+pub ipv6_translates : (table : Table) (packet after : List ℕ) (result : Result Bool Reason) → version packet ≡ 6
+    → TranslatesIpv6 table packet after result → TranslatesPacket table packet after (outcome_of true result)
+ipv6_translates table packet after (Ok applies) is translates =
+    (applies, ap (λ is_ipv6. done_with is_ipv6 applies) (sym (six packet is)), six_translates table packet after (Ok applies) is translates)
+ipv6_translates table packet after (Err reason) is translates = six_translates table packet after (Err reason) is translates
+
+four_translates : (table : Table) (packet after : List ℕ) (result : Result Bool Reason) (is : Bool) → (version packet == 6) ≡ is
+    → (BeginsWithIpv6Header packet → ⊥) → TranslatesIpv4 table packet after result → TranslatesPacket table packet after (outcome_of false result)
+four_translates table packet after (Ok applies) false other none translates =
+    (applies, ap (λ is_ipv6. done_with is_ipv6 applies) (sym other), other_translates table packet after (Ok applies) other translates)
+four_translates table packet after (Ok true) true is none translates =
+    absurd (some_is_none reasons.IpHeaders
+    (sym (rejected_of 4 packet _ _ _ (unread packet _ 4 refl (is_number (version packet) 6 is) none)) ∙ translates.0))
+four_translates table packet after (Ok false) true is none translates =
+    absurd (some_is_none reasons.IpHeaders
+    (sym (rejected_of 4 packet _ _ _ (unread packet _ 4 refl (is_number (version packet) 6 is) none)) ∙ translates.0))
+four_translates table packet after (Err reason) is at none translates = by_version table packet after (Err reason) is at none translates
+
 -- the law for a packet that does not begin with an IPv6 header
 pub ipv4_translates : (table : Table) (packet after : List ℕ) (result : Result Bool Reason) → (BeginsWithIpv6Header packet → ⊥)
-    → TranslatesIpv4 table packet after result → TranslatesPacket table packet after result
-ipv4_translates table packet after result none translates = by_version table packet after result _ refl none translates
+    → TranslatesIpv4 table packet after result → TranslatesPacket table packet after (outcome_of false result)
+ipv4_translates table packet after result none translates = four_translates table packet after result _ refl none translates
 
 -- ---- frames
 
@@ -417,10 +438,10 @@ three_parts frame start end ordered =
     ∙ take-append-drop start frame
 
 -- the frame after its packet is translated
-pub frame_translated : (table : Table) (link_type : LinkType) (order : ByteOrder) (frame packet : List ℕ) (start end : ℕ) (result : Result Bool Reason)
+pub frame_translated : (table : Table) (link_type : LinkType) (order : ByteOrder) (frame packet : List ℕ) (start end : ℕ) (result : Result Done Reason)
     → IsPacketIn link_type order frame start end → TranslatesPacket table (slice_range frame start end) packet result
     → TranslatesFrame table link_type order frame (take start frame ++ (packet ++ drop end frame)) result
-frame_translated table link_type order frame packet start end (Ok applies) is_packet translates = record {
+frame_translated table link_type order frame packet start end (Ok done) is_packet translates = record {
   start = start;
   end = end;
   is_packet = is_packet;
@@ -441,7 +462,7 @@ frame_translated table link_type order frame packet start end (Err reason) is_pa
 )
 
 -- a frame without an IP packet is unchanged
-pub frame_stays : (table : Table) (link_type : LinkType) (order : ByteOrder) (frame after : List ℕ) (result : Result Bool Reason) (reason : Reason)
+pub frame_stays : (table : Table) (link_type : LinkType) (order : ByteOrder) (frame after : List ℕ) (result : Result Done Reason) (reason : Reason)
     → HasNoPacket link_type order frame reason → after ≡ frame → result ≡ Err reason → TranslatesFrame table link_type order frame after result
 frame_stays table link_type order frame after result reason no_packet same fails =
     subst (TranslatesFrame table link_type order frame after) (sym fails) (same, inl no_packet)

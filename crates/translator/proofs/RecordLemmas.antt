@@ -22,6 +22,7 @@ use Rattle.translator.specs.Records.{IsRecordEnd, IsRecordFront, IsRecordPart, p
 use Rattle.translator.specs.declared.capture_error.CaptureError.{CaptureError}
 use Rattle.translator.specs.declared.capture_error.CaptureError.TheVariants.{Block, Header, Read, RecordCutOff, TooManyParts, Write}
 use Rattle.translator.specs.declared.counts.Counts.{Counts}
+use Rattle.translator.specs.declared.done.Done.{Done}
 use Rattle.translator.specs.declared.reason.Reason.{Reason}
 use Rattle.translator.specs.declared.reason.Reason.TheVariants.{TooLong}
 use Rattle.translator.specs.declared.table.Table.{Table}
@@ -33,7 +34,7 @@ copied bytes = record { read = bytes; written = bytes; outcome = None }
 -- ---- whole records
 
 -- a record part whose frame was translated
-pub record_translated : (table : Table) (capture : CaptureHeader) (first captured after : List ℕ) (result : Result Bool Reason)
+pub record_translated : (table : Table) (capture : CaptureHeader) (first captured after : List ℕ) (result : Result Done Reason)
     → length first ≡ 16 → length captured ≡ number_at capture.byte_order first 8 → number_at capture.byte_order first 8 ≤ max_packet_len
     → TranslatesCaptured table capture.link_type capture.byte_order captured after result
     → IsRecordPart table capture (record { read = first ++ captured; written = first ++ after; outcome = Some result })

@@ -26,6 +26,7 @@ use Rattle.translator.specs.Passing.{IsWriteError, LeavesAt, Part, format_of}
 use Rattle.translator.specs.declared.blocks.Blocks.{Blocks}
 use Rattle.translator.specs.declared.capture_error.CaptureError.{CaptureError}
 use Rattle.translator.specs.declared.capture_error.CaptureError.TheVariants as capture_errors
+use Rattle.translator.specs.declared.done.Done.{Done}
 use Rattle.translator.specs.declared.reason.Reason.{Reason}
 use Rattle.translator.specs.declared.reason.Reason.TheVariants.{TooLong}
 use Rattle.translator.specs.declared.table.Table.{Table}
@@ -37,7 +38,7 @@ use Rattle.translator.specs.declared.table.Table.{Table}
 pub record TranslatesWhere (table : Table) (packet : CapturedPacket) (part : Part) : Type 0 where
   pub within : IsWithin (length part.read) packet
   pub after : List ℕ
-  pub result : Result Bool Reason
+  pub result : Result Done Reason
   pub translates : TranslatesCaptured table packet.link_type packet.byte_order
       (slice_range part.read packet.start (packet.start + packet.captured_len)) after result
   pub is_written : part.written ≡ take packet.start part.read ++ (after ++ drop (packet.start + packet.captured_len) part.read)
@@ -163,7 +164,7 @@ pub record IsFileStart (blocks : Blocks) : Type 0 where
 
 -- The buffer contained a whole block, or the first bytes of a long block. The result is the outcome of the block. If the section refuses
 -- the block, the result is the error, and the buffer is unchanged.
-abbrev pub TranslatesKept : Table → Section → BlockHeader → List ℕ → List ℕ → Section → Result (Option (Result Bool Reason)) PacketError → Type 0
+abbrev pub TranslatesKept : Table → Section → BlockHeader → List ℕ → List ℕ → Section → Result (Option (Result Done Reason)) PacketError → Type 0
 TranslatesKept table before header read written after (Ok outcome) =
     (taken : Result (Option CapturedPacket) PacketError) × TakesBlock before header (kept_body header read) after taken
     × HasTaken table header.total_len taken (record { read = read; written = written; outcome = outcome })

@@ -1,6 +1,11 @@
+pub mod Arguments
 pub mod Blocks
 pub mod Captures
+pub mod CommandLine
+pub mod ErrorTexts
 pub mod Given
+pub mod Inputs
+pub mod Merging
 pub mod Outcomes
 pub mod Outputs
 pub mod Packets

@@ -9,6 +9,8 @@ use Rattle.capture_file.specs.declared.reader.packet_error.PacketError.TheVarian
 use Rattle.translator.specs.declared.capture_error.CaptureError.{CaptureError}
 use Rattle.translator.specs.declared.capture_error.CaptureError.TheVariants.{Block, Header, Read, RecordCutOff, TooManyParts, Write}
 use Rattle.translator.specs.declared.counts.Counts.{Counts}
+use Rattle.translator.specs.declared.done.Done.{Done}
+use Rattle.translator.specs.declared.done.Done.TheVariants.{TranslatedIpv4, TranslatedIpv6, UnaffectedIpv4, UnaffectedIpv6}
 use Rattle.translator.specs.declared.reason.Reason.{Reason}
 use Rattle.translator.specs.declared.reason.Reason.TheVariants as reasons
 
@@ -28,17 +30,33 @@ place reasons.IcmpMessage = 8
 place reasons.QuotedPacket = 9
 place reasons.QuotedAddresses = 10
 
+-- ---- packets that can be translated
+
+-- what was done with a packet; the first argument states whether it is an IPv6 packet, and the second whether a replacement applies
+abbrev pub done_with : Bool → Bool → Done
+done_with false true = TranslatedIpv4
+done_with true true = TranslatedIpv6
+done_with false false = UnaffectedIpv4
+done_with true false = UnaffectedIpv6
+
+-- the outcome of a packet of this IP version
+abbrev pub outcome_of : Bool → Result Bool Reason → Result Done Reason
+outcome_of is_ipv6 (Ok applies) = Ok (done_with is_ipv6 applies)
+outcome_of is_ipv6 (Err reason) = Err reason
+
 -- ---- counts
 
 -- the counts after a packet with this outcome: only the count of this outcome grows by one, up to 2^64 - 1
-abbrev pub counted : Counts → Result Bool Reason → Counts
-counted counts (Ok true) = record counts { translated = one_more counts.translated }
-counted counts (Ok false) = record counts { unaffected = one_more counts.unaffected }
+abbrev pub counted : Counts → Result Done Reason → Counts
+counted counts (Ok TranslatedIpv4) = record counts { translated_ipv4 = one_more counts.translated_ipv4 }
+counted counts (Ok TranslatedIpv6) = record counts { translated_ipv6 = one_more counts.translated_ipv6 }
+counted counts (Ok UnaffectedIpv4) = record counts { unaffected_ipv4 = one_more counts.unaffected_ipv4 }
+counted counts (Ok UnaffectedIpv6) = record counts { unaffected_ipv6 = one_more counts.unaffected_ipv6 }
 counted counts (Err reason) =
     record counts { by_reason = slice_set counts.by_reason (place reason) (one_more (slice_index counts.by_reason (place reason))) }
 
 -- the counts after a packet with this outcome, or after no packet
-abbrev pub counted_if : Counts → Option (Result Bool Reason) → Counts
+abbrev pub counted_if : Counts → Option (Result Done Reason) → Counts
 counted_if counts outcome = fold counted counts (option_to_list outcome)
 
 -- ---- the lines on standard error
@@ -72,11 +90,13 @@ reason_line reason count =
 abbrev pub counted_line : Counts → Reason → List ℕ
 counted_line counts reason = reason_line (reason_text reason) (slice_index counts.by_reason (place reason))
 
--- the line that counts the packets translated, and the packets to which no replacement applies
+-- the line that counts the packets translated, and the packets to which no replacement applies, of each IP version
 abbrev pub packets_line : Counts → List ℕ
 packets_line counts =
-    codes "translator: " ++ (decimal counts.translated ++ (codes " packets translated, "
-    ++ (decimal counts.unaffected ++ codes " without a replacement\n")))
+    codes "translator: " ++ (decimal counts.translated_ipv4 ++ (codes " IPv4 and "
+    ++ (decimal counts.translated_ipv6 ++ (codes " IPv6 packets translated, "
+    ++ (decimal counts.unaffected_ipv4 ++ (codes " IPv4 and "
+    ++ (decimal counts.unaffected_ipv6 ++ codes " IPv6 packets without a replacement\n")))))))
 
 -- all lines of the counts
 abbrev pub counts_text : Counts → List ℕ

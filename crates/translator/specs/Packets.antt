@@ -9,7 +9,9 @@ use Rattle.etherparse_transport.specs.Ipv4Translations.{ipv4_translated}
 use Rattle.etherparse_transport.specs.Ipv6Translations.{ipv6_translated}
 use Rattle.net_base.specs.IpHeaders.{version}
 use Rattle.translator.specs.Given.{ipv4_given, ipv6_given}
+use Rattle.translator.specs.Outcomes.{done_with}
 use Rattle.translator.specs.Reasons.{ipv4_reason, ipv6_reason, is_ipv4_nothing, is_ipv6_nothing, reason_of}
+use Rattle.translator.specs.declared.done.Done.{Done}
 use Rattle.translator.specs.declared.reason.Reason.{Reason}
 use Rattle.translator.specs.declared.reason.Reason.TheVariants as reasons
 use Rattle.translator.specs.declared.table.Table.{Table}
@@ -43,11 +45,17 @@ translated table packet =
     if version packet == 6 then ipv6_translated (ipv6_given table packet) packet else ipv4_translated (ipv4_given table packet) packet
 
 -- a packet of either IP version was translated, or no replacement applies to it, or it stays as it is for this reason
-abbrev pub TranslatesPacket : Table → List ℕ → List ℕ → Result Bool Reason → Type 0
-TranslatesPacket table packet after (Ok true) =
+abbrev pub TranslatesIp : Table → List ℕ → List ℕ → Result Bool Reason → Type 0
+TranslatesIp table packet after (Ok true) =
     (reason_of table packet ≡ None) × (is_nothing table packet ≡ false) × (after ≡ translated table packet)
-TranslatesPacket table packet after (Ok false) = (reason_of table packet ≡ None) × (is_nothing table packet ≡ true) × (after ≡ packet)
-TranslatesPacket table packet after (Err reason) = (reason_of table packet ≡ Some reason) × (after ≡ packet)
+TranslatesIp table packet after (Ok false) = (reason_of table packet ≡ None) × (is_nothing table packet ≡ true) × (after ≡ packet)
+TranslatesIp table packet after (Err reason) = (reason_of table packet ≡ Some reason) × (after ≡ packet)
+
+-- the same, where the outcome also states the IP version of the packet
+abbrev pub TranslatesPacket : Table → List ℕ → List ℕ → Result Done Reason → Type 0
+TranslatesPacket table packet after (Ok done) =
+    (applies : Bool) × (done ≡ done_with (version packet == 6) applies) × TranslatesIp table packet after (Ok applies)
+TranslatesPacket table packet after (Err reason) = TranslatesIp table packet after (Err reason)
 
 -- ---- frames
 
@@ -61,7 +69,7 @@ pub record IsPacketIn (link_type : LinkType) (order : ByteOrder) (frame : List �
   pub within : end ≤ length frame
 
 -- the packet in a frame was translated, or stays as it is; the bytes before and after it stay as they are
-pub record TranslatesWithin (table : Table) (link_type : LinkType) (order : ByteOrder) (frame after : List ℕ) (result : Result Bool Reason) : Type 0 where
+pub record TranslatesWithin (table : Table) (link_type : LinkType) (order : ByteOrder) (frame after : List ℕ) (result : Result Done Reason) : Type 0 where
   pub start : ℕ
   pub end : ℕ
   pub is_packet : IsPacketIn link_type order frame start end
@@ -83,12 +91,12 @@ HasNoPacket link_type order frame reasons.NotIp = IsNotIp link_type order frame
 HasNoPacket link_type order frame reason = ⊥
 
 -- the packet in a frame was translated, or the frame stays as it is for this reason
-abbrev pub TranslatesFrame : Table → LinkType → ByteOrder → List ℕ → List ℕ → Result Bool Reason → Type 0
+abbrev pub TranslatesFrame : Table → LinkType → ByteOrder → List ℕ → List ℕ → Result Done Reason → Type 0
 TranslatesFrame table link_type order frame after (Ok applies) = TranslatesWithin table link_type order frame after (Ok applies)
 TranslatesFrame table link_type order frame after (Err reason) = (after ≡ frame)
     × (HasNoPacket link_type order frame reason ⊎ TranslatesWithin table link_type order frame after (Err reason))
 
 -- the packet in a frame was translated, or the frame stays as it is; a frame whose link type is not read always stays as it is
-abbrev pub TranslatesCaptured : Table → Result LinkType ℕ → ByteOrder → List ℕ → List ℕ → Result Bool Reason → Type 0
+abbrev pub TranslatesCaptured : Table → Result LinkType ℕ → ByteOrder → List ℕ → List ℕ → Result Done Reason → Type 0
 TranslatesCaptured table (Ok link_type) order frame after result = TranslatesFrame table link_type order frame after result
 TranslatesCaptured table (Err number) order frame after result = (after ≡ frame) × (result ≡ Err reasons.LinkType)

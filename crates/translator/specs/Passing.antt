@@ -11,6 +11,7 @@ use Rattle.translator.specs.Outcomes.{counted}
 use Rattle.translator.specs.declared.capture_error.CaptureError.{CaptureError}
 use Rattle.translator.specs.declared.capture_error.CaptureError.TheVariants.{Block, Header, Read, RecordCutOff, TooManyParts, Write}
 use Rattle.translator.specs.declared.counts.Counts.{Counts}
+use Rattle.translator.specs.declared.done.Done.{Done}
 use Rattle.translator.specs.declared.reason.Reason.{Reason}
 
 -- ---- errors
@@ -53,7 +54,7 @@ LeavesAt (Write error) then_left still_left = ⊤
 
 -- a record or block, with the outcome of its packet
 abbrev pub Part : Type 0
-Part = copier.Part (Result Bool Reason)
+Part = copier.Part (Result Done Reason)
 
 -- the greatest number of records or blocks that are read: 2^64 - 1
 abbrev pub max_parts : ℕ
@@ -63,7 +64,7 @@ max_parts = 18446744073709551615
 abbrev pub format_of : (State : Type 0) → (State → Part → State → Type 0) → (State → Part → CaptureError → Type 0) → Format
 format_of State IsPart IsEnd = record {
   State = State;
-  Outcome = Result Bool Reason;
+  Outcome = Result Done Reason;
   Counts = Counts;
   Error = CaptureError;
   counted = counted;

@@ -12,6 +12,7 @@ use Rattle.capture_copy.specs.Records.{IsCutRecord}
 use Rattle.translator.specs.Passing.{Part, format_of}
 use Rattle.translator.specs.declared.capture_error.CaptureError.{CaptureError}
 use Rattle.translator.specs.declared.capture_error.CaptureError.TheVariants.{Block, Header, Read, RecordCutOff, TooManyParts, Write}
+use Rattle.translator.specs.declared.done.Done.{Done}
 use Rattle.translator.specs.declared.reason.Reason.{Reason}
 use Rattle.translator.specs.declared.reason.Reason.TheVariants.{TooLong}
 use Rattle.translator.specs.declared.table.Table.{Table}
@@ -24,7 +25,7 @@ captured_len capture bytes = (record_header capture.byte_order bytes).captured_l
 -- of the capture. The header was written as it was read.
 pub record TranslatesRecord (table : Table) (capture : CaptureHeader) (part : Part) : Type 0 where
   pub after : List ℕ
-  pub result : Result Bool Reason
+  pub result : Result Done Reason
   pub translates : TranslatesCaptured table capture.link_type capture.byte_order (drop record_header_len part.read) after result
   pub is_written : part.written ≡ take record_header_len part.read ++ after
   pub outcome : part.outcome ≡ Some result

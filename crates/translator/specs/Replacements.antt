@@ -1,5 +1,5 @@
 -- The table of replacements, and the new addresses and ports that it gives.
-use Rattle.std.specs.Prelude.{ℕ, ◌-◌, ◌^◌, ◌≡◌, ◌==◌, ◌&&◌, Bool, length, min, bit_and, bit_or, List, Option, Some, None}
+use Rattle.std.specs.Prelude.{ℕ, ◌-◌, ◌^◌, ◌≡◌, ◌==◌, ◌&&◌, Bool, length, min, bit_and, bit_or, List, [], Option, Some, None}
 use Rattle.std.specs.Int.{from_be_bytes, to_be_bytes, w32, w128}
 use Rattle.std.specs.List.{find}
 use Rattle.std.specs.Option.{option_map}
@@ -53,6 +53,12 @@ abbrev pub new_ipv6 : Replacements → List ℕ → Option (List ℕ)
 new_ipv6 replacements address = option_map (to_be_bytes w128) (new_address replacements.ipv6.items (from_be_bytes w128 address))
 
 -- ---- the table
+
+-- each list is empty
+pub record HasNone (replacements : Replacements) : Type 0 where
+  pub ipv4 : replacements.ipv4.items ≡ []
+  pub ipv6 : replacements.ipv6.items ≡ []
+  pub ports : replacements.ports.items ≡ []
 
 -- the lists contain no replacement
 abbrev pub is_empty : Replacements → Bool

@@ -13,6 +13,7 @@ ghost use Rattle.translator.specs.declared.capture_error.CaptureError.TheVariant
 
 use crate::capture_error::CaptureError;
 use crate::counts::Counts;
+use crate::done::Done;
 use crate::packet::translate_captured_frame;
 use crate::reason::Reason;
 use crate::table::Table;
@@ -218,7 +219,7 @@ fn translate_kept(
     bytes: &mut [u8],
     section: &mut Section,
     table: &Table,
-) -> Result<Option<Result<bool, Reason>>, PacketError>
+) -> Result<Option<Result<Done, Reason>>, PacketError>
     requires header { 12 ≤ header.now.total_len }
     requires bytes { length bytes.old ≡ min header.now.total_len max_packet_len }
     ensures translates { TranslatesKept table.now section.old header.now bytes.old bytes.new section.new result }
@@ -246,7 +247,7 @@ fn translate_captured(
     packet: &CapturedPacket,
     bytes: &mut [u8],
     table: &Table,
-) -> Result<bool, Reason>
+) -> Result<Done, Reason>
     requires within { IsWithin (length bytes.old) packet.now }
     ensures translates { TranslatesWhere table.now packet.now (record { read = bytes.old; written = bytes.new; outcome = Some result }) }
     ensures len { length bytes.new ≡ length bytes.old }

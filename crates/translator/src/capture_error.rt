@@ -4,16 +4,13 @@ ghost use Rattle.translator.specs.Outcomes as specs;
 use capture_file::classic::CaptureHeaderError;
 use capture_file::reader::{PacketError, PlacedPacketError};
 use std::io;
-use thiserror::Error;
 
 /// Why a capture is not translated to its end.
-#[derive(Debug, Error, Drop)]
+#[derive(Debug, Drop)]
 pub enum CaptureError {
     /// The input does not begin with the whole header of a capture, or the program does not read its format.
-    #[error(transparent)]
     Header(CaptureHeaderError),
     /// The input ends within a record of a classic capture.
-    #[error("At byte {offset} of the file: The record has at least {required_len} bytes, and {len} are left.")]
     RecordCutOff {
         /// The start of the record, in bytes from the start of the file.
         offset: u64,
@@ -23,10 +20,8 @@ pub enum CaptureError {
         len: usize,
     },
     /// A block of a pcapng file is refused, or the file ends within it.
-    #[error(transparent)]
     Block(PlacedPacketError),
     /// Reading failed.
-    #[error("At byte {offset} of the file: Reading failed: {error}.")]
     Read {
         /// The start of the record or block, in bytes from the start of the file.
         offset: u64,
@@ -34,10 +29,8 @@ pub enum CaptureError {
         error: io::Error,
     },
     /// The limit of 2^64 - 1 records or blocks is reached.
-    #[error("No more records or blocks can be read.")]
     TooManyParts,
     /// Writing failed.
-    #[error("Writing failed: {0}.")]
     Write(io::Error),
 }
 

@@ -1,7 +1,9 @@
 ghost use Rattle.std.specs.Prelude.{◌≡◌, OnOk};
 ghost use Rattle.std.specs.Io.KnownBytes.{Appends};
+ghost use Rattle.capture_copy.specs.Passing.{one_more};
 ghost use Rattle.translator.specs.Outcomes.{counted, counted_if, counted_line, counts_text, reason_line};
 
+use crate::done::Done;
 use crate::reason::Reason;
 use std::io;
 use std::io::Write;
@@ -9,10 +11,14 @@ use std::io::Write;
 /// How many packets were translated, and how many were not, by reason.
 #[derive(Clone, Copy, Debug, PartialEq, Eq)]
 pub struct Counts {
-    /// The packets that were translated.
-    pub translated: u64,
-    /// The packets to which no replacement applies.
-    pub unaffected: u64,
+    /// The IPv4 packets that were translated.
+    pub translated_ipv4: u64,
+    /// The IPv6 packets that were translated.
+    pub translated_ipv6: u64,
+    /// The IPv4 packets to which no replacement applies.
+    pub unaffected_ipv4: u64,
+    /// The IPv6 packets to which no replacement applies.
+    pub unaffected_ipv6: u64,
     /// The packets that can't be translated, by reason.
     pub by_reason: [u64; Reason::COUNT],
 }
@@ -20,18 +26,22 @@ pub struct Counts {
 impl Counts {
     /// The counts before the first packet.
     pub const NONE: Counts = Counts {
-        translated: 0,
-        unaffected: 0,
+        translated_ipv4: 0,
+        translated_ipv6: 0,
+        unaffected_ipv4: 0,
+        unaffected_ipv6: 0,
         by_reason: [0; Reason::COUNT],
     };
 
     /// Counts a packet with this outcome of `translate_frame`. A count that has reached 2^64 - 1 does not change.
-    pub fn add(&mut self, outcome: Result<bool, Reason>)
+    pub fn add(&mut self, outcome: Result<Done, Reason>)
         ensures { self.new ≡ counted self.old outcome }
     {
         match outcome {
-            Ok(true) => self.translated = self.translated.saturating_add(1),
-            Ok(false) => self.unaffected = self.unaffected.saturating_add(1),
+            Ok(Done::TranslatedIpv4) => one_more(&mut self.translated_ipv4),
+            Ok(Done::TranslatedIpv6) => one_more(&mut self.translated_ipv6),
+            Ok(Done::UnaffectedIpv4) => one_more(&mut self.unaffected_ipv4),
+            Ok(Done::UnaffectedIpv6) => one_more(&mut self.unaffected_ipv6),
             Err(reason) => {
                 let place = reason.place();
                 self.by_reason[place] = self.by_reason[place].saturating_add(1);
@@ -40,7 +50,7 @@ impl Counts {
     }
 
     /// Counts a packet with this outcome, or nothing if the outcome is `None`.
-    pub fn add_if(&mut self, outcome: Option<Result<bool, Reason>>)
+    pub fn add_if(&mut self, outcome: Option<Result<Done, Reason>>)
         ensures { self.new ≡ counted_if self.old outcome }
     {
         if let Some(outcome) = outcome {
@@ -58,8 +68,8 @@ impl Counts {
     {
         writeln!(
             output,
-            "translator: {} packets translated, {} without a replacement",
-            self.translated, self.unaffected
+            "translator: {} IPv4 and {} IPv6 packets translated, {} IPv4 and {} IPv6 packets without a replacement",
+            self.translated_ipv4, self.translated_ipv6, self.unaffected_ipv4, self.unaffected_ipv6
         )?;
         for reason in Reason::ALL {
             self.write_reason(output, reason)?;
@@ -73,6 +83,13 @@ impl Counts {
     {
         write_line(output, reason.text(), self.by_reason[reason.place()])
     }
+}
+
+/// Counts another packet. A count that has reached 2^64 - 1 does not change.
+fn one_more(count: &mut u64)
+    ensures { count.new ≡ one_more count.old }
+{
+    *count = count.saturating_add(1);
 }
 
 /// Writes the line of the reason with this text. Nothing is written if the count is 0.

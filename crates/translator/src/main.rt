@@ -1,28 +1,35 @@
 //! Rewrites addresses and ports in a capture, as a table of replacements requires, and updates the checksums of the changed packets.
 //!
-//! The capture is read from a file or from standard input, and is written to standard output. The classic format of libpcap and pcapng are
-//! read. The output has the format of the input, and every byte outside of the translated packets stays. A capture is read as a stream, one
+//! The capture is read from a file or from standard input, and is written to a file or to standard output. The classic format of libpcap and
+//! pcapng are read. The output has the format of the input, and every byte outside of the translated packets stays. A capture is read as a stream, one
 //! record or block at a time. The memory needed does not grow with the capture.
 //!
 //! ```text
-//! $ translator --source 10.0.0.0/8=192.0.2.0/24 --source-port 80=8080 capture.pcap > translated.pcap
+//! $ translator --both 10.1.2.0/24=192.0.2.0/24 --source-port 80=8080 -w translated.pcap capture.pcap
 //! ```
 #![tactic(auto)]
 
 ghost use Rattle.std.specs.Prelude.{◌≡◌, IfOk, IsOk, string_bytes};
 ghost use Rattle.std.specs.IoError.{error_kind};
+ghost use Rattle.std.specs.Option.{option_map};
 ghost use Rattle.clap.specs.Words.{kind_of};
-ghost use Rattle.translator.specs.Outputs.{IsOpenErrorLine, WritesText, WritesTranslation, answer_number, failure_number};
+ghost use Rattle.translator.specs.ErrorTexts.{IsOpenErrorLine};
+ghost use Rattle.translator.specs.Outputs.{WritesText, WritesTranslation, answer_number, failure_number};
 
 mod arguments;
 mod blocks;
 mod capture;
 mod capture_error;
+mod compression;
 mod counts;
+mod done;
 mod ending;
+mod input;
 mod ipv4_packet;
 mod ipv6_packet;
+mod merging;
 mod network;
+mod new_file;
 mod packet;
 mod reason;
 mod records;
@@ -32,14 +39,15 @@ mod replacements;
 mod table;
 mod transfer;
 
+use arguments::Options;
 use capture::translate_capture;
 use capture_copy::Copier;
-use capture_error::CaptureError;
 use capture_packet::MAX_PACKET_LEN;
 use counts::Counts;
-use ending::finished;
+use ending::{Translated, finished};
+use input::{Input, STANDARD_STREAM};
+use new_file::NewFile;
 use std::alloc::{AllocError, Global};
-use std::fs::File;
 use std::io::{BufReader, BufWriter, ErrorKind, IsTerminal, Read, Write};
 use std::process::ExitCode;
 use std::{env, io};
@@ -84,24 +92,29 @@ fn write_failure(rt: &HostRuntime, error: io::Error) -> u8
     if error.kind() == ErrorKind::BrokenPipe {
         return BROKEN_PIPE;
     }
-    let error = CaptureError::Write(error);
-    let _ = writeln!(rt.stderr(), "translator: {error}");
+    let _ = writeln!(rt.stderr(), "translator: Writing failed: {error}.");
     FAILED
 }
 
-/// Reads the arguments, translates the capture, and returns the exit status.
+/// Reads the arguments, translates the capture, and returns the exit status. A capture is not written to a terminal.
 fn status(rt: &HostRuntime) -> io::Result<u8> {
     let words: Vec<String> = env::args(rt)?.collect(rt.alloc())?;
     let options = match arguments::requested_options(rt.alloc(), words.as_slice()) {
         Ok(options) => options,
         Err(error) => return answer(rt, error),
     };
-    match options.file {
-        Some("-") => translate(rt, &options.table, rt.stdin()),
-        Some(name) => translate_file(rt, &options.table, name),
-        None if rt.stdin().is_terminal() => answer(rt, arguments::no_capture(rt.alloc())),
-        None => translate(rt, &options.table, rt.stdin()),
+    if options.file.is_none() && rt.stdin().is_terminal() {
+        return answer(rt, arguments::no_capture(rt.alloc()));
     }
+    if let Some(name) = options.write
+        && name != STANDARD_STREAM
+    {
+        return translate_to(rt, &options, name);
+    }
+    if rt.stdout().is_terminal() {
+        return answer(rt, arguments::output_is_terminal(rt.alloc()));
+    }
+    translate_to_standard_output(rt, &options)
 }
 
 /// Writes the text of an error in the arguments, or the help or version that they request. Returns the exit status.
@@ -115,15 +128,45 @@ fn answer(rt: &HostRuntime, error: clap::Error) -> io::Result<u8>
     Ok(error.exit_code() as u8)
 }
 
-/// Translates the capture in the file with this name, and returns the exit status.
-fn translate_file(rt: &HostRuntime, table: &Table, name: &str) -> io::Result<u8> {
-    match File::open(rt, name) {
-        Ok(file) => translate(rt, table, file),
-        Err(error) => unopened(&mut rt.stderr(), rt.alloc(), name, &error),
+/// Translates the capture to standard output, and returns the exit status.
+fn translate_to_standard_output(rt: &HostRuntime, options: &Options<'_>) -> io::Result<u8> {
+    let input = match Input::open(rt, options.file.unwrap_or(STANDARD_STREAM)) {
+        Ok(input) => input,
+        Err(error) => return unopened_input(rt, options, &error),
+    };
+    match translate(rt, options, input, rt.stdout())? {
+        Ok(status) => Ok(status),
+        Err(error) => Ok(write_failure(rt, error)),
+    }
+}
+
+/// Translates the capture to the file with this name, and returns the exit status. The file is created when its first byte is written. So
+/// it is created only if the beginning of the capture was accepted. The file may not be the capture.
+fn translate_to(rt: &HostRuntime, options: &Options<'_>, name: &str) -> io::Result<u8> {
+    let input = match Input::open(rt, options.file.unwrap_or(STANDARD_STREAM)) {
+        Ok(input) => input,
+        Err(error) => return unopened_input(rt, options, &error),
+    };
+    if input.is_named(rt, name) {
+        return answer(rt, arguments::output_is_capture(rt.alloc()));
+    }
+    let mut output = NewFile::new(rt, name);
+    match translate(rt, options, input, &mut output)? {
+        Ok(status) => Ok(status),
+        Err(error) if output.is_refused() => unopened(&mut rt.stderr(), rt.alloc(), name, &error),
+        Err(error) => Ok(write_failure(rt, error)),
     }
 }
 
 /// Writes the error for a capture that can't be opened, and returns the exit status.
+fn unopened_input(rt: &HostRuntime, options: &Options<'_>, error: &io::Error) -> io::Result<u8>
+    ensures { IfOk result (λ status. status ≡ 3) }
+{
+    let name = options.file.unwrap_or(STANDARD_STREAM);
+    unopened(&mut rt.stderr(), rt.alloc(), name, error)
+}
+
+/// Writes the error for a file that can't be opened or created, and returns the exit status.
 fn unopened<E: Write>(
     errors: &mut E,
     alloc: Global,
@@ -138,7 +181,7 @@ fn unopened<E: Write>(
     Ok(FAILED)
 }
 
-/// The line for a capture that can't be opened: the name of the program, the name of the capture, and the text of the error.
+/// The line for a file that can't be opened or created: the name of the program, the name of the file, and the text of the error.
 fn open_error_line(alloc: Global, name: &str, error: &io::Error) -> Result<String, AllocError>
     ensures { IfOk result (λ line. IsOpenErrorLine name.now (string_bytes line)) }
 {
@@ -146,22 +189,30 @@ fn open_error_line(alloc: Global, name: &str, error: &io::Error) -> Result<Strin
     format!(in alloc; "translator: {name}: {text}\n")
 }
 
-/// Translates a capture to standard output, and returns the exit status.
-fn translate<R: Read + Drop>(rt: &HostRuntime, table: &Table, input: R) -> io::Result<u8> {
+/// Translates a capture from the input to the output. Returns the exit status, or the error of `write_translation`.
+///
+/// # Errors
+///
+/// `OutOfMemory` if no memory is left for the buffers.
+fn translate<W: Write + Drop>(
+    rt: &HostRuntime,
+    options: &Options<'_>,
+    input: Input,
+    output: W,
+) -> io::Result<io::Result<u8>> {
     let input = BufReader::with_capacity(rt.alloc(), STREAM_LEN, input)?;
-    let output = BufWriter::with_capacity(rt.alloc(), STREAM_LEN, rt.stdout())?;
+    let output = BufWriter::with_capacity(rt.alloc(), STREAM_LEN, output)?;
     let mut errors = rt.stderr();
     let mut bytes = new_buffer(rt.alloc(), MAX_PACKET_LEN)?;
     let buffer = bytes.as_mut_slice().as_mut_array().unwrap();
     let mut copier = Copier::new(input, output, buffer);
-    match write_translation(rt.alloc(), table, &mut copier, &mut errors) {
-        Ok(status) => Ok(status),
-        Err(error) => Ok(write_failure(rt, error)),
-    }
+    let (table, name) = (&options.table, options.file);
+    Ok(write_translation(rt.alloc(), table, name, &mut copier, &mut errors))
 }
 
 /// Translates a capture to the output, and then writes the counts of packets to `errors`. Returns the exit status. If the capture can't be
-/// read to its end, the error is written before the counts.
+/// read to its end, the error is written before the counts. If the capture has a name, the error contains the name. If two addresses can
+/// become one, a warning is written after the counts.
 ///
 /// # Errors
 ///
@@ -170,16 +221,22 @@ fn translate<R: Read + Drop>(rt: &HostRuntime, table: &Table, input: R) -> io::R
 fn write_translation<R: Read, W: Write, E: Write>(
     alloc: Global,
     table: &Table,
+    name: Option<&str>,
     copier: &mut Copier<'_, R, W>,
     errors: &mut E,
 ) -> io::Result<u8>
-    ensures { WritesTranslation table.now (R.remaining copier.old.input) (R.remaining copier.new.input)
-        (W.contents copier.old.output) (W.contents copier.new.output)
+    ensures { WritesTranslation table.now (option_map (λ text. text.now) name.entry) (R.remaining copier.old.input)
+        (R.remaining copier.new.input) (W.contents copier.old.output) (W.contents copier.new.output)
         (E.contents errors.old) (E.contents errors.new) result }
 {
     let mut counts = Counts::NONE;
     let ended = translate_capture(copier, table, &mut counts);
     // What was written before an error is part of the output.
     let flushed = copier.output.flush();
-    finished(errors, alloc, ended, flushed, &counts)
+    let translated = Translated {
+        ended,
+        flushed,
+        counts,
+    };
+    finished(errors, alloc, name, translated, table)
 }

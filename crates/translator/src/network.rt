@@ -1,4 +1,5 @@
 ghost use Rattle.std.specs.Prelude.{◌≡◌, ◌≢◌, IfNone, IfSome, bit_and};
+ghost use Rattle.translator.specs.Merging.{overlap};
 ghost use Rattle.translator.specs.Replacements.{HasHostBits, host_mask, in_network, is_in};
 
 /// A network: all addresses of one IP version that begin with the same prefix. An address is a number of 32 or 128 bits.
@@ -35,6 +36,14 @@ impl Network {
         ensures { result ≡ is_in self.now address }
     {
         address | self.host_mask == self.first | self.host_mask
+    }
+
+    /// Whether the networks have an address in common: their first addresses agree in every bit that is a host bit of neither network.
+    pub fn overlaps(&self, other: &Network) -> bool
+        ensures { result ≡ overlap self.now other.now }
+    {
+        let host_mask = self.host_mask | other.host_mask;
+        self.first | host_mask == other.first | host_mask
     }
 
     /// The address in this network that has the host bits of the given address.

@@ -5,6 +5,7 @@ ghost use Rattle.std.specs.Option.{option_map};
 ghost use Rattle.translator.specs.Given as specs;
 ghost use Rattle.translator.specs.Packets.{HasNoPacket, IsPacketIn, TranslatesCaptured, TranslatesFrame, TranslatesPacket};
 
+use crate::done::{Done, of_ipv4, of_ipv6};
 use crate::ipv4_packet::translate_ipv4_packet;
 use crate::ipv6_packet::translate_ipv6_packet;
 use crate::reason::Reason;
@@ -14,8 +15,8 @@ use capture_link::{Frame, network_packet};
 use etherparse_transport::ip::TransportInIp;
 use etherparse_transport::{Icmpv4Slice, Icmpv6Slice, Ipv6HeaderSlice, Proto};
 
-/// Translates the packet in a frame of this link type, in place. `order` is the byte order of the capture. Returns whether a replacement
-/// applies to the packet. If no replacement applies, or after an error, the frame is unchanged.
+/// Translates the packet in a frame of this link type, in place. `order` is the byte order of the capture. Returns the IP version of
+/// the packet and whether a replacement applies to it. If no replacement applies, or after an error, the frame is unchanged.
 ///
 /// # Errors
 ///
@@ -25,7 +26,7 @@ pub fn translate_frame(
     order: ByteOrder,
     frame: &mut [u8],
     table: &Table,
-) -> Result<bool, Reason>
+) -> Result<Done, Reason>
     ensures translates { TranslatesFrame table.now link_type order frame.old frame.new result }
     ensures len { length frame.new ≡ length frame.old }
 {
@@ -43,7 +44,7 @@ pub fn translate_captured_frame(
     order: ByteOrder,
     frame: &mut [u8],
     table: &Table,
-) -> Result<bool, Reason>
+) -> Result<Done, Reason>
     ensures translates { TranslatesCaptured table.now link_type order frame.old frame.new result }
     ensures len { length frame.new ≡ length frame.old }
 {
@@ -70,13 +71,13 @@ fn packet_place(
 }
 
 /// Translates an IP packet in place.
-fn translate_packet(packet: &mut [u8], table: &Table) -> Result<bool, Reason>
+fn translate_packet(packet: &mut [u8], table: &Table) -> Result<Done, Reason>
     ensures { TranslatesPacket table.now packet.old packet.new result }
 {
     if Ipv6HeaderSlice::from_slice(packet).is_some() {
-        translate_ipv6_packet(packet, table)
+        of_ipv6(translate_ipv6_packet(packet, table))
     } else {
-        translate_ipv4_packet(packet, table)
+        of_ipv4(translate_ipv4_packet(packet, table))
     }
 }
 

@@ -1,4 +1,4 @@
-ghost use Rattle.std.specs.Prelude.{◌≡◌, true};
+ghost use Rattle.std.specs.Prelude.{◌≡◌};
 ghost use Rattle.translator.specs.Replacements as specs;
 ghost use Rattle.translator.specs.Replacements.{new_address, new_ipv4, new_ipv6, new_port};
 
@@ -38,7 +38,7 @@ pub struct Replacements {
 impl Replacements {
     /// An empty list of replacements.
     pub fn new(alloc: Global) -> Replacements
-        ensures none { specs.is_empty result ≡ true }
+        ensures none { specs.HasNone result }
     {
         Replacements {
             ipv4: Vec::new(alloc),

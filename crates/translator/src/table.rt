@@ -1,10 +1,11 @@
-ghost use Rattle.std.specs.Prelude.{◌≡◌, true};
+ghost use Rattle.std.specs.Prelude.{◌≡◌, false};
+ghost use Rattle.translator.specs.Merging.{KeepsApart, merges_addresses};
 ghost use Rattle.translator.specs.Replacements as specs;
 
+use crate::merging::can_merge;
 use crate::replacements::Replacements;
 use etherparse_transport::ip::{Ipv4Translation, Ipv6Translation};
 use etherparse_transport::{Ipv4Header, Ipv6Header};
-use std::alloc::Global;
 
 /// The table of replacements: what is replaced in the packets of a capture.
 #[derive(Debug, Drop)]
@@ -19,21 +20,33 @@ pub struct Table {
 pub type Ports = Option<(u16, u16)>;
 
 impl Table {
-    /// A table without replacements.
-    pub fn new(alloc: Global) -> Table
-        ensures none { specs.is_empty_table result ≡ true }
-    {
-        Table {
-            source: Replacements::new(alloc),
-            destination: Replacements::new(alloc),
-        }
-    }
-
     /// Whether the table contains no replacement.
     pub fn is_empty(&self) -> bool
         ensures { result ≡ specs.is_empty_table self.now }
     {
         self.source.is_empty() && self.destination.is_empty()
+    }
+
+    /// Whether two addresses of the same IP version can become one address. If the result is `false`, addresses that differ get new
+    /// addresses that differ.
+    pub fn merges_addresses(&self) -> bool
+        ensures decided { result ≡ merges_addresses self.now }
+        ensures apart { result ≡ false → KeepsApart self.now }
+    {
+        self.can_merge()
+    }
+
+    /// Whether two addresses of the same IP version can become one address.
+    fn can_merge(&self) -> bool
+        ensures { result ≡ merges_addresses self.now }
+    {
+        can_merge(
+            self.source.ipv4.as_slice(),
+            self.destination.ipv4.as_slice(),
+        ) || can_merge(
+            self.source.ipv6.as_slice(),
+            self.destination.ipv6.as_slice(),
+        )
     }
 
     /// What the table replaces in an IPv4 packet with these addresses and ports.

@@ -112,7 +112,7 @@ def attribute_end(frame, start):
 
 
 def model(data, table):
-    """What the program has to write for a capture, and its counts: of translated packets, of others, and by reason."""
+    """What the program has to write for a capture, and its counts: of translated packets and of others by IP version, and by reason."""
     counts, written = collections.Counter(), []
     for part in Capture(data).parts:
         if isinstance(part, tuple):
@@ -128,7 +128,8 @@ def translated_frame(link, order, frame, table):
         packet = translated(frame[start:end], table)
     except Refused as refused:
         return frame, str(refused)
-    return frame[:start] + packet + frame[end:], "translated" if packet != frame[start:end] else "without"
+    outcome = "translated" if packet != frame[start:end] else "without"
+    return frame[:start] + packet + frame[end:], f"IPv{packet[0] >> 4} {outcome}"
 
 
 HOSTS = ("192.0.2.0/24=10.1.2.0/24", "2001:db8::/32=fd00::/32")
@@ -141,6 +142,7 @@ TABLES = {
     "one host": Table(source=("192.0.2.1=192.0.2.77", "2001:db8::1=2001:db8::4d"), destination=("192.0.2.0/31=10.0.0.0/31",)),
     "ports": Table(source=("192.0.2.0/24=10.1.2.0/24",), source_port=("49152=1", "49153=65535"), destination_port=("53=5353", "80=8080")),
     "the first match": Table(source=("192.0.2.2=10.0.0.2", "192.0.2.0/24=10.0.1.0/24", "192.0.2.1=10.0.2.1"), source_port=("1=2", "49152=3", "49152=4")),
+    "both sides by one option": Table(both=HOSTS, source=("198.51.100.7=203.0.113.9",), destination=("192.0.2.1=10.9.9.9",)),
     "nothing": Table(source=("203.0.113.0/24=10.0.0.0/24",), source_port=("7=8",)),
     "only a source port": Table(source_port=("49152=1",)),
     "only a destination port": Table(destination_port=("53=5353",)),

@@ -25,14 +25,17 @@ class Table:
         self.networks = {"source": [], "destination": []}
         self.ports = {"source": [], "destination": []}
         for option, values in options.items():
-            side = option.split("_")[0]
             for value in values:
                 self.arguments += ["--" + option.replace("_", "-"), value]
-                old, new = value.split("=")
-                if option.endswith("_port"):
-                    self.ports[side].append((int(old), int(new)))
-                else:
-                    self.networks[side].append((ipaddress.ip_network(old), ipaddress.ip_network(new)))
+        # The values of `--both` come after those of the options for one side.
+        for option, values in sorted(options.items(), key=lambda pair: pair[0] == "both"):
+            sides = ("source", "destination") if option == "both" else (option.split("_")[0],)
+            for side in sides:
+                for old, new in (value.split("=") for value in values):
+                    if option.endswith("_port"):
+                        self.ports[side].append((int(old), int(new)))
+                    else:
+                        self.networks[side].append((ipaddress.ip_network(old), ipaddress.ip_network(new)))
 
     def address(self, side, octets):
         """The new address, or None where no replacement applies."""
@@ -43,6 +46,12 @@ class Table:
                 prefix = f"{int(new.network_address):0{8 * len(octets)}b}"[:new.prefixlen]
                 return int(prefix + kept, 2).to_bytes(len(octets), "big")
         return None
+
+    def merges(self):
+        """Whether two addresses can become one: a new network is smaller than the old one, or new networks of others overlap."""
+        pairs = self.networks["source"] + self.networks["destination"]
+        return any(old.prefixlen < new.prefixlen for old, new in pairs) or any(
+            one != other and one[1].version == other[1].version and one[1].overlaps(other[1]) for one in pairs for other in pairs)
 
     def port(self, side, number):
         return next((new for old, new in self.ports[side] if old == number), None)

@@ -12,8 +12,9 @@ def counts_of(text):
     counts = collections.Counter()
     for line in text.splitlines():
         words = line.removeprefix("translator: ").split()
-        if words[1:3] == ["packets", "translated,"]:
-            counts["translated"], counts["without"] = int(words[0]), int(words[3])
+        if words[5:7] == ["packets", "translated,"]:
+            counts["IPv4 translated"], counts["IPv6 translated"] = int(words[0]), int(words[3])
+            counts["IPv4 without"], counts["IPv6 without"] = int(words[7]), int(words[10])
         elif words[1:3] == ["not", "translated:"]:
             counts[" ".join(words[3:])] = int(words[0])
     return +counts

@@ -10,6 +10,9 @@ from .captures import TABLES, captures, model, verdicts
 from .run import PROGRAM, counts_of, first_difference, run
 
 
+WARNING = "translator: warning: two addresses can become one, "
+
+
 def check_captures(tally):
     """Each capture, with each table: the bytes of the model, its counts, and right checksums where they were right."""
     for name, data in captures():
@@ -19,6 +22,7 @@ def check_captures(tally):
             tally.expect(f"{name}, {title}: status", done.returncode, 0)
             tally.expect(f"{name}, {title}: where the bytes differ", first_difference(done.stdout, wanted), None)
             tally.expect(f"{name}, {title}: counts", counts_of(done.stderr.decode()), counts)
+            tally.expect(f"{name}, {title}: warning", done.stderr.decode().splitlines()[-1].startswith(WARNING), table.merges())
             tally.expect(f"{name}, {title}: checksums", verdicts(done.stdout), verdicts(data))
 
 
@@ -42,7 +46,7 @@ def check_cuts(tally):
                 wanted = f"translator: At byte {start} of the file: {cut_text(parts, data[start:], length - start)}"
                 tally.expect(f"{parts.__name__}, {length} bytes: the error", said[0], wanted)
             # The line of the error is the first one, and the counts follow.
-            counts_at = [place for place, line in enumerate(said) if line.endswith(" without a replacement")]
+            counts_at = [place for place, line in enumerate(said) if line.endswith(" packets without a replacement")]
             tally.expect(f"{parts.__name__}, {length} bytes", (done.returncode, done.stdout, counts_at), (status, written, [min(status, 1)]))
 
 
@@ -73,13 +77,19 @@ def check_faults(tally):
         said = done.stderr.decode()
         tally.expect(name, (done.returncode, first_difference(done.stdout, good + block), f"At byte {len(begin + packet)} " in said, text in said),
                      (1, None, True, True))
-    for name, data, status in (("no capture", b"no capture at all, but a text", 2), ("nothing", b"", 2), ("gzip", bytes.fromhex("1F8B0800") + bytes(40), 2),
+    for name, data, status in (("no capture", b"no capture at all, but a text", 2), ("nothing", b"", 2),
                                ("version 2.3", build.capture(build.ETHERNET, [frame]).replace(b"\2\0\4\0", b"\2\0\3\0", 1), 1),
                                ("a first section of version 2", build.section_header(major=2) + packet, 1),
                                ("a first section without a magic", build.section_header()[:8] + bytes(20) + packet, 2),
                                ("a first section with another last length", build.section_header()[:-4] + struct.pack("<I", 12) + packet, 2)):
         done = run(data, *table.arguments)
         tally.expect(name, (done.returncode, done.stdout), (status, b""))
+    for magic, command in (("1F8B0800", "gzip"), ("1F8BFFFF", "gzip"), ("28B52FFD", "zstd")):
+        done = run(bytes.fromhex(magic) + bytes(40), *table.arguments)
+        wanted = f"translator: The capture is compressed, and is read by {command} -dc FILE | translator OPTIONS."
+        tally.expect(magic, (done.returncode, done.stdout, done.stderr.decode().splitlines()[0]), (2, b"", wanted))
+    done = run(bytes.fromhex("28B52FFE") + bytes(40), *table.arguments)
+    tally.expect("not zstd", (done.returncode, done.stdout, b"compressed" in done.stderr), (2, b"", False))
     data = build.capture(build.OTHER_LINK, [frame])
     done = run(data, *table.arguments)
     tally.expect("a link type", (done.returncode, done.stdout), (0, data))
@@ -147,6 +157,6 @@ def check_memory(tally):
                                       capture_output=True, timeout=120)
                 status, size = map(int, done.stdout.split())
                 found = (status, path.read_bytes() == begin + new * count, counts_of(done.stderr.decode()))
-            tally.expect(f"{parts.__name__}, {count} packets", found, (0, True, {"translated": count}))
+            tally.expect(f"{parts.__name__}, {count} packets", found, (0, True, {f"IPv{frame[14] >> 4} translated": count}))
             used.append(size)
         tally.expect(f"{parts.__name__}: memory in KB grows by less than 1,000", used[1] < used[0] + 1000, True)

@@ -1,5 +1,5 @@
 use Rattle.std.proofs.Common.{[], ◌++◌, codes, refl}
-use Rattle.translator.specs.Outputs.{IsOpenErrorLine}
+use Rattle.translator.specs.ErrorTexts.{IsOpenErrorLine}
 use Rattle.translator.proofs.OutputLemmas.{loses_text, not_both}
 use Rattle.translator.proofs.unopened.Goals as goal
 
