@@ -283,7 +283,7 @@ static REFUSALS: [(Error, &[u8]); 12] = [
 fn packets_without_a_size_stay_as_they_are(rt: HostRuntime) {
     for (error, packet) in &REFUSALS {
         let (result, buffer) = lowered(&rt, packet, 1360);
-        expect_equal(&rt, &result.as_ref().err(), &Some(error));
+        expect_equal(&rt, &expect_some(&rt, result.err()), error);
         expect_bytes(&rt, expect_some(&rt, buffer.get(..packet.len())), packet);
     }
 }

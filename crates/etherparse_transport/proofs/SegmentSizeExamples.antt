@@ -2,7 +2,7 @@
 use Rattle.std.proofs.Common.{◌≡◌, ℕ, List, [], ◌∷◌, replicate, ◌++◌, Some, None, Ok, Err, true, false, refl, inl, inr, arith}
 use Rattle.ip_part.specs.Ip.{headers_to_transport}
 use Rattle.ip_part.specs.Options.{options_within}
-use Rattle.tcp_part.specs.TcpRawOptions.{BeginsWithRaw, RawOption}
+use Rattle.tcp_part.specs.TcpRawOptions.{RawOption}
 use Rattle.tcp_part.specs.declared.tcp_raw_option_error.TcpRawOptionError.TheVariants.{LengthBeyondEnd}
 use Rattle.word_sum.specs.Checksum.{folded}
 use Rattle.etherparse_transport.specs.SegmentSizes.{Finds, FindsIn, header_refusal, lowered_segment}

@@ -1,5 +1,4 @@
-use Rattle.std.proofs.Common.{◌≡◌, Ok, subst, sym}
-use Rattle.etherparse_transport.specs.SegmentSizes.{FindsIn}
+use Rattle.std.proofs.Common.{Ok}
 use Rattle.etherparse_transport.proofs.SegmentSizeLemmas.{finds_in, not_refused_for, size_at}
 use Rattle.etherparse_transport.proofs.ip.segment_size.size_place.Goals as goal
 

@@ -1,4 +1,4 @@
-use Rattle.std.proofs.Common.{◌≡◌, ◌≤◌, ◌==◌, true, List, ℕ, slice_index, sym, ap, ◌∙◌, arith, rules}
+use Rattle.std.proofs.Common.{◌≡◌, ◌≤◌, ◌==◌, true, List, ℕ, slice_index, sym, ap, ◌∙◌, rules}
 use Rattle.tcp_part.specs.TcpFormat.{flag_of, options_of, syn_flag}
 use Rattle.etherparse_transport.proofs.SegmentSizeLemmas.{finds_behind, none_refused, same_options, same_syn}
 use Rattle.etherparse_transport.proofs.ip.segment_size.size_place_in.Goals as goal

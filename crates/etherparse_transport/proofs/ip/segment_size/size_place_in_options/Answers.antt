@@ -1,4 +1,4 @@
-use Rattle.std.proofs.Common.{◌≡◌, ◌+◌, ◌++◌, ◌==◌, ◌∷◌, [], ℕ, List, Some, Ok, Err, IfOk, length, length-append, refl, sym, ap, ◌∙◌, subst, arith, rules}
+use Rattle.std.proofs.Common.{◌≡◌, ◌+◌, ◌∷◌, [], ℕ, List, Some, Ok, Err, length, length-append, refl, sym, ap, ◌∙◌, subst, arith, rules}
 use Rattle.tcp_part.specs.TcpRawOptions.{BeginsWithRaw, RawOption, ReadsRawNext, raw_spelling}
 use Rattle.tcp_part.proofs.TcpRawOptionsLemmas.{has_one_raw_reading}
 use Rattle.etherparse_transport.specs.SegmentSizes.{place_in, size_in}
