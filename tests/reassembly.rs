@@ -6,8 +6,9 @@ use crate::expect::{
 use ip_part::IpError;
 use net_base::ip_number;
 use reassembly::{
-    Fragment, FragmentError, FragmentKey, MAX_FRAGMENTS, Progress, Reassembly, ReassemblyError,
-    ipv6_fragment_header, whole_ipv4_header, whole_ipv6_header,
+    Fragment, FragmentError, FragmentKey, MAX_FRAGMENTS, Place, Progress, Reassembly,
+    ReassemblyError, Waiting, ipv6_fragment_header, place_for, whole_ipv4_header,
+    whole_ipv6_header,
 };
 use std::process::Abort;
 
@@ -359,4 +360,37 @@ fn headers_of_ipv6_are_those_before_the_fragment_header(rt: HostRuntime) {
         &whole_ipv6_header(&over_ipv4(0, 0), 8).is_none(),
         &true,
     );
+}
+
+/// A packet that is put together since this time.
+fn waiting(key: FragmentKey, since: u64) -> Waiting {
+    Waiting { key, since }
+}
+
+#[test]
+fn a_fragment_has_a_place_among_reassemblies(rt: HostRuntime) {
+    let mut other = KEY_OVER_IPV4;
+    if let FragmentKey::Ipv4 { identification, .. } = &mut other {
+        *identification = 7;
+    }
+    let all = [
+        waiting(other, 5),
+        waiting(KEY_OVER_IPV6, 3),
+        waiting(other, 3),
+    ];
+    expect_equal(
+        &rt,
+        &place_for(&all, &KEY_OVER_IPV6),
+        &Some(Place::Known(1)),
+    );
+    expect_equal(&rt, &place_for(&all, &other), &Some(Place::Known(0)));
+    expect_equal(
+        &rt,
+        &place_for(&all, &KEY_OVER_IPV4),
+        &Some(Place::Oldest(1)),
+    );
+    expect_equal(&rt, &place_for(&[], &other), &None);
+    for (now, is_expired) in [(0, false), (65, false), (66, true)] {
+        expect_equal(&rt, &all[0].is_expired(now), &is_expired);
+    }
 }

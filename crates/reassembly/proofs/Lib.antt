@@ -7,5 +7,6 @@ pub mod OnlySoLemmas
 pub mod PacketCutLemmas
 pub mod PacketLemmas
 pub mod PartLemmas
+pub mod WaitingLemmas
 pub mod WholeHeaderLemmas
 mod WorkedExamples

@@ -5,6 +5,8 @@ use Rattle.reassembly.specs.Cuts.{after}
 use Rattle.reassembly.specs.Fragments.{FragmentValue, fragment_header_from, fragment_header_in}
 use Rattle.reassembly.specs.Pieces.{byte_at}
 use Rattle.reassembly.specs.Reassembly.{State, empty}
+use Rattle.reassembly.specs.Waiting.{earliest, is_expired}
+use Rattle.reassembly.specs.declared.waiting.Waiting.{Waiting}
 use Rattle.reassembly.specs.WholeHeaders.{ipv6_header_by, whole_ipv4_header}
 use Rattle.reassembly.specs.declared.fragment_key.FragmentKey.{FragmentKey}
 use Rattle.reassembly.specs.declared.fragment_key.FragmentKey.TheVariants.{Ipv4}
@@ -64,3 +66,29 @@ byte_of_the_last_fragment = refl
 byte_behind_the_payload : byte_at last_then_first.pieces 10 ≡ None
 unfolding last_then_first example_key first last
 byte_behind_the_payload = refl
+
+-- ---- several packets
+
+-- a packet with this identification, whose first fragment arrived at this time
+abbrev waiting : ℕ → ℕ → Waiting
+waiting identification since = record {
+  key = Ipv4 (10 ∷ 0 ∷ 0 ∷ 1 ∷ []) (10 ∷ 0 ∷ 0 ∷ 2 ∷ []) (record { 0 = 17 }) identification;
+  since = since;
+}
+
+-- the reassemblies of three packets; two began at the same time
+abbrev three : List Waiting
+three = waiting 7 105 ∷ waiting 8 103 ∷ waiting 9 103 ∷ []
+
+earliest_of_three : earliest three ≡ 103
+earliest_of_three = refl
+
+not_expired_after_60_seconds : is_expired (waiting 7 105) 165 ≡ false
+not_expired_after_60_seconds = refl
+
+expired_after_61_seconds : is_expired (waiting 7 105) 166 ≡ true
+expired_after_61_seconds = refl
+
+-- time before the first fragment
+not_expired_before : is_expired (waiting 7 105) 5 ≡ false
+not_expired_before = refl

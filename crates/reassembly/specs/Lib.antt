@@ -10,4 +10,5 @@ pub mod Packets
 pub mod Parts
 pub mod Pieces
 pub mod Reassembly
+pub mod Waiting
 pub mod WholeHeaders

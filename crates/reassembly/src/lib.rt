@@ -1,8 +1,8 @@
 //! Fragments of IP packets (RFC 791, section 3.2; RFC 8200, section 4.5): the content of a fragment, and how packets are put together.
 //!
 //! `Fragment::of` reads a fragment: the key that all fragments of one packet share, the place of the fragment in the payload, and its
-//! bytes. A `Reassembly` puts one packet together, in a buffer that the caller lends. Fragments may come in any order and repeatedly. No
-//! call allocates or has a precondition.
+//! bytes. A `Reassembly` puts one packet together, in a buffer that the caller lends. Fragments may come in any order and repeatedly.
+//! `place_for` chooses which of several reassemblies takes a fragment. No call allocates or has a precondition.
 //!
 //! ```
 //! if let Some(fragment) = Fragment::of(packet)? {
@@ -22,6 +22,7 @@ pub mod laws;
 mod part;
 mod reassembly;
 mod reassembly_error;
+mod waiting;
 mod whole_header;
 
 pub use fragment::Fragment;
@@ -30,6 +31,7 @@ pub use fragment_header::ipv6_fragment_header;
 pub use fragment_key::FragmentKey;
 pub use reassembly::{MAX_FRAGMENTS, Progress, Reassembly};
 pub use reassembly_error::ReassemblyError;
+pub use waiting::{Place, REASSEMBLY_SECONDS, Waiting, place_for};
 pub use whole_header::{
     MAX_IPV4_HEADER_LEN, MAX_IPV6_HEADER_LEN, whole_ipv4_header, whole_ipv6_header,
 };

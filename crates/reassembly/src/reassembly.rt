@@ -236,7 +236,7 @@ fn check_fragment(
 }
 
 /// Whether the two keys are equal.
-fn is_same_key(a: &FragmentKey, b: &FragmentKey) -> bool
+pub(crate) fn is_same_key(a: &FragmentKey, b: &FragmentKey) -> bool
     ensures { result ≡ specs.is_same_key a.now b.now }
 {
     a == b
