@@ -6,7 +6,8 @@ use crate::expect::{
 use etherparse_transport::{Ipv4HeaderSlice, Ipv6Header, UdpHeader};
 use ip_translation::{
     AddressError, PacketTranslationError, Prefix64, Prefix64Error, Prefixes, TranslationError,
-    header_to_ipv6, ipv4_to_ipv6, ipv6_to_ipv4, pseudo_header_change,
+    header_to_ipv6, icmpv4_error, icmpv4_mtu, icmpv4_pointer, icmpv6_error, icmpv6_mtu,
+    icmpv6_pointer, ipv4_to_ipv6, ipv6_to_ipv4, pseudo_header_change,
 };
 use std::process::Abort;
 
@@ -587,5 +588,100 @@ fn long_packets_are_not_fragmented(rt: HostRuntime) {
         let outcome = ipv6_to_ipv4(&packet, &PREFIXES, 1, &mut buffer);
         expect_ok(&rt, outcome);
         expect_at(&rt, &payload_len, &buffer[6], &flags);
+    }
+}
+
+// ---- ICMP errors
+
+/// The rows of RFC 7915, section 4.2: type and code over IPv4, and over IPv6. "Time exceeded" keeps its code.
+#[rattlefmt::skip]
+static ERRORS: [((u8, u8), (u8, u8)); 19] = [
+    ((3, 0), (1, 0)), ((3, 1), (1, 0)), ((3, 2), (4, 1)), ((3, 3), (1, 4)), ((3, 4), (2, 0)), ((3, 5), (1, 0)), ((3, 6), (1, 0)),
+    ((3, 7), (1, 0)), ((3, 8), (1, 0)), ((3, 9), (1, 1)), ((3, 10), (1, 1)), ((3, 11), (1, 0)), ((3, 12), (1, 0)), ((3, 13), (1, 1)),
+    ((3, 15), (1, 1)), ((11, 0), (3, 0)), ((11, 1), (3, 1)), ((12, 0), (4, 0)), ((12, 2), (4, 0)),
+];
+
+/// The rows of RFC 7915, section 5.2: type and code over IPv6, and over IPv4.
+#[rattlefmt::skip]
+static ERRORS_BACK: [((u8, u8), (u8, u8)); 10] = [
+    ((1, 0), (3, 1)), ((1, 1), (3, 10)), ((1, 2), (3, 1)), ((1, 3), (3, 1)), ((1, 4), (3, 3)), ((2, 0), (3, 4)), ((3, 0), (11, 0)),
+    ((3, 1), (11, 1)), ((4, 0), (12, 0)), ((4, 1), (3, 2)),
+];
+
+#[test]
+fn rows_of_icmp_errors(rt: HostRuntime) {
+    for (from, to) in &ERRORS {
+        expect_at(&rt, from, &icmpv6_error(from.0, from.1), &Some(*to));
+    }
+    for (from, to) in &ERRORS_BACK {
+        expect_at(&rt, from, &icmpv4_error(from.0, from.1), &Some(*to));
+    }
+}
+
+/// The number of pairs of type and code that are translated. Over IPv4 there are 15 codes of type 3, all of type 11, and 2 of type 12. Over
+/// IPv6 there are 5 codes of type 1, all of types 2 and 3, and 2 of type 4.
+#[test]
+fn all_types_and_codes(rt: HostRuntime) {
+    let mut to_ipv6 = 0;
+    let mut to_ipv4 = 0;
+    for type_u8 in 0..=u8::MAX {
+        for code_u8 in 0..=u8::MAX {
+            to_ipv6 += usize::from(icmpv6_error(type_u8, code_u8).is_some());
+            to_ipv4 += usize::from(icmpv4_error(type_u8, code_u8).is_some());
+        }
+    }
+    expect_equal(&rt, &to_ipv6, &273);
+    expect_equal(&rt, &to_ipv4, &519);
+}
+
+/// The pointer for each of the 20 bytes of an IPv4 header (RFC 7915, figure 3), and for one byte more.
+#[rattlefmt::skip]
+static POINTERS: [Option<u8>; 21] = [
+    Some(0), Some(1), Some(4), Some(4), None, None, None, None, Some(7), Some(6), None, None, Some(8), Some(8), Some(8), Some(8), Some(24),
+    Some(24), Some(24), Some(24), None,
+];
+
+/// Pointers into an IPv6 header, and into an IPv4 header (RFC 7915, figure 6).
+#[rattlefmt::skip]
+static POINTERS_BACK: [(u32, Option<u8>); 14] = [
+    (0, Some(0)), (1, Some(1)), (2, None), (3, None), (4, Some(2)), (5, Some(2)), (6, Some(9)), (7, Some(8)), (8, Some(12)), (23, Some(12)),
+    (24, Some(16)), (39, Some(16)), (40, None), (u32::MAX, None),
+];
+
+#[test]
+fn pointers(rt: HostRuntime) {
+    for pointer in 0..21 {
+        expect_at(&rt, &pointer, &icmpv6_pointer(pointer), &POINTERS[usize::from(pointer)]);
+    }
+    for (pointer, place) in &POINTERS_BACK {
+        expect_at(&rt, pointer, &icmpv4_pointer(*pointer), place);
+    }
+}
+
+/// The MTU over IPv4, the total length of the packet that was too big, and the MTU over IPv6. An MTU of 0 is replaced by a plateau of RFC
+/// 1191, section 7.1.
+#[rattlefmt::skip]
+static MTUS: [(u16, u16, u32); 10] = [
+    (1500, 1501, 1520), (1260, 1300, 1280), (1261, 1300, 1281), (68, 576, 1280), (u16::MAX, u16::MAX, 65555), (0, 1500, 1512),
+    (0, 1492, 1280), (0, 2003, 2022), (0, u16::MAX, 32020), (0, 68, 1280),
+];
+
+/// The MTU over IPv6, and the MTU over IPv4.
+static MTUS_BACK: [(u32, u16); 6] = [
+    (1280, 1260),
+    (1500, 1480),
+    (65555, 65535),
+    (65556, 65535),
+    (u32::MAX, 65535),
+    (19, 0),
+];
+
+#[test]
+fn mtus(rt: HostRuntime) {
+    for (mtu, total_len, translated) in &MTUS {
+        expect_at(&rt, mtu, &icmpv6_mtu(*mtu, *total_len), translated);
+    }
+    for (mtu, translated) in &MTUS_BACK {
+        expect_at(&rt, mtu, &icmpv4_mtu(*mtu), translated);
     }
 }

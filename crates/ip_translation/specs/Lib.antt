@@ -3,6 +3,7 @@ pub mod EchoMessages
 pub mod ErrorTexts
 pub mod HeadersToIpv4
 pub mod HeadersToIpv6
+pub mod IcmpErrors
 pub mod PacketsToIpv4
 pub mod PacketsToIpv6
 pub mod Prefixes

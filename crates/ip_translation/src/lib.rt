@@ -13,6 +13,7 @@
 mod address_error;
 mod echo_translation;
 mod header_translation;
+mod icmp_errors;
 mod ipv4_header_translation;
 #[doc(hidden)]
 pub mod laws;
@@ -28,6 +29,9 @@ mod updated_message;
 
 pub use address_error::AddressError;
 pub use header_translation::{header_to_ipv6, pseudo_header_change};
+pub use icmp_errors::{
+    icmpv4_error, icmpv4_mtu, icmpv4_pointer, icmpv6_error, icmpv6_mtu, icmpv6_pointer,
+};
 pub use ipv4_header_translation::{header_to_ipv4, pseudo_header_change_to_ipv4};
 pub use packet_to_ipv4::ipv6_to_ipv4;
 pub use packet_translation::ipv4_to_ipv6;
