@@ -379,10 +379,10 @@ static NO_PACKETS: [(&[u8], PacketTranslationError, &str); 9] = [
         "Translation Error: the total length is 31, and there are 30 bytes."),
     (&[
         0x45, 0xB9, 0, 0x1C, 0x12, 0x34, 0x40, 0, 0x40, 1, 0x3B, 0x98, 0xC0, 0, 2, 0x21, 0xC6, 0x33, 0x64, 7,
-        3, 0, 0xFC, 0xFF, 0, 0, 0, 0,
+        13, 0, 0xF2, 0xFF, 0, 0, 0, 0,
     ],
-        PacketTranslationError::IcmpType(3),
-        "Translation Error: an ICMP message of type 3 is not translated."),
+        PacketTranslationError::IcmpMessage { type_u8: 13, code_u8: 0 },
+        "Translation Error: an ICMP message of type 13 and code 0 is not translated."),
     (&[
         0x45, 0xB9, 0, 0x1B, 0x12, 0x34, 0x40, 0, 0x40, 0x11, 0x3B, 0x89, 0xC0, 0, 2, 0x21, 0xC6, 0x33, 0x64, 7,
         0, 0x15, 4, 0xD2, 0, 0x0B, 0x4A,
@@ -540,8 +540,8 @@ static NO_PACKETS_BACK: [(&[u8], PacketTranslationError, &str); 11] = [
         0, 0, 0, 0, 0x20, 1, 0x0D, 0xB8, 1, 0x22, 3, 0x44, 0, 0, 0, 0, 0xC6, 0x33, 0x64, 7,
         0, 0x15, 4, 0xD2, 0, 0x0B, 0xEA, 0x59, 0x61, 0x62, 0x63,
     ],
-        PacketTranslationError::IcmpType(0),
-        "Translation Error: an ICMP message of type 0 is not translated."),
+        PacketTranslationError::IcmpMessage { type_u8: 0, code_u8: 21 },
+        "Translation Error: an ICMP message of type 0 and code 21 is not translated."),
     (&[
         0x6B, 0x90, 0, 0, 0, 0x0B, 6, 0x3F, 0x20, 1, 0x0D, 0xB8, 0xC0, 0, 2, 0x21, 0, 0, 0, 0,
         0, 0, 0, 0, 0x20, 1, 0x0D, 0xB8, 1, 0x22, 3, 0x44, 0, 0, 0, 0, 0xC6, 0x33, 0x64, 7,
@@ -684,4 +684,151 @@ fn mtus(rt: HostRuntime) {
     for (mtu, translated) in &MTUS_BACK {
         expect_at(&rt, mtu, &icmpv4_mtu(*mtu), translated);
     }
+}
+
+/// ICMP errors, each with the translated packet: port unreachable with a UDP packet, time exceeded with 8 bytes of a TCP segment,
+/// fragmentation needed with a TCP segment, a parameter problem with an echo request, and protocol unreachable with ESP. A program in Python
+/// computed the checksums.
+#[rattlefmt::skip]
+static ERROR_PACKETS: [(&[u8], &[u8]); 5] = [
+    (&[
+        0x45, 0, 0, 0x3B, 0x12, 0x34, 0x40, 0, 0x40, 1, 0x3C, 0x32, 0xC0, 0, 2, 0x21, 0xC6, 0x33, 0x64, 7,
+        3, 3, 0xE9, 0x75, 0, 0, 0, 0, 0x45, 0, 0, 0x1F, 0xAB, 0xCD, 0x40, 0, 1, 0x11, 0xE1, 0xA4,
+        0xC6, 0x33, 0x64, 7, 0xC0, 0, 2, 0x21, 4, 0xD2, 0, 0x15, 0, 0x0B, 0x4A, 0x32, 0x61, 0x62, 0x63,
+    ], &[
+        0x60, 0, 0, 0, 0, 0x3B, 0x3A, 0x3F, 0x20, 1, 0x0D, 0xB8, 0xC0, 0, 2, 0x21, 0, 0, 0, 0,
+        0, 0, 0, 0, 0x20, 1, 0x0D, 0xB8, 1, 0x22, 3, 0x44, 0, 0, 0, 0, 0xC6, 0x33, 0x64, 7,
+        1, 4, 0x41, 0x61, 0, 0, 0, 0, 0x60, 0, 0, 0, 0, 0x0B, 0x11, 1, 0x20, 1, 0x0D, 0xB8,
+        1, 0x22, 3, 0x44, 0, 0, 0, 0, 0xC6, 0x33, 0x64, 7, 0x20, 1, 0x0D, 0xB8, 0xC0, 0, 2, 0x21,
+        0, 0, 0, 0, 0, 0, 0, 0, 4, 0xD2, 0, 0x15, 0, 0x0B, 0xEA, 0x59, 0x61, 0x62, 0x63,
+    ]),
+    (&[
+        0x45, 0, 0, 0x38, 0x12, 0x34, 0x40, 0, 0x40, 1, 0x3C, 0x35, 0xC0, 0, 2, 0x21, 0xC6, 0x33, 0x64, 7,
+        0x0B, 0, 0xEC, 0x12, 0, 0, 0, 0, 0x45, 0, 0, 0x2B, 0xAB, 0xCD, 0x40, 0, 1, 6, 0xE1, 0xA3,
+        0xC6, 0x33, 0x64, 7, 0xC0, 0, 2, 0x21, 4, 0xD2, 0, 0x15, 1, 2, 3, 4,
+    ], &[
+        0x60, 0, 0, 0, 0, 0x38, 0x3A, 0x3F, 0x20, 1, 0x0D, 0xB8, 0xC0, 0, 2, 0x21, 0, 0, 0, 0,
+        0, 0, 0, 0, 0x20, 1, 0x0D, 0xB8, 1, 0x22, 3, 0x44, 0, 0, 0, 0, 0xC6, 0x33, 0x64, 7,
+        3, 0, 0xF5, 0x1D, 0, 0, 0, 0, 0x60, 0, 0, 0, 0, 0x17, 6, 1, 0x20, 1, 0x0D, 0xB8,
+        1, 0x22, 3, 0x44, 0, 0, 0, 0, 0xC6, 0x33, 0x64, 7, 0x20, 1, 0x0D, 0xB8, 0xC0, 0, 2, 0x21,
+        0, 0, 0, 0, 0, 0, 0, 0, 4, 0xD2, 0, 0x15, 1, 2, 3, 4,
+    ]),
+    (&[
+        0x45, 0, 0, 0x47, 0x12, 0x34, 0x40, 0, 0x40, 1, 0x3C, 0x26, 0xC0, 0, 2, 0x21, 0xC6, 0x33, 0x64, 7,
+        3, 4, 0xE3, 0xFD, 0, 0, 5, 0x78, 0x45, 0, 0, 0x2B, 0xAB, 0xCD, 0x40, 0, 1, 6, 0xE1, 0xA3,
+        0xC6, 0x33, 0x64, 7, 0xC0, 0, 2, 0x21, 4, 0xD2, 0, 0x15, 1, 2, 3, 4, 5, 6, 7, 8,
+        0x50, 0x18, 0x20, 0, 0xCA, 0x0F, 0, 0, 0x61, 0x62, 0x63,
+    ], &[
+        0x60, 0, 0, 0, 0, 0x47, 0x3A, 0x3F, 0x20, 1, 0x0D, 0xB8, 0xC0, 0, 2, 0x21, 0, 0, 0, 0,
+        0, 0, 0, 0, 0x20, 1, 0x0D, 0xB8, 1, 0x22, 3, 0x44, 0, 0, 0, 0, 0xC6, 0x33, 0x64, 7,
+        2, 0, 0x45, 0xC2, 0, 0, 5, 0x8C, 0x60, 0, 0, 0, 0, 0x17, 6, 1, 0x20, 1, 0x0D, 0xB8,
+        1, 0x22, 3, 0x44, 0, 0, 0, 0, 0xC6, 0x33, 0x64, 7, 0x20, 1, 0x0D, 0xB8, 0xC0, 0, 2, 0x21,
+        0, 0, 0, 0, 0, 0, 0, 0, 4, 0xD2, 0, 0x15, 1, 2, 3, 4, 5, 6, 7, 8,
+        0x50, 0x18, 0x20, 0, 0x6A, 0x37, 0, 0, 0x61, 0x62, 0x63,
+    ]),
+    (&[
+        0x45, 0, 0, 0x3C, 0x12, 0x34, 0x40, 0, 0x40, 1, 0x3C, 0x31, 0xC0, 0, 2, 0x21, 0xC6, 0x33, 0x64, 7,
+        0x0C, 0, 0xEA, 0xFF, 9, 0, 0, 0, 0x45, 0, 0, 0x20, 0xAB, 0xCD, 0x40, 0, 1, 1, 0xE1, 0xB3,
+        0xC6, 0x33, 0x64, 7, 0xC0, 0, 2, 0x21, 8, 0, 6, 0xF4, 0x12, 0x34, 0, 7, 0x70, 0x69, 0x6E, 0x67,
+    ], &[
+        0x60, 0, 0, 0, 0, 0x3C, 0x3A, 0x3F, 0x20, 1, 0x0D, 0xB8, 0xC0, 0, 2, 0x21, 0, 0, 0, 0,
+        0, 0, 0, 0, 0x20, 1, 0x0D, 0xB8, 1, 0x22, 3, 0x44, 0, 0, 0, 0, 0xC6, 0x33, 0x64, 7,
+        4, 0, 0x15, 0x87, 0, 0, 0, 6, 0x60, 0, 0, 0, 0, 0x0C, 0x3A, 1, 0x20, 1, 0x0D, 0xB8,
+        1, 0x22, 3, 0x44, 0, 0, 0, 0, 0xC6, 0x33, 0x64, 7, 0x20, 1, 0x0D, 0xB8, 0xC0, 0, 2, 0x21,
+        0, 0, 0, 0, 0, 0, 0, 0, 0x80, 0, 0x42, 0x78, 0x12, 0x34, 0, 7, 0x70, 0x69, 0x6E, 0x67,
+    ]),
+    (&[
+        0x45, 0, 0, 0x34, 0x12, 0x34, 0x40, 0, 0x40, 1, 0x3C, 0x39, 0xC0, 0, 2, 0x21, 0xC6, 0x33, 0x64, 7,
+        3, 2, 0x38, 0x37, 0, 0, 0, 0, 0x45, 0xB9, 0, 0x18, 0xAB, 0xCD, 0x40, 0, 1, 0x32, 0xE0, 0xD1,
+        0xC6, 0x33, 0x64, 7, 0xC0, 0, 2, 0x21, 0x61, 0x62, 0x63, 0x64,
+    ], &[
+        0x60, 0, 0, 0, 0, 0x34, 0x3A, 0x3F, 0x20, 1, 0x0D, 0xB8, 0xC0, 0, 2, 0x21, 0, 0, 0, 0,
+        0, 0, 0, 0, 0x20, 1, 0x0D, 0xB8, 1, 0x22, 3, 0x44, 0, 0, 0, 0, 0xC6, 0x33, 0x64, 7,
+        4, 1, 0, 0xC4, 0, 0, 0, 6, 0x6B, 0x90, 0, 0, 0, 4, 0x32, 1, 0x20, 1, 0x0D, 0xB8,
+        1, 0x22, 3, 0x44, 0, 0, 0, 0, 0xC6, 0x33, 0x64, 7, 0x20, 1, 0x0D, 0xB8, 0xC0, 0, 2, 0x21,
+        0, 0, 0, 0, 0, 0, 0, 0, 0x61, 0x62, 0x63, 0x64,
+    ]),
+];
+
+#[test]
+fn icmp_errors_are_translated(rt: HostRuntime) {
+    for (packet, expected) in &ERROR_PACKETS {
+        let mut buffer = [0xEE; 120];
+        let len = expect_ok(&rt, ipv4_to_ipv6(packet, &PREFIXES, &mut buffer));
+        expect_bytes(&rt, bytes_to(&rt, &buffer, len), expected);
+        expect_equal(&rt, &buffer[119], &0xEE);
+    }
+}
+
+/// A quote of 1,300 bytes is cut, so that the ICMPv6 error has 1280 bytes.
+#[test]
+fn long_quotes_are_cut(rt: HostRuntime) {
+    let mut packet = [0; 1328];
+    packet[..59].copy_from_slice(ERROR_PACKETS[0].0);
+    packet[2..4].copy_from_slice(&[5, 0x30]);
+    packet[10..12].copy_from_slice(&[0x37, 0x3D]);
+    packet[30..32].copy_from_slice(&[5, 0xDC]);
+    let mut buffer = [0xEE; 1400];
+    let outcome = ipv4_to_ipv6(&packet, &PREFIXES, &mut buffer);
+    expect_equal(&rt, &outcome, &Ok(1280));
+    // The payload lengths of the error and of the quoted packet.
+    expect_bytes(&rt, &buffer[4..6], &[4, 0xD8]);
+    expect_bytes(&rt, &buffer[52..54], &[5, 0xC8]);
+    expect_equal(&rt, &buffer[1280], &0xEE);
+}
+
+/// ICMP errors that are refused: the number of the row, the place of a byte, and its new value.
+#[rattlefmt::skip]
+static NO_ERRORS: [(usize, usize, u8, PacketTranslationError, &str); 10] = [
+    (0, 21, 14, PacketTranslationError::IcmpMessage { type_u8: 3, code_u8: 14 },
+        "Translation Error: an ICMP message of type 3 and code 14 is not translated."),
+    (0, 20, 5, PacketTranslationError::IcmpMessage { type_u8: 5, code_u8: 3 },
+        "Translation Error: an ICMP message of type 5 and code 3 is not translated."),
+    (0, 25, 8, PacketTranslationError::IcmpExtension(8),
+        "Translation Error: an ICMP error with an extension, with length field 8, is not translated."),
+    (0, 28, 0x60, PacketTranslationError::NoQuotedHeader, "Translation Error: an ICMP error does not quote an IP header."),
+    (0, 34, 0x20, PacketTranslationError::QuotedHeader(TranslationError::Fragment), "Translation Error: the packet is a fragment."),
+    (0, 31, 19, PacketTranslationError::QuotedHeader(TranslationError::TotalLength { total_len: 19, header_len: 20 }),
+        "Translation Error: the total length 19 is below the header length 20."),
+    (0, 40, 127, PacketTranslationError::QuotedHeader(TranslationError::IllegalSource),
+        "Translation Error: the source is no address of a host."),
+    (0, 31, 27, PacketTranslationError::TransportHeader { required_len: 8, len: 7 },
+        "Translation Error: the transport header has 8 bytes, and there are 7."),
+    (0, 37, 1, PacketTranslationError::QuotedIcmp { type_u8: 4, code_u8: 210 },
+        "Translation Error: an ICMP error quotes an ICMP message of type 4 and code 210."),
+    (3, 24, 10, PacketTranslationError::IcmpPointer(10), "Translation Error: the pointer 10 has no translation."),
+];
+
+#[test]
+fn icmp_errors_are_refused(rt: HostRuntime) {
+    for (row, place, value, error, text) in &NO_ERRORS {
+        let mut packet = joined(&rt, &[ERROR_PACKETS[*row].0]);
+        packet.as_mut_slice()[*place] = *value;
+        let mut buffer = [0xEE; 120];
+        let outcome = ipv4_to_ipv6(packet.as_slice(), &PREFIXES, &mut buffer);
+        expect_at(&rt, text, &outcome.err().as_ref(), &Some(error));
+        expect_bytes(&rt, &buffer, &[0xEE; 120]);
+        expect_text(&rt, error, text);
+    }
+    let mut buffer = [0xEE; 98];
+    let outcome = ipv4_to_ipv6(ERROR_PACKETS[0].0, &PREFIXES, &mut buffer);
+    let error = PacketTranslationError::Space { required_len: 99, len: 98 };
+    expect_equal(&rt, &outcome, &Err(error));
+}
+
+/// The number of pairs of type and code of a packet that are translated: the errors, and echo requests and replies with any code. A parameter
+/// problem has pointer 9.
+#[test]
+fn all_messages(rt: HostRuntime) {
+    let mut packet = joined(&rt, &[ERROR_PACKETS[3].0]);
+    let mut translated = 0;
+    let mut buffer = [0; 120];
+    for type_u8 in 0..=u8::MAX {
+        for code_u8 in 0..=u8::MAX {
+            packet.as_mut_slice()[20..22].copy_from_slice(&[type_u8, code_u8]);
+            let outcome = ipv4_to_ipv6(packet.as_slice(), &PREFIXES, &mut buffer);
+            translated += usize::from(outcome.is_ok());
+        }
+    }
+    expect_equal(&rt, &translated, &785);
 }

@@ -7,7 +7,7 @@ use Rattle.word_sum.specs.ChecksumChange.{TurnsInto, added_value, removed_value}
 use Rattle.word_sum.specs.declared.checksum_change.ChecksumChange.{ChecksumChange}
 use Rattle.word_sum.proofs.ChecksumLemmas.{folded-add}
 use Rattle.word_sum.proofs.ChecksumChangeLemmas.{folded_all_ones_iff}
-use Rattle.ip_translation.specs.EchoMessages.{icmp_checksum, type_and_code, with_type}
+use Rattle.ip_translation.specs.EchoMessages.{icmp_checksum, total_without_checksum, type_and_code, with_type}
 
 -- two sums that leave the same remainder are both all ones or both not, unless one is 0
 pub both_accepted : (was is : ℕ) → is % 65535 ≡ was % 65535 → was ≢ 0 → is ≢ 0 → (IsAllOnes is) ↔ (IsAllOnes was)
@@ -35,6 +35,15 @@ translated_total [] type checksum there small = absurd (omega (arith, there))
 translated_total (a ∷ []) type checksum there small = absurd (omega (arith, there))
 translated_total (a ∷ (b ∷ [])) type checksum there small = absurd (omega (arith, there))
 translated_total (a ∷ (b ∷ (c ∷ []))) type checksum there small = absurd (omega (arith, there))
+
+-- the sum of the message with another checksum
+pub stored_total : (message : List ℕ) (checksum : ℕ) → 4 ≤ length message → checksum < 65536
+    → total (with_checksum 2 message checksum) ≡ total_without_checksum message + checksum
+stored_total (a ∷ (b ∷ (c ∷ (d ∷ rest)))) checksum there small = omega (arith, small)
+stored_total [] checksum there small = absurd (omega (arith, there))
+stored_total (a ∷ []) checksum there small = absurd (omega (arith, there))
+stored_total (a ∷ (b ∷ [])) checksum there small = absurd (omega (arith, there))
+stored_total (a ∷ (b ∷ (c ∷ []))) checksum there small = absurd (omega (arith, there))
 
 add_last : (a b : ℕ) → folded (a + folded b) ≡ folded (a + b)
 add_last a b = ap folded (omega arith) ∙ folded-add b a ∙ ap folded (omega arith)

@@ -1,6 +1,7 @@
 pub mod BackLemmas
 pub mod EchoLemmas
 pub mod EmbeddedLemmas
+pub mod ErrorLemmas
 pub mod IcmpErrorExamples
 pub mod Ipv4HeaderLemmas
 pub mod Ipv4PacketExamples

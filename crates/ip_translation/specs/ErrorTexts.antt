@@ -5,7 +5,7 @@ use Rattle.std.specs.List.{concat}
 use Rattle.ip_translation.specs.declared.address_error.AddressError.{AddressError}
 use Rattle.ip_translation.specs.declared.address_error.AddressError.TheVariants.{NotEmbedded, NotGlobal}
 use Rattle.ip_translation.specs.declared.packet_translation_error.PacketTranslationError.{PacketTranslationError}
-use Rattle.ip_translation.specs.declared.packet_translation_error.PacketTranslationError.TheVariants.{CutOff, Header, IcmpType, NoIpv4Header, NoIpv6Header, NoUdpChecksum, Space, TransportHeader, UdpLength}
+use Rattle.ip_translation.specs.declared.packet_translation_error.PacketTranslationError.TheVariants.{CutOff, Header, IcmpExtension, IcmpMessage, IcmpPointer, NoIpv4Header, NoIpv6Header, NoQuotedHeader, NoUdpChecksum, QuotedHeader, QuotedIcmp, Space, TransportHeader, UdpLength}
 use Rattle.ip_translation.specs.declared.prefix64_error.Prefix64Error.{Prefix64Error}
 use Rattle.ip_translation.specs.declared.prefix64_error.Prefix64Error.TheVariants.{Len, ReservedOctet, SuffixBits}
 use Rattle.ip_translation.specs.declared.translation_error.TranslationError.{TranslationError}
@@ -47,7 +47,16 @@ packet_text NoIpv6Header = codes "Translation Error: the bytes do not begin with
 packet_text (Header error) = translation_text error
 packet_text (CutOff total_len len) = concat (
     codes "Translation Error: the total length is " ∷ decimal total_len ∷ codes ", and there are " ∷ decimal len ∷ codes " bytes." ∷ [])
-packet_text (IcmpType type) = concat (codes "Translation Error: an ICMP message of type " ∷ decimal type ∷ codes " is not translated." ∷ [])
+packet_text (IcmpMessage type code) = concat (
+    codes "Translation Error: an ICMP message of type " ∷ decimal type ∷ codes " and code " ∷ decimal code ∷ codes " is not translated." ∷ [])
+packet_text (IcmpExtension length) = concat (
+    codes "Translation Error: an ICMP error with an extension, with length field " ∷ decimal length ∷ codes ", is not translated." ∷ [])
+packet_text (IcmpPointer pointer) = concat (
+    codes "Translation Error: the pointer " ∷ decimal pointer ∷ codes " has no translation." ∷ [])
+packet_text NoQuotedHeader = codes "Translation Error: an ICMP error does not quote an IP header."
+packet_text (QuotedHeader error) = translation_text error
+packet_text (QuotedIcmp type code) = concat (
+    codes "Translation Error: an ICMP error quotes an ICMP message of type " ∷ decimal type ∷ codes " and code " ∷ decimal code ∷ codes "." ∷ [])
 packet_text (TransportHeader required_len len) = concat (
     codes "Translation Error: the transport header has " ∷ decimal required_len ∷ codes " bytes, and there are " ∷ decimal len ∷ codes "." ∷ [])
 packet_text (UdpLength length len) = concat (

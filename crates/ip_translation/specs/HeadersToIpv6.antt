@@ -70,13 +70,29 @@ field_refusal header = first_of (
     ∷ addresses_refusal header
     ∷ [])
 
--- the first error about a header: about its fields, and then about an address that has no translation
-abbrev pub header_refusal : Prefixes → List ℕ → Option TranslationError
-header_refusal prefixes header = first_of (
-    field_refusal header
-    ∷ option_map Source (to_ipv6_refusal prefixes.source (source header))
+-- the first error about an address that has no translation
+abbrev pub embedding_refusal : Prefixes → List ℕ → Option TranslationError
+embedding_refusal prefixes header = first_of (
+    option_map Source (to_ipv6_refusal prefixes.source (source header))
     ∷ option_map Destination (to_ipv6_refusal prefixes.destination (destination header))
     ∷ [])
+
+-- the first error about a header: about its fields, and then about an address that has no translation
+abbrev pub header_refusal : Prefixes → List ℕ → Option TranslationError
+header_refusal prefixes header = first_of (field_refusal header ∷ embedding_refusal prefixes header ∷ [])
+
+-- The first error about the fields of the header of a quoted packet. Its checksum and its time to live are not checked, since routers change
+-- them. It has no source route, since this translator never sends one.
+abbrev pub quoted_field_refusal : List ℕ → Option TranslationError
+quoted_field_refusal header = first_of (
+    refused_if (nat_lt (total_len header) (ipv4_header_len header)) (TotalLength (total_len header) (ipv4_header_len header))
+    ∷ refused_if (ipv4_is_fragment header) Fragment
+    ∷ addresses_refusal header
+    ∷ [])
+
+-- the first error about the header of a quoted packet
+abbrev pub quoted_header_refusal : Prefixes → List ℕ → Option TranslationError
+quoted_header_refusal prefixes header = first_of (quoted_field_refusal header ∷ embedding_refusal prefixes header ∷ [])
 
 -- ---- the translated header
 
@@ -90,14 +106,26 @@ abbrev pub ipv6_header : ℕ → ℕ → List ℕ → List ℕ → List ℕ → 
 ipv6_header traffic_class payload_len next source destination =
     (0x60 + traffic_class / 16) ∷ (traffic_class % 16 * 16) ∷ 0 ∷ 0 ∷ to_be_bytes w16 payload_len ++ (next ++ (source ++ destination))
 
--- the IPv6 header for this IPv4 header
-abbrev pub translated_header : Prefixes → List ℕ → List ℕ
-translated_header prefixes header = ipv6_header
+-- the IPv6 header for this IPv4 header, with this payload length and this hop limit
+abbrev pub header_with : Prefixes → ℕ → ℕ → List ℕ → List ℕ
+header_with prefixes payload_len hop_limit header = ipv6_header
     (type_of_service header)
-    (total_len header - ipv4_header_len header)
-    (next_header (protocol header) ∷ (time_to_live header - 1) ∷ [])
+    payload_len
+    (next_header (protocol header) ∷ hop_limit ∷ [])
     (embedded prefixes.source (source header))
     (embedded prefixes.destination (destination header))
+
+-- the length of the payload
+abbrev pub payload_len : List ℕ → ℕ
+payload_len header = total_len header - ipv4_header_len header
+
+-- the IPv6 header for this IPv4 header
+abbrev pub translated_header : Prefixes → List ℕ → List ℕ
+translated_header prefixes header = header_with prefixes (payload_len header) (time_to_live header - 1) header
+
+-- the IPv6 header for the header of a quoted packet, which keeps its time to live
+abbrev pub quoted_header : Prefixes → List ℕ → List ℕ
+quoted_header prefixes header = header_with prefixes (payload_len header) (time_to_live header) header
 
 -- ---- the pseudo headers of UDP and TCP
 

@@ -1,61 +1,26 @@
 -- The translation of IPv4 packets to IPv6 (RFC 7915, section 4), and the packets that are not translated.
-use Rattle.std.specs.Prelude.{◌≡◌, ◌≢◌, ◌≤◌, ◌↔◌, ℕ, ◌+◌, ◌==◌, Bool, ◌&&◌, ◌||◌, not, nat_le, nat_lt, if◌then◌else◌, List, [], ◌∷◌, ◌++◌, length, slice_index, slice_range, take, Option, Some, None}
+use Rattle.std.specs.Prelude.{◌≡◌, ◌≢◌, ◌≤◌, ◌↔◌, ℕ, ◌+◌, ◌-◌, ◌==◌, Bool, true, false, ◌&&◌, ◌||◌, not, nat_le, nat_lt, if◌then◌else◌, List, [], ◌∷◌, ◌++◌, is_none, length, slice_index, take, Option, Some, None}
 use Rattle.std.specs.Option.{option_map, unwrap_or}
 use Rattle.ip_part.specs.Ip.{ipv4_header}
-use Rattle.net_base.specs.Bytes.{be_number}
-use Rattle.net_base.specs.IpHeaders.{ipv4_header_len, version}
 use Rattle.net_base.specs.IpNumbers.{icmpv4_number, icmpv6_number, tcp_number, udp_number}
 use Rattle.net_base.specs.PseudoHeader.{max_len_over_ipv4}
 use Rattle.net_base.specs.Refusals.{first_of, refused_if}
 use Rattle.net_base.specs.StoredChecksum.{tcp_checksum_place, udp_checksum_place, with_checksum}
-use Rattle.word_sum.specs.Checksum.{Verifies, folded, total, udp_checksum_of}
+use Rattle.word_sum.specs.Checksum.{Verifies, total, udp_checksum_of}
 use Rattle.word_sum.specs.UpdatedChecksum.{updated_checksum_of, updated_udp_checksum_of}
-use Rattle.ip_translation.specs.EchoMessages.{echo_refusal, translated_echo, type_over_ipv6}
-use Rattle.ip_translation.specs.HeadersToIpv6.{destination, header_refusal, new_pseudo_header, old_pseudo_header, protocol, source, total_len, translated_header}
-use Rattle.ip_translation.specs.Prefixes.{embedded}
+use Rattle.ip_translation.specs.EchoMessages.{translated_echo, type_over_ipv6}
+use Rattle.ip_translation.specs.ErrorsToIpv6.{error_refusal, error_without_checksum, translated_error, with_new_checksum}
+use Rattle.ip_translation.specs.HeadersToIpv6.{header_refusal, header_with, new_pseudo_header, old_pseudo_header, protocol, time_to_live, total_len, translated_header}
 use Rattle.ip_translation.specs.declared.packet_translation_error.PacketTranslationError.{PacketTranslationError}
-use Rattle.ip_translation.specs.declared.packet_translation_error.PacketTranslationError.TheVariants.{CutOff, Header, NoIpv4Header, Space, TransportHeader, UdpLength}
+use Rattle.ip_translation.specs.declared.packet_translation_error.PacketTranslationError.TheVariants.{CutOff, Header, NoIpv4Header, Space, UdpLength}
 use Rattle.ip_translation.specs.declared.prefixes.Prefixes.{Prefixes}
-
--- ---- the parts of a packet
-
--- the bytes begin with a whole IPv4 header, which states a length of at least 20 bytes (RFC 791, section 3.1)
-abbrev pub begins_with_header : List ℕ → Bool
-begins_with_header packet =
-    nat_le 20 (length packet)
-    && (version packet == 4
-    && (nat_le 20 (ipv4_header_len packet)
-    && nat_le (ipv4_header_len packet) (length packet)))
-
--- the message: the bytes after the header, up to the total length; all later bytes are padding
-abbrev pub message_after : List ℕ → List ℕ → List ℕ
-message_after header packet = slice_range packet (ipv4_header_len header) (total_len header)
-
--- the message of a packet that begins with an IPv4 header
-abbrev pub message_of : List ℕ → List ℕ
-message_of packet = message_after (ipv4_header packet) packet
-
--- the length field of a UDP packet (RFC 768)
-abbrev pub udp_length : List ℕ → ℕ
-udp_length packet = be_number packet 4 2
-
--- the checksum field of a UDP packet (RFC 768)
-abbrev pub udp_checksum : List ℕ → ℕ
-udp_checksum packet = be_number packet udp_checksum_place 2
-
--- the checksum field of a TCP segment (RFC 9293, section 3.1)
-abbrev pub tcp_checksum : List ℕ → ℕ
-tcp_checksum segment = be_number segment tcp_checksum_place 2
+pub use Rattle.ip_translation.specs.Ipv4Packets.{added_addresses, begins_with_header, header_len_refusal, message_after, message_of, removed_addresses, tcp_checksum, udp_checksum, udp_length}
 
 -- ---- errors
 
 -- the error of a packet if its total length counts more than these `len` bytes
 abbrev pub cut_off_refusal : List ℕ → ℕ → Option PacketTranslationError
 cut_off_refusal header len = refused_if (nat_lt len (total_len header)) (CutOff (total_len header) len)
-
--- the error of a message that is shorter than its transport header
-abbrev pub header_len_refusal : ℕ → List ℕ → Option PacketTranslationError
-header_len_refusal required_len message = refused_if (nat_lt (length message) required_len) (TransportHeader required_len (length message))
 
 -- The UDP packet has no checksum, and the checksum can't be computed. The length field is below 8, or above the length of the message.
 abbrev pub has_no_sum : List ℕ → Bool
@@ -73,25 +38,46 @@ pub record IsWholeUdp (packet : List ℕ) : Type 0 where
   pub there : 8 ≤ length packet
   pub counted : udp_checksum packet ≡ 0 → 8 ≤ udp_length packet
 
--- the error of a message of this protocol, if the message has no translation
+-- this is an ICMP message that is no echo message; it is translated as an error, or refused
+abbrev pub is_icmp_error : ℕ → List ℕ → Bool
+is_icmp_error protocol message =
+    protocol == icmpv4_number && (nat_le 8 (length message) && is_none (type_over_ipv6 (slice_index message 0)))
+
+-- the error of a message of this protocol that is no ICMP error, if the message has no translation
 abbrev pub message_refusal : ℕ → List ℕ → Option PacketTranslationError
 message_refusal protocol message =
-    if protocol == icmpv4_number then echo_refusal type_over_ipv6 message
+    if protocol == icmpv4_number then header_len_refusal 8 message
     else if protocol == udp_number then udp_refusal message
     else if protocol == tcp_number then header_len_refusal 20 message
     else None
 
--- the error of a buffer of `room` bytes that is shorter than the translated packet
-abbrev pub space_refusal : List ℕ → ℕ → Option PacketTranslationError
-space_refusal message room = refused_if (nat_lt room (40 + length message)) (Space (40 + length message) room)
+-- the error of a buffer of `room` bytes that is shorter than a packet with a translated message of `len` bytes
+abbrev pub space_refusal : ℕ → ℕ → Option PacketTranslationError
+space_refusal len room = refused_if (nat_lt room (40 + len)) (Space (40 + len) room)
+
+-- the first error of an ICMP error; `room` is the length of the buffer
+abbrev pub error_packet_refusal : Prefixes → List ℕ → ℕ → Option PacketTranslationError
+error_packet_refusal prefixes message room = first_of (
+    error_refusal prefixes message
+    ∷ space_refusal (length (error_without_checksum prefixes message)) room
+    ∷ [])
+
+-- the first error of a message of this protocol that is no ICMP error; `room` is the length of the buffer
+abbrev pub other_refusal : ℕ → List ℕ → ℕ → Option PacketTranslationError
+other_refusal protocol message room = first_of (message_refusal protocol message ∷ space_refusal (length message) room ∷ [])
+
+-- the first error of a message of this protocol
+abbrev pub refusal_of : ℕ → Prefixes → List ℕ → ℕ → Option PacketTranslationError
+refusal_of protocol prefixes message room =
+    if is_icmp_error protocol message then error_packet_refusal prefixes message room
+    else other_refusal protocol message room
 
 -- the first error of a packet with this header; `room` is the length of the buffer
 abbrev pub refusal_after : List ℕ → Prefixes → List ℕ → ℕ → Option PacketTranslationError
 refusal_after header prefixes packet room = first_of (
     option_map Header (header_refusal prefixes header)
     ∷ cut_off_refusal header (length packet)
-    ∷ message_refusal (protocol header) (message_after header packet)
-    ∷ space_refusal (message_after header packet) room
+    ∷ refusal_of (protocol header) prefixes (message_after header packet) room
     ∷ [])
 
 -- the first error of a packet, which must begin with an IPv4 header; `room` is the length of the buffer
@@ -102,15 +88,6 @@ packet_refusal prefixes packet room = first_of (
     ∷ [])
 
 -- ---- the translated message
-
--- the one's complement sum of the two IPv4 addresses, which the translation removes from the pseudo header
-abbrev pub removed_addresses : List ℕ → ℕ
-removed_addresses header = folded (total (source header) + total (destination header))
-
--- the one's complement sum of the two IPv6 addresses, which the translation adds to the pseudo header
-abbrev pub added_addresses : Prefixes → List ℕ → ℕ
-added_addresses prefixes header =
-    folded (total (embedded prefixes.source (source header)) + total (embedded prefixes.destination (destination header)))
 
 -- The checksum of a UDP packet, updated for the new addresses. If the packet has no checksum, the checksum is computed (RFC 7915, section
 -- 4.5). Then it covers the pseudo header and the bytes that the length field counts.
@@ -139,9 +116,9 @@ translated_icmp prefixes header message =
     translated_echo (unwrap_or (type_over_ipv6 (slice_index message 0)) (slice_index message 0)) []
     (new_pseudo_header prefixes header icmpv6_number (length message)) message
 
--- the translated message; a message of a protocol other than ICMP, UDP and TCP is unchanged
-abbrev pub translated_message : Prefixes → List ℕ → List ℕ → List ℕ
-translated_message prefixes header message =
+-- the translation of a message that is no ICMP error; its length stays, and a message of a protocol other than ICMP, UDP and TCP is unchanged
+abbrev pub updated_message : Prefixes → List ℕ → List ℕ → List ℕ
+updated_message prefixes header message =
     if protocol header == icmpv4_number then translated_icmp prefixes header message
     else if protocol header == udp_number then translated_udp prefixes header message
     else if protocol header == tcp_number then translated_tcp prefixes header message
@@ -149,14 +126,26 @@ translated_message prefixes header message =
 
 -- ---- the translated packet
 
--- the translation of a packet with this IPv4 header
-abbrev pub translated_after : List ℕ → Prefixes → List ℕ → List ℕ
-translated_after header prefixes packet =
-    translated_header prefixes header ++ translated_message prefixes header (message_after header packet)
+-- the IPv6 packet with the error; its payload length counts the translated error
+abbrev pub error_packet : List ℕ → Prefixes → List ℕ → List ℕ
+error_packet header prefixes message =
+    header_with prefixes (length (error_without_checksum prefixes message)) (time_to_live header - 1) header
+    ++ translated_error prefixes header message
+
+-- the translation of a packet with this IPv4 header and this message
+abbrev pub translation_of : List ℕ → Prefixes → List ℕ → List ℕ
+translation_of header prefixes message =
+    if is_icmp_error (protocol header) message then error_packet header prefixes message
+    else translated_header prefixes header ++ updated_message prefixes header message
+
+-- the length of the translated packet
+abbrev pub translated_len : List ℕ → Prefixes → List ℕ → ℕ
+translated_len header prefixes message =
+    40 + (if is_icmp_error (protocol header) message then length (error_without_checksum prefixes message) else length message)
 
 -- the translation of a packet that begins with an IPv4 header
 abbrev pub translated_packet : Prefixes → List ℕ → List ℕ
-translated_packet prefixes packet = translated_after (ipv4_header packet) prefixes packet
+translated_packet prefixes packet = translation_of (ipv4_header packet) prefixes (message_of packet)
 
 -- ---- a receiver's check
 
@@ -166,6 +155,16 @@ translated_packet prefixes packet = translated_after (ipv4_header packet) prefix
 abbrev pub VerifiesAlike : ℕ → (ℕ → List ℕ) → (ℕ → List ℕ) → List ℕ → List ℕ → Type 0
 VerifiesAlike least old new message translated = (len count : ℕ) (missing : List ℕ) → len ≤ max_len_over_ipv4 → least ≤ count
     → (Verifies (new len) (take count translated ++ missing)) ↔ (Verifies (old len) (take count message ++ missing))
+
+-- a receiver accepts this error with its new checksum exactly if it accepts the ICMP message
+abbrev pub IsChecksumAlike : Prefixes → List ℕ → List ℕ → List ℕ → Type 0
+IsChecksumAlike prefixes header message error =
+    (Verifies (new_pseudo_header prefixes header icmpv6_number (length error)) (with_new_checksum prefixes header message error))
+    ↔ (Verifies [] message)
+
+-- a receiver accepts the ICMPv6 error exactly if it accepts the ICMP error
+abbrev pub IsErrorAcceptedAlike : Prefixes → List ℕ → List ℕ → Type 0
+IsErrorAcceptedAlike prefixes header message = IsChecksumAlike prefixes header message (error_without_checksum prefixes message)
 
 -- A receiver accepts the translated message exactly if it accepts the original message. This holds for a UDP packet with a checksum, for a
 -- TCP segment, and for an echo message that does not consist of zeros. If a UDP packet had no checksum, a receiver accepts the translated
@@ -179,3 +178,10 @@ pub record IsAcceptedAlike (prefixes : Prefixes) (header message translated : Li
       → VerifiesAlike 18 (old_pseudo_header header tcp_number) (new_pseudo_header prefixes header tcp_number) message translated
   pub echo : protocol header ≡ icmpv4_number → total message ≢ 0
       → (Verifies (new_pseudo_header prefixes header icmpv6_number (length message)) translated) ↔ (Verifies [] message)
+
+-- A receiver accepts the message of the translated packet exactly if it accepts the message of the packet. `IsAcceptedAlike` states the
+-- exceptions.
+pub record AreAcceptedAlike (prefixes : Prefixes) (header message : List ℕ) : Type 0 where
+  pub error : is_icmp_error (protocol header) message ≡ true → IsErrorAcceptedAlike prefixes header message
+  pub other : is_icmp_error (protocol header) message ≡ false
+      → IsAcceptedAlike prefixes header message (updated_message prefixes header message)

@@ -6,16 +6,12 @@ ghost use Rattle.word_sum.specs.Checksum.{Verifies, total};
 ghost use Rattle.ip_translation.specs.EchoMessages as specs;
 
 use crate::PacketTranslationError;
-use crate::message_translation::{check_header_len, number, store_checksum};
+use crate::message_translation::{
+    ICMP_CHECKSUM_AT, ICMP_LEN, check_header_len, number, store_checksum,
+};
 use arrayvec::ArrayVec;
 use net_base::ip_number;
 use word_sum::checksum_change::ChecksumChange;
-
-/// The length of the header of an echo message, in bytes (RFC 792; RFC 4443, section 4).
-const ECHO_LEN: usize = 8;
-
-/// The place of the checksum in an ICMP message, in bytes (RFC 792; RFC 4443, section 2.1).
-const ICMP_CHECKSUM_AT: usize = 2;
 
 /// The type of an echo request over IPv4 (RFC 792).
 const ECHO_REQUEST: u8 = 8;
@@ -29,15 +25,18 @@ const IPV6_ECHO_REQUEST: u8 = 128;
 /// The type of an echo reply over IPv6 (RFC 4443, section 4.2).
 const IPV6_ECHO_REPLY: u8 = 129;
 
-/// Refuses an ICMP message that is shorter than an echo header, or is not an echo message.
-pub(crate) fn check_echo(message: &[u8]) -> Result<(), PacketTranslationError>
-    ensures refused { RefusesExactly result (specs.echo_refusal specs.type_over_ipv6 message.now) }
+/// Refuses a quoted ICMP message that is shorter than an echo header, or is not an echo message.
+pub(crate) fn check_quoted_echo(message: &[u8]) -> Result<(), PacketTranslationError>
+    ensures refused { RefusesExactly result (specs.quoted_echo_refusal specs.type_over_ipv6 message.now) }
     ensures there { IfOk result (λ _. 8 ≤ length message.now) }
 {
-    check_header_len(message, ECHO_LEN)?;
+    check_header_len(message, ICMP_LEN)?;
     match type_over_ipv6(message[0]) {
         Some(_) => Ok(()),
-        None => Err(PacketTranslationError::IcmpType(message[0])),
+        None => Err(PacketTranslationError::QuotedIcmp {
+            type_u8: message[0],
+            code_u8: message[1],
+        }),
     }
 }
 
@@ -57,10 +56,13 @@ pub(crate) fn check_ipv6_echo(message: &[u8]) -> Result<(), PacketTranslationErr
     ensures refused { RefusesExactly result (specs.echo_refusal specs.type_over_ipv4 message.now) }
     ensures there { IfOk result (λ _. 8 ≤ length message.now) }
 {
-    check_header_len(message, ECHO_LEN)?;
+    check_header_len(message, ICMP_LEN)?;
     match type_over_ipv4(message[0]) {
         Some(_) => Ok(()),
-        None => Err(PacketTranslationError::IcmpType(message[0])),
+        None => Err(PacketTranslationError::IcmpMessage {
+            type_u8: message[0],
+            code_u8: message[1],
+        }),
     }
 }
 

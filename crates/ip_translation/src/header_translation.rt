@@ -45,24 +45,9 @@ pub fn header_to_ipv6(
     ensures total_len { IfOk result (λ _. ipv4_header_len header.now ≤ specs.total_len header.now) }
 {
     let payload_len = check_header(header)?;
-    let source = match prefixes.source.to_ipv6(header.source()) {
-        Ok(source) => source,
-        Err(error) => return Err(TranslationError::Source(error)),
-    };
-    let destination = match prefixes.destination.to_ipv6(header.destination()) {
-        Ok(destination) => destination,
-        Err(error) => return Err(TranslationError::Destination(error)),
-    };
-    let service = byte_at(header.slice(), TYPE_OF_SERVICE_AT);
-    let next_header = next_header(header.protocol());
+    check_embedding(header, prefixes)?;
     let hop_limit = header.ttl().saturating_sub(1);
-    Ok(ipv6_header(
-        service,
-        payload_len,
-        [next_header.0, hop_limit],
-        source,
-        destination,
-    ))
+    Ok(header_with(header, prefixes, payload_len, hop_limit))
 }
 
 /// The change of the pseudo header of UDP and TCP (RFC 7915, section 4.5): the IPv6 addresses replace the IPv4 addresses. The rest of the
@@ -106,7 +91,7 @@ fn byte_at(bytes: &[u8], place: usize) -> u8
 /// Checks the fields of a header, and returns the length of the payload. It does not check whether the prefixes may embed the addresses.
 fn check_header(header: &Ipv4HeaderSlice<'_>) -> Result<u16, TranslationError>
     ensures refused { RefusesExactly result (specs.field_refusal header.now) }
-    ensures payload_len { IfOk result (λ len. len ≡ specs.total_len header.now - ipv4_header_len header.now) }
+    ensures payload_len { IfOk result (λ len. len ≡ specs.payload_len header.now) }
     ensures total_len { IfOk result (λ _. ipv4_header_len header.now ≤ specs.total_len header.now) }
 {
     let total_len = header.total_len();
@@ -131,6 +116,81 @@ fn check_header(header: &Ipv4HeaderSlice<'_>) -> Result<u16, TranslationError>
     }
     check_addresses(header)?;
     Ok(total_len - header_len)
+}
+
+/// Translates the header of a packet that an ICMP error quotes. The hop limit is the time to live, and it is not lowered.
+pub(crate) fn quoted_header_to_ipv6(
+    header: &Ipv4HeaderSlice<'_>,
+    prefixes: &Prefixes,
+) -> Result<ArrayVec<u8, 40>, TranslationError>
+    ensures refused { RefusesExactly result (specs.quoted_header_refusal prefixes.now header.now) }
+    ensures written { IfOk result (λ translated. translated.items ≡ specs.quoted_header prefixes.now header.now) }
+    ensures len { IfOk result (λ translated. length translated.items ≡ 40) }
+    ensures total_len { IfOk result (λ _. ipv4_header_len header.now ≤ specs.total_len header.now) }
+{
+    let payload_len = check_quoted_header(header)?;
+    check_embedding(header, prefixes)?;
+    Ok(header_with(header, prefixes, payload_len, header.ttl()))
+}
+
+/// Checks the fields of the header of a quoted packet, and returns the length of the payload.
+fn check_quoted_header(header: &Ipv4HeaderSlice<'_>) -> Result<u16, TranslationError>
+    ensures refused { RefusesExactly result (specs.quoted_field_refusal header.now) }
+    ensures payload_len { IfOk result (λ len. len ≡ specs.payload_len header.now) }
+    ensures total_len { IfOk result (λ _. ipv4_header_len header.now ≤ specs.total_len header.now) }
+{
+    let total_len = header.total_len();
+    let header_len = u16::from(header.ihl()) * 4;
+    if total_len < header_len {
+        return Err(TranslationError::TotalLength {
+            total_len,
+            header_len,
+        });
+    }
+    if header.is_fragmenting_payload() {
+        return Err(TranslationError::Fragment);
+    }
+    check_addresses(header)?;
+    Ok(total_len - header_len)
+}
+
+/// Refuses a header if one of its addresses has no translation.
+fn check_embedding(
+    header: &Ipv4HeaderSlice<'_>,
+    prefixes: &Prefixes,
+) -> Result<(), TranslationError>
+    ensures refused { RefusesExactly result (specs.embedding_refusal prefixes.now header.now) }
+{
+    if let Err(error) = prefixes.source.to_ipv6(header.source()) {
+        return Err(TranslationError::Source(error));
+    }
+    if let Err(error) = prefixes.destination.to_ipv6(header.destination()) {
+        return Err(TranslationError::Destination(error));
+    }
+    Ok(())
+}
+
+/// The IPv6 header for this IPv4 header, with this payload length and this hop limit. The prefixes embed the addresses.
+pub(crate) fn header_with(
+    header: &Ipv4HeaderSlice<'_>,
+    prefixes: &Prefixes,
+    payload_len: u16,
+    hop_limit: u8,
+) -> ArrayVec<u8, 40>
+    ensures written { result.items ≡ specs.header_with prefixes.now payload_len hop_limit header.now }
+    ensures len { length result.items ≡ 40 }
+{
+    let service = byte_at(header.slice(), TYPE_OF_SERVICE_AT);
+    let next_header = next_header(header.protocol());
+    let source = prefixes.source.embed(header.source());
+    let destination = prefixes.destination.embed(header.destination());
+    ipv6_header(
+        service,
+        payload_len,
+        [next_header.0, hop_limit],
+        source,
+        destination,
+    )
 }
 
 /// Refuses a header if one of its addresses is not the address of a host.

@@ -11,7 +11,9 @@
 #![tactic(auto)]
 
 mod address_error;
+mod changed_message;
 mod echo_translation;
+mod error_to_ipv6;
 mod header_translation;
 mod icmp_errors;
 mod ipv4_header_translation;
@@ -24,6 +26,7 @@ mod packet_translation_error;
 mod prefix64;
 mod prefix64_error;
 mod prefixes;
+mod quoted_packet;
 mod translation_error;
 mod updated_message;
 

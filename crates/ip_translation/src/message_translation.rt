@@ -1,14 +1,15 @@
-ghost use Rattle.std.specs.Prelude.{◌≡◌, ◌≢◌, ◌≤◌, ◌+◌, ◌↔◌, [], ℕ, IfOk, length, take};
+ghost use Rattle.std.specs.Prelude.{◌≡◌, ◌≢◌, ◌≤◌, ◌+◌, ◌↔◌, [], ℕ, IfOk, length, nat_lt, take};
 ghost use Rattle.net_base.specs.Bytes.{be_number};
 ghost use Rattle.net_base.specs.IpNumbers.{icmpv4_number, icmpv6_number, tcp_number, udp_number};
 ghost use Rattle.net_base.specs.PseudoHeader.{max_len_over_ipv4};
-ghost use Rattle.net_base.specs.Refusals.{RefusesExactly};
+ghost use Rattle.net_base.specs.Refusals.{RefusesExactly, refused_if};
 ghost use Rattle.net_base.specs.StoredChecksum.{with_checksum};
 ghost use Rattle.word_sum.specs.Checksum.{IsAllOnes, Verifies, total, udp_checksum_of};
 ghost use Rattle.ip_translation.specs.HeadersToIpv6 as headers;
 ghost use Rattle.ip_translation.specs.PacketsToIpv6 as specs;
+ghost use Rattle.ip_translation.specs.declared.packet_translation_error.PacketTranslationError.TheVariants.{Space};
 
-use crate::echo_translation::{check_echo, icmpv6_pseudo_header, type_over_ipv6, write_echo};
+use crate::echo_translation::{icmpv6_pseudo_header, type_over_ipv6, write_echo};
 use crate::{PacketTranslationError, Prefixes, pseudo_header_change};
 use net_base::{IpNumber, Ipv4HeaderSlice, ip_number, pseudo_header_ipv6};
 
@@ -24,10 +25,16 @@ pub(crate) const UDP_CHECKSUM_AT: usize = 6;
 /// The length of a TCP header without options, in bytes (RFC 9293, section 3.1).
 pub(crate) const TCP_LEN: usize = 20;
 
+/// The length of the header of an ICMP message, in bytes (RFC 792; RFC 4443, section 2.1, with the word that follows).
+pub(crate) const ICMP_LEN: usize = 8;
+
+/// The place of the checksum in an ICMP message, in bytes (RFC 792; RFC 4443, section 2.1).
+pub(crate) const ICMP_CHECKSUM_AT: usize = 2;
+
 /// The place of the checksum in a TCP header, in bytes.
 pub(crate) const TCP_CHECKSUM_AT: usize = 16;
 
-/// Refuses a message of this protocol if the message has no translation.
+/// Refuses a message of this protocol if the message has no translation. The message is no ICMP error.
 pub(crate) fn check_message(
     protocol: IpNumber,
     message: &[u8],
@@ -38,7 +45,7 @@ pub(crate) fn check_message(
     ensures icmp { IfOk result (λ _. protocol.0 ≡ icmpv4_number → 8 ≤ length message.now) }
 {
     if protocol.0 == ip_number::ICMP.0 {
-        return check_echo(message);
+        return check_header_len(message, ICMP_LEN);
     }
     if protocol.0 == ip_number::UDP.0 {
         return check_udp(message);
@@ -83,8 +90,22 @@ pub(crate) fn check_header_len(
     Ok(())
 }
 
-/// Writes the translation of a message. In UDP and TCP only the checksum changes. An ICMP echo message becomes an ICMPv6 echo message. A
-/// message of any other protocol is unchanged.
+/// Refuses a buffer of `room` bytes if it is shorter than the translated packet of `len` bytes.
+pub(crate) fn check_space(len: usize, room: usize) -> Result<(), PacketTranslationError>
+    ensures refused { RefusesExactly result (refused_if (nat_lt room len) (Space len room)) }
+    ensures room { IfOk result (λ _. len ≤ room) }
+{
+    if room < len {
+        return Err(PacketTranslationError::Space {
+            required_len: len,
+            len: room,
+        });
+    }
+    Ok(())
+}
+
+/// Writes the translation of a message that is no ICMP error. In UDP and TCP only the checksum changes. An ICMP echo message becomes an ICMPv6
+/// echo message. A message of any other protocol is unchanged.
 pub(crate) fn write_message(
     translated: &mut [u8],
     message: &[u8],
@@ -96,7 +117,7 @@ pub(crate) fn write_message(
     requires tcp { headers.protocol header.now ≡ tcp_number → 20 ≤ length message.now }
     requires icmp { headers.protocol header.now ≡ icmpv4_number → 8 ≤ length message.now }
     requires counted { length message.now ≤ max_len_over_ipv4 }
-    ensures written { translated.new ≡ specs.translated_message prefixes.now header.now message.now }
+    ensures written { translated.new ≡ specs.updated_message prefixes.now header.now message.now }
     ensures alike { specs.IsAcceptedAlike prefixes.now header.now message.now translated.new }
 {
     if header.protocol().0 == ip_number::ICMP.0 {

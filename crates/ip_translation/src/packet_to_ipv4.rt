@@ -36,7 +36,7 @@ const IPV6_LEN: usize = 40;
 /// - `Header` if `header_to_ipv4` refuses the header.
 /// - `CutOff` if there are fewer bytes than the header and its payload length.
 /// - `TransportHeader` if a UDP packet or an ICMP message is shorter than 8 bytes, or a TCP segment is shorter than 20 bytes.
-/// - `IcmpType` if an ICMP message is neither an echo request nor an echo reply.
+/// - `IcmpMessage` if an ICMP message is neither an echo request nor an echo reply.
 /// - `NoUdpChecksum` if a UDP packet has no checksum.
 /// - `Space` if the buffer is shorter than the translated packet.
 pub fn ipv6_to_ipv4(

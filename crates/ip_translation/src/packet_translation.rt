@@ -1,18 +1,23 @@
-ghost use Rattle.std.specs.Prelude.{◌≡◌, ◌≤◌, ◌+◌, ◌++◌, IfErr, IfOk, MatchOption, drop, false, length, true};
+ghost use Rattle.std.specs.Prelude.{◌≡◌, ◌≤◌, ◌<◌, ◌+◌, ◌-◌, ◌++◌, IfErr, IfOk, MatchOption, drop, false, length, slice_index, true};
 ghost use Rattle.std.specs.Option.{option_map};
 ghost use Rattle.ip_part.specs.Ip.{ipv4_header};
 ghost use Rattle.net_base.specs.IpHeaders.{ipv4_header_len};
 ghost use Rattle.net_base.specs.IpNumbers.{icmpv4_number, tcp_number, udp_number};
 ghost use Rattle.net_base.specs.PseudoHeader.{max_len_over_ipv4};
 ghost use Rattle.net_base.specs.Refusals.{RefusesExactly};
+ghost use Rattle.ip_translation.specs.ErrorsToIpv6 as errors;
 ghost use Rattle.ip_translation.specs.HeadersToIpv6 as headers;
 ghost use Rattle.ip_translation.specs.PacketsToIpv6 as specs;
 ghost use Rattle.ip_translation.specs.declared.packet_translation_error.PacketTranslationError.TheVariants.{Header};
 
-use crate::message_translation::{check_message, write_message};
+use crate::changed_message::store_changed_checksum;
+use crate::echo_translation::{icmpv6_pseudo_header, type_over_ipv6};
+use crate::error_to_ipv6::error_to_ipv6;
+use crate::header_translation::header_with;
+use crate::message_translation::{ICMP_LEN, check_message, check_space, write_message};
 use crate::{PacketTranslationError, Prefixes, header_to_ipv6};
 use arrayvec::ArrayVec;
-use net_base::Ipv4HeaderSlice;
+use net_base::{IpNumber, Ipv4HeaderSlice, ip_number};
 
 /// The length of an IPv6 header, in bytes (RFC 8200, section 3).
 const IPV6_LEN: usize = 40;
@@ -24,6 +29,10 @@ const IPV6_LEN: usize = 40;
 /// addresses. If a UDP packet has no checksum, the checksum is computed (section 4.5). An ICMP echo message becomes an ICMPv6 echo message
 /// (section 4.2). A message of any other protocol is unchanged.
 ///
+/// An ICMP error becomes the ICMPv6 error that `icmpv6_error` names, with the pointer of `icmpv6_pointer` or the MTU of `icmpv6_mtu`
+/// (section 4.2). The packet that it quotes is translated with the exchanged prefixes, and keeps its time to live (section 4.3). Its checksum
+/// is updated if the quote contains it. The quote is cut so that the IPv6 packet has at most 1280 bytes.
+///
 /// # Errors
 ///
 /// After an error the buffer is unchanged. The call checks these cases, in this order:
@@ -31,7 +40,13 @@ const IPV6_LEN: usize = 40;
 /// - `Header` if `header_to_ipv6` refuses the header.
 /// - `CutOff` if there are fewer bytes than the total length.
 /// - `TransportHeader` if a UDP packet or an ICMP message is shorter than 8 bytes, or a TCP segment is shorter than 20 bytes.
-/// - `IcmpType` if an ICMP message is neither an echo request nor an echo reply.
+/// - `IcmpMessage` if an ICMP message is not an echo message, and `icmpv6_error` returns `None`.
+/// - `IcmpExtension` if an ICMP error has an extension (RFC 4884): byte 5 of the message is not 0.
+/// - `NoQuotedHeader` if the packet that an ICMP error quotes does not begin with a whole IPv4 header.
+/// - `QuotedHeader` if the quoted header has no translation. The call checks its total length, whether it is a fragment, and the addresses, as
+///   `header_to_ipv6` does.
+/// - `TransportHeader` or `QuotedIcmp` if the quoted message of ICMP, UDP or TCP is shorter than 8 bytes, or is no echo message of ICMP.
+/// - `IcmpPointer` if a parameter problem has a pointer for which `icmpv6_pointer` returns `None`.
 /// - `UdpLength` if a UDP packet has no checksum, and its length field is below 8 or above the length of the message.
 /// - `Space` if the buffer is shorter than the translated packet.
 pub fn ipv4_to_ipv6(
@@ -40,13 +55,12 @@ pub fn ipv4_to_ipv6(
     buffer: &mut [u8],
 ) -> Result<usize, PacketTranslationError>
     ensures refused { RefusesExactly result (specs.packet_refusal prefixes.now packet.now (length buffer.old)) }
-    ensures len { IfOk result (λ len. len ≡ 40 + length (specs.message_of packet.now)) }
+    ensures len { IfOk result (λ len. len ≡ specs.translated_len (ipv4_header packet.now) prefixes.now (specs.message_of packet.now)) }
     ensures written { IfOk result (λ len. buffer.new ≡ specs.translated_packet prefixes.now packet.now ++ drop len buffer.old) }
     ensures unchanged { IfErr result (λ _. buffer.new ≡ buffer.old) }
     // A receiver accepts the message of the translated packet exactly if it accepts the message of the original packet. `IsAcceptedAlike`
     // states the exceptions.
-    ensures alike { IfOk result (λ _. specs.IsAcceptedAlike prefixes.now (ipv4_header packet.now) (specs.message_of packet.now)
-        (specs.translated_message prefixes.now (ipv4_header packet.now) (specs.message_of packet.now))) }
+    ensures alike { IfOk result (λ _. specs.AreAcceptedAlike prefixes.now (ipv4_header packet.now) (specs.message_of packet.now)) }
 {
     let Some(header) = front_header(packet) else {
         return Err(PacketTranslationError::NoIpv4Header);
@@ -55,7 +69,7 @@ pub fn ipv4_to_ipv6(
 }
 
 /// The IPv4 header at the front of a packet.
-fn front_header<'a>(packet: &'a [u8]) -> Option<Ipv4HeaderSlice<'a>>
+pub(crate) fn front_header<'a>(packet: &'a [u8]) -> Option<Ipv4HeaderSlice<'a>>
     ensures found { MatchOption result (specs.begins_with_header packet.now ≡ false)
         (λ header. (specs.begins_with_header packet.now ≡ true) × (header ≡ ipv4_header packet.now)) }
 {
@@ -70,24 +84,120 @@ fn translate_after(
     buffer: &mut [u8],
 ) -> Result<usize, PacketTranslationError>
     ensures refused { RefusesExactly result (specs.refusal_after header.now prefixes.now packet.now (length buffer.old)) }
-    ensures len { IfOk result (λ len. len ≡ 40 + length (specs.message_after header.now packet.now)) }
-    ensures written { IfOk result (λ len. buffer.new ≡ specs.translated_after header.now prefixes.now packet.now ++ drop len buffer.old) }
+    ensures len { IfOk result (λ len. len ≡ specs.translated_len header.now prefixes.now (specs.message_after header.now packet.now)) }
+    ensures written { IfOk result (λ len. buffer.new
+        ≡ specs.translation_of header.now prefixes.now (specs.message_after header.now packet.now) ++ drop len buffer.old) }
     ensures unchanged { IfErr result (λ _. buffer.new ≡ buffer.old) }
-    ensures alike { IfOk result (λ _. specs.IsAcceptedAlike prefixes.now header.now (specs.message_after header.now packet.now)
-        (specs.translated_message prefixes.now header.now (specs.message_after header.now packet.now))) }
+    ensures alike { IfOk result (λ _. specs.AreAcceptedAlike prefixes.now header.now (specs.message_after header.now packet.now)) }
 {
     let ipv6_header = translated_header(header, prefixes)?;
     let message = message_after(header, packet)?;
+    if is_icmp_error(header.protocol(), message) {
+        return translate_error(message, header, prefixes, buffer);
+    }
+    translate_message(ipv6_header.as_slice(), message, header, prefixes, buffer)
+}
+
+/// Translates a packet with this header and this message, which is no ICMP error. `ipv6_header` is the translated header.
+fn translate_message(
+    ipv6_header: &[u8],
+    message: &[u8],
+    header: &Ipv4HeaderSlice<'_>,
+    prefixes: &Prefixes,
+    buffer: &mut [u8],
+) -> Result<usize, PacketTranslationError>
+    requires len { length ipv6_header.now ≡ 40 }
+    requires counted { length message.now ≤ max_len_over_ipv4 }
+    ensures refused { RefusesExactly result (specs.other_refusal (headers.protocol header.now) message.now (length buffer.old)) }
+    ensures len { IfOk result (λ len. len ≡ 40 + length message.now) }
+    ensures written { IfOk result (λ len. buffer.new
+        ≡ (ipv6_header.now ++ specs.updated_message prefixes.now header.now message.now) ++ drop len buffer.old) }
+    ensures unchanged { IfErr result (λ _. buffer.new ≡ buffer.old) }
+    ensures alike { IfOk result (λ _. specs.IsAcceptedAlike prefixes.now header.now message.now
+        (specs.updated_message prefixes.now header.now message.now)) }
+{
     check_message(header.protocol(), message)?;
     let len = IPV6_LEN + message.len();
-    if buffer.len() < len {
-        return Err(PacketTranslationError::Space {
-            required_len: len,
-            len: buffer.len(),
-        });
-    }
-    write_parts(buffer, ipv6_header.as_slice(), message, header, prefixes);
+    check_space(len, buffer.len())?;
+    write_parts(buffer, ipv6_header, message, header, prefixes);
     Ok(len)
+}
+
+/// Whether a message of this protocol is an ICMP message, but no echo message.
+fn is_icmp_error(protocol: IpNumber, message: &[u8]) -> bool
+    ensures { result ≡ specs.is_icmp_error protocol.0 message.now }
+{
+    protocol.0 == ip_number::ICMP.0
+        && ICMP_LEN <= message.len()
+        && type_over_ipv6(message[0]).is_none()
+}
+
+/// Translates a packet with this header and this ICMP error.
+fn translate_error(
+    message: &[u8],
+    header: &Ipv4HeaderSlice<'_>,
+    prefixes: &Prefixes,
+    buffer: &mut [u8],
+) -> Result<usize, PacketTranslationError>
+    requires there { 8 ≤ length message.now }
+    requires some { 0 < slice_index message.now 0 }
+    ensures refused { RefusesExactly result (specs.error_packet_refusal prefixes.now message.now (length buffer.old)) }
+    ensures len { IfOk result (λ len. len ≡ 40 + length (errors.error_without_checksum prefixes.now message.now)) }
+    ensures written { IfOk result (λ len. buffer.new ≡ specs.error_packet header.now prefixes.now message.now ++ drop len buffer.old) }
+    ensures unchanged { IfErr result (λ _. buffer.new ≡ buffer.old) }
+    ensures alike { IfOk result (λ _. specs.IsErrorAcceptedAlike prefixes.now header.now message.now) }
+{
+    let error = error_to_ipv6(message, prefixes)?;
+    let len = IPV6_LEN + error.len();
+    check_space(len, buffer.len())?;
+    write_error_parts(buffer, error.as_slice(), message, header, prefixes);
+    Ok(len)
+}
+
+/// Writes an IPv6 header and an ICMPv6 error with its checksum to the front of the buffer. `error` is this error with 0 instead of its
+/// checksum.
+fn write_error_parts(
+    buffer: &mut [u8],
+    error: &[u8],
+    message: &[u8],
+    header: &Ipv4HeaderSlice<'_>,
+    prefixes: &Prefixes,
+)
+    requires room { 40 + length error.now ≤ length buffer.old }
+    requires there { 8 ≤ length message.now }
+    requires some { 0 < slice_index message.now 0 }
+    requires error_there { (48 ≤ length error.now) × (length error.now ≤ 1240) }
+    ensures written { buffer.new ≡ (headers.header_with prefixes.now (length error.now) (headers.time_to_live header.now - 1) header.now
+        ++ errors.with_new_checksum prefixes.now header.now message.now error.now) ++ drop (40 + length error.now) buffer.old }
+    ensures alike { specs.IsChecksumAlike prefixes.now header.now message.now error.now }
+{
+    let hop_limit = header.ttl().saturating_sub(1);
+    let ipv6_header = header_with(header, prefixes, error.len() as u16, hop_limit);
+    let (front, rest) = buffer.split_at_mut(IPV6_LEN);
+    front.copy_from_slice(ipv6_header.as_slice());
+    write_error(&mut rest[..error.len()], error, message, header, prefixes);
+}
+
+/// Writes an ICMPv6 error with its checksum. `error` is this error with 0 instead of its checksum.
+fn write_error(
+    translated: &mut [u8],
+    error: &[u8],
+    message: &[u8],
+    header: &Ipv4HeaderSlice<'_>,
+    prefixes: &Prefixes,
+)
+    requires room { length translated.old ≡ length error.now }
+    requires there { 8 ≤ length message.now }
+    requires some { 0 < slice_index message.now 0 }
+    requires error_there { (48 ≤ length error.now) × (length error.now ≤ 1240) }
+    ensures written { translated.new ≡ errors.with_new_checksum prefixes.now header.now message.now error.now }
+    ensures alike { specs.IsChecksumAlike prefixes.now header.now message.now error.now }
+{
+    let source = prefixes.source.embed(header.source());
+    let destination = prefixes.destination.embed(header.destination());
+    let new = icmpv6_pseudo_header(source, destination, error.len() as u32);
+    translated.copy_from_slice(error);
+    store_changed_checksum(translated, message, &[], new.as_slice());
 }
 
 /// The IPv6 header for this IPv4 header.
@@ -139,9 +249,9 @@ fn write_parts(
     requires tcp { headers.protocol header.now ≡ tcp_number → 20 ≤ length message.now }
     requires icmp { headers.protocol header.now ≡ icmpv4_number → 8 ≤ length message.now }
     requires counted { length message.now ≤ max_len_over_ipv4 }
-    ensures written { buffer.new ≡ (ipv6_header.now ++ specs.translated_message prefixes.now header.now message.now)
+    ensures written { buffer.new ≡ (ipv6_header.now ++ specs.updated_message prefixes.now header.now message.now)
         ++ drop (length ipv6_header.now + length message.now) buffer.old }
-    ensures alike { specs.IsAcceptedAlike prefixes.now header.now message.now (specs.translated_message prefixes.now header.now message.now) }
+    ensures alike { specs.IsAcceptedAlike prefixes.now header.now message.now (specs.updated_message prefixes.now header.now message.now) }
 {
     let (front, rest) = buffer.split_at_mut(ipv6_header.len());
     front.copy_from_slice(ipv6_header);

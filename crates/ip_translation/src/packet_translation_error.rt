@@ -24,9 +24,31 @@ pub enum PacketTranslationError {
         /// The number of bytes that the packet has.
         len: usize,
     },
-    /// The packet contains an ICMP message of this type. Only echo messages are translated.
-    IcmpType(u8),
-    /// The message ends within its transport header.
+    /// An ICMP message with this type and code is not translated. Echo messages are, and over IPv4 the errors for which `icmpv6_error` returns
+    /// a type and a code.
+    IcmpMessage {
+        /// The type of the message.
+        type_u8: u8,
+        /// The code of the message.
+        code_u8: u8,
+    },
+    /// An ICMP error contains an extension. This is its length field, which counts words of four bytes of the quoted packet (RFC 4884, section
+    /// 4).
+    IcmpExtension(u8),
+    /// The pointer of an ICMP parameter problem points to this byte of the IPv4 header, which has no place in an IPv6 header.
+    IcmpPointer(u32),
+    /// The packet that an ICMP error quotes does not begin with a whole IPv4 header.
+    NoQuotedHeader,
+    /// The IPv4 header of the packet that an ICMP error quotes has no translation.
+    QuotedHeader(TranslationError),
+    /// An ICMP error is about an ICMP message with this type and code, which is no echo message.
+    QuotedIcmp {
+        /// The type of the quoted message.
+        type_u8: u8,
+        /// The code of the quoted message.
+        code_u8: u8,
+    },
+    /// The message ends within its transport header, or a quoted message of UDP, TCP or ICMP is shorter than 8 bytes.
     TransportHeader {
         /// The length of the transport header without options, in bytes.
         required_len: usize,
@@ -74,11 +96,38 @@ impl PacketTranslationError {
                 Number(*len),
                 Words(" bytes."),
             ]),
-            PacketTranslationError::IcmpType(type_u8) => ErrorText::from_parts(&[
-                Words("Translation Error: an ICMP message of type "),
-                Number(usize::from(*type_u8)),
-                Words(" is not translated."),
+            PacketTranslationError::IcmpMessage { type_u8, code_u8 } => {
+                ErrorText::from_parts(&[
+                    Words("Translation Error: an ICMP message of type "),
+                    Number(usize::from(*type_u8)),
+                    Words(" and code "),
+                    Number(usize::from(*code_u8)),
+                    Words(" is not translated."),
+                ])
+            }
+            PacketTranslationError::IcmpExtension(length) => ErrorText::from_parts(&[
+                Words("Translation Error: an ICMP error with an extension, with length field "),
+                Number(usize::from(*length)),
+                Words(", is not translated."),
             ]),
+            PacketTranslationError::IcmpPointer(pointer) => ErrorText::from_parts(&[
+                Words("Translation Error: the pointer "),
+                Number(*pointer as usize),
+                Words(" has no translation."),
+            ]),
+            PacketTranslationError::NoQuotedHeader => ErrorText::from_words(
+                "Translation Error: an ICMP error does not quote an IP header.",
+            ),
+            PacketTranslationError::QuotedHeader(error) => error.text(),
+            PacketTranslationError::QuotedIcmp { type_u8, code_u8 } => {
+                ErrorText::from_parts(&[
+                    Words("Translation Error: an ICMP error quotes an ICMP message of type "),
+                    Number(usize::from(*type_u8)),
+                    Words(" and code "),
+                    Number(usize::from(*code_u8)),
+                    Words("."),
+                ])
+            }
             PacketTranslationError::TransportHeader { required_len, len } => {
                 ErrorText::from_parts(&[
                     Words("Translation Error: the transport header has "),

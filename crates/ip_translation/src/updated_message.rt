@@ -27,7 +27,7 @@ pub(crate) fn write_updated_udp(translated: &mut [u8], packet: &[u8], change: Ch
 /// Writes a TCP segment with its checksum updated for this change of the pseudo header.
 pub(crate) fn write_updated_tcp(translated: &mut [u8], segment: &[u8], change: ChecksumChange)
     requires room { length translated.old ≡ length segment.now }
-    requires there { 20 ≤ length segment.now }
+    requires there { 18 ≤ length segment.now }
     ensures written { translated.new
         ≡ with_checksum 16 segment.now (updated_checksum_of (specs.tcp_checksum segment.now) (removed_value change) (added_value change)) }
     // Assume that the change turns the old pseudo headers into the new ones. Then a receiver accepts the segment exactly if it accepted the

@@ -1,0 +1,142 @@
+-- ICMP errors as ICMPv6 errors, with the packet that they quote (RFC 7915, sections 4.2 and 4.3).
+use Rattle.std.specs.Prelude.{◌≡◌, ◌≤◌, ℕ, ◌==◌, not, nat_lt, if◌then◌else◌, List, [], ◌∷◌, drop, is_none, length, slice_index, take, Option, None}
+use Rattle.std.specs.Int.{to_be_bytes, w32}
+use Rattle.std.specs.Option.{option_map, unwrap_or}
+use Rattle.ip_part.specs.Ip.{ipv4_header}
+use Rattle.net_base.specs.Bytes.{be_number}
+use Rattle.net_base.specs.IpHeaders.{ipv4_header_len}
+use Rattle.net_base.specs.IpNumbers.{icmpv4_number, icmpv6_number, tcp_number, udp_number}
+use Rattle.net_base.specs.Refusals.{first_of, refused_if}
+use Rattle.net_base.specs.StoredChecksum.{icmp_checksum_place, tcp_checksum_place, udp_checksum_place, with_checksum}
+use Rattle.word_sum.specs.UpdatedChecksum.{updated_checksum_of, updated_udp_checksum_of}
+use Rattle.ip_translation.specs.EchoMessages.{changed_checksum, quoted_echo_refusal, translated_echo, type_over_ipv6}
+use Rattle.ip_translation.specs.HeadersToIpv6.{new_pseudo_header, payload_len, protocol, quoted_header, quoted_header_refusal, total_len}
+use Rattle.ip_translation.specs.IcmpErrors.{error_in, errors_to_ipv6, mtu_to_ipv6, pointer_in, pointers_to_ipv6}
+use Rattle.ip_translation.specs.Ipv4Packets.{added_addresses, begins_with_header, header_len_refusal, removed_addresses, tcp_checksum, udp_checksum}
+use Rattle.ip_translation.specs.QuotedPackets.{exchanged, joined, max_quoted_len, quote_of}
+use Rattle.ip_translation.specs.declared.packet_translation_error.PacketTranslationError.{PacketTranslationError}
+use Rattle.ip_translation.specs.declared.packet_translation_error.PacketTranslationError.TheVariants.{IcmpExtension, IcmpMessage, IcmpPointer, NoQuotedHeader, QuotedHeader}
+use Rattle.ip_translation.specs.declared.prefixes.Prefixes.{Prefixes}
+
+-- ---- type and code
+
+-- the error of a message that is not an error with a translation, or that has an extension: then byte 5 counts the words of the quoted
+-- packet (RFC 4884, section 4)
+abbrev pub kind_refusal : List ℕ → Option PacketTranslationError
+kind_refusal message = first_of (
+    refused_if (is_none (error_in (errors_to_ipv6 (slice_index message 1)) (slice_index message 0) (slice_index message 1)))
+    (IcmpMessage (slice_index message 0) (slice_index message 1))
+    ∷ refused_if (not (slice_index message 5 == 0)) (IcmpExtension (slice_index message 5))
+    ∷ [])
+
+-- the ICMPv6 type and code
+abbrev pub kind : List ℕ → ℕ × ℕ
+kind message =
+    unwrap_or (error_in (errors_to_ipv6 (slice_index message 1)) (slice_index message 0) (slice_index message 1))
+    (slice_index message 0, slice_index message 1)
+
+-- ---- the word after the checksum
+
+-- the error of a pointer to a field that has no place in an IPv6 header; only a parameter problem with code 0 contains a pointer
+abbrev pub pointer_refusal : ℕ × ℕ → List ℕ → Option PacketTranslationError
+pointer_refusal new_kind message =
+    if new_kind.0 == 4 then (if new_kind.1 == 0
+    then refused_if (is_none (pointer_in pointers_to_ipv6 (slice_index message 4))) (IcmpPointer (slice_index message 4))
+    else None)
+    else None
+
+-- The word after the checksum: the MTU of "packet too big", or the pointer of a parameter problem. The message "protocol unreachable" becomes
+-- a parameter problem with a pointer to the next header. `total_len` is the total length of the quoted packet.
+abbrev pub word : ℕ × ℕ → List ℕ → ℕ → ℕ
+word new_kind message total_len =
+    if new_kind.0 == 2 then mtu_to_ipv6 (be_number message 6 2) total_len
+    else if new_kind.0 == 4 then (if new_kind.1 == 0 then unwrap_or (pointer_in pointers_to_ipv6 (slice_index message 4)) 0 else 6)
+    else 0
+
+-- ---- the quoted packet
+
+-- the header of the quoted packet
+abbrev pub quoted_ipv4 : List ℕ → List ℕ
+quoted_ipv4 message = ipv4_header (quote_of message)
+
+-- the bytes of the quoted message: the bytes after this header of the quoted packet, up to its total length, as far as there is room for them
+abbrev pub quoted_message : List ℕ → List ℕ → List ℕ
+quoted_message quoted quote = take max_quoted_len (drop (ipv4_header_len quoted) (take (total_len quoted) quote))
+
+-- The error of a quoted message of this protocol. An ICMP error quotes at least eight bytes of a message (RFC 792), and it must not be about
+-- an ICMP error. So an ICMP message must be an echo message.
+abbrev pub quoted_message_refusal : ℕ → List ℕ → Option PacketTranslationError
+quoted_message_refusal protocol message =
+    if protocol == icmpv4_number then quoted_echo_refusal type_over_ipv6 message
+    else if protocol == udp_number then header_len_refusal 8 message
+    else if protocol == tcp_number then header_len_refusal 8 message
+    else None
+
+-- the quoted bytes contain the first eight bytes of a message of ICMP, UDP or TCP
+abbrev pub HasQuotedHeader : ℕ → List ℕ → Type 0
+HasQuotedHeader protocol message =
+    (protocol ≡ icmpv4_number → 8 ≤ length message) × ((protocol ≡ udp_number → 8 ≤ length message) × (protocol ≡ tcp_number → 8 ≤ length message))
+
+-- a quoted UDP packet; if it has no checksum, it stays without one, since bytes may be missing
+abbrev pub quoted_udp : Prefixes → List ℕ → List ℕ → List ℕ
+quoted_udp prefixes header packet = with_checksum udp_checksum_place packet
+    (updated_udp_checksum_of (udp_checksum packet) (removed_addresses header) (added_addresses prefixes header))
+
+-- a quoted TCP segment; often the quote ends before the checksum
+abbrev pub quoted_tcp : Prefixes → List ℕ → List ℕ → List ℕ
+quoted_tcp prefixes header segment =
+    if nat_lt (length segment) 18 then segment
+    else with_checksum tcp_checksum_place segment
+    (updated_checksum_of (tcp_checksum segment) (removed_addresses header) (added_addresses prefixes header))
+
+-- a quoted echo message; the length in its pseudo header counts also the bytes that are not quoted
+abbrev pub quoted_icmp : Prefixes → List ℕ → List ℕ → List ℕ
+quoted_icmp prefixes header message =
+    translated_echo (unwrap_or (type_over_ipv6 (slice_index message 0)) (slice_index message 0)) []
+    (new_pseudo_header prefixes header icmpv6_number (payload_len header)) message
+
+-- the translation of a quoted message
+abbrev pub translated_quote : Prefixes → List ℕ → List ℕ → List ℕ
+translated_quote prefixes header message =
+    if protocol header == icmpv4_number then quoted_icmp prefixes header message
+    else if protocol header == udp_number then quoted_udp prefixes header message
+    else if protocol header == tcp_number then quoted_tcp prefixes header message
+    else message
+
+-- ---- the translated error
+
+-- the first error about a message that becomes an error of this kind, and quotes a packet with this header; the prefixes are those of the
+-- quoted packet
+abbrev pub refusal_about : List ℕ → ℕ × ℕ → Prefixes → List ℕ → Option PacketTranslationError
+refusal_about quoted new_kind prefixes message = first_of (
+    option_map QuotedHeader (quoted_header_refusal prefixes quoted)
+    ∷ quoted_message_refusal (protocol quoted) (quoted_message quoted (quote_of message))
+    ∷ pointer_refusal new_kind message
+    ∷ [])
+
+-- the first error about a message of at least eight bytes, which is not an echo message
+abbrev pub error_refusal : Prefixes → List ℕ → Option PacketTranslationError
+error_refusal prefixes message = first_of (
+    kind_refusal message
+    ∷ refused_if (not (begins_with_header (quote_of message))) NoQuotedHeader
+    ∷ refusal_about (quoted_ipv4 message) (kind message) (exchanged prefixes) message
+    ∷ [])
+
+-- the ICMPv6 error of this kind about a packet with this header, with 0 instead of its checksum; the prefixes are those of the quoted packet
+abbrev pub error_about : List ℕ → ℕ × ℕ → Prefixes → List ℕ → List ℕ
+error_about quoted new_kind prefixes message = joined new_kind (to_be_bytes w32 (word new_kind message (total_len quoted)))
+    (quoted_header prefixes quoted) (translated_quote prefixes quoted (quoted_message quoted (quote_of message)))
+
+-- the ICMPv6 error, with 0 instead of its checksum
+abbrev pub error_without_checksum : Prefixes → List ℕ → List ℕ
+error_without_checksum prefixes message = error_about (quoted_ipv4 message) (kind message) (exchanged prefixes) message
+
+-- An error with its checksum, if `error` is this error with 0 instead of its checksum. The checksum is that of the ICMP error, updated for
+-- all words of both messages. The error is the payload of a packet with this IPv4 header.
+abbrev pub with_new_checksum : Prefixes → List ℕ → List ℕ → List ℕ → List ℕ
+with_new_checksum prefixes header message error = with_checksum icmp_checksum_place error
+    (changed_checksum [] (new_pseudo_header prefixes header icmpv6_number (length error)) message error)
+
+-- the ICMPv6 error for an ICMP error
+abbrev pub translated_error : Prefixes → List ℕ → List ℕ → List ℕ
+translated_error prefixes header message = with_new_checksum prefixes header message (error_without_checksum prefixes message)

@@ -1,0 +1,37 @@
+ghost use Rattle.std.specs.Prelude.{◌≡◌, ◌≤◌, ◌+◌, length, slice_index};
+ghost use Rattle.ip_translation.specs.QuotedPackets as specs;
+
+use arrayvec::ArrayVec;
+
+/// The greatest length of an ICMPv6 error without its IPv6 header, in bytes: the least MTU of IPv6 minus 40 (RFC 4443, section 2.4).
+pub(crate) const MAX_ERROR_LEN: usize = 1240;
+
+/// The greatest length of a quoted message, in bytes. Before it are an ICMPv6 header of 8 bytes and the quoted IPv6 header.
+pub(crate) const MAX_QUOTED_LEN: usize = MAX_ERROR_LEN - 48;
+
+/// The length of the header of an ICMP error, in bytes (RFC 792; RFC 4443, section 2.1, with the word that follows).
+pub(crate) const ERROR_LEN: usize = 8;
+
+/// An error of these parts, with 0 instead of its checksum: type and code, the word after the checksum, the quoted header, and the quoted
+/// message.
+pub(crate) fn joined(
+    kind: (u8, u8),
+    word: [u8; 4],
+    header: &[u8],
+    quoted: &[u8],
+) -> ArrayVec<u8, MAX_ERROR_LEN>
+    requires header { length header.now ≤ 40 }
+    requires room { length quoted.now ≤ specs.max_quoted_len }
+    ensures bytes { result.items ≡ specs.joined kind word header.now quoted.now }
+    ensures len { length result.items ≡ 8 + (length header.now + length quoted.now) }
+    ensures kind { slice_index result.items 0 ≡ kind.0 }
+{
+    let mut error = ArrayVec::new();
+    error
+        .try_extend_from_slice(&[kind.0, kind.1, 0, 0])
+        .unwrap();
+    error.try_extend_from_slice(&word).unwrap();
+    error.try_extend_from_slice(header).unwrap();
+    error.try_extend_from_slice(quoted).unwrap();
+    error
+}
