@@ -750,6 +750,69 @@ static ERROR_PACKETS: [(&[u8], &[u8]); 5] = [
     ]),
 ];
 
+/// ICMPv6 errors, each with the translated packet of identification BEEF: prohibited with a UDP packet, time exceeded with 8 bytes of a TCP
+/// segment, packet too big with a TCP segment, a parameter problem with an echo request, and an unrecognized next header with ESP.
+#[rattlefmt::skip]
+static ERROR_PACKETS_BACK: [(&[u8], &[u8]); 5] = [
+    (&[
+        0x60, 0, 0, 0, 0, 0x3B, 0x3A, 0x3F, 0x20, 1, 0x0D, 0xB8, 0xC0, 0, 2, 0x21, 0, 0, 0, 0,
+        0, 0, 0, 0, 0x20, 1, 0x0D, 0xB8, 1, 0x22, 3, 0x44, 0, 0, 0, 0, 0xC6, 0x33, 0x64, 7,
+        1, 1, 0x41, 0x64, 0, 0, 0, 0, 0x60, 0, 0, 0, 0, 0x0B, 0x11, 1, 0x20, 1, 0x0D, 0xB8,
+        1, 0x22, 3, 0x44, 0, 0, 0, 0, 0xC6, 0x33, 0x64, 7, 0x20, 1, 0x0D, 0xB8, 0xC0, 0, 2, 0x21,
+        0, 0, 0, 0, 0, 0, 0, 0, 4, 0xD2, 0, 0x15, 0, 0x0B, 0xEA, 0x59, 0x61, 0x62, 0x63,
+    ], &[
+        0x45, 0, 0, 0x3B, 0xBE, 0xEF, 0, 0, 0x3E, 1, 0xD1, 0x76, 0xC0, 0, 2, 0x21, 0xC6, 0x33, 0x64, 7,
+        3, 0x0A, 0xE9, 0x6E, 0, 0, 0, 0, 0x45, 0, 0, 0x1F, 0, 0, 0, 0, 1, 0x11, 0xCD, 0x72,
+        0xC6, 0x33, 0x64, 7, 0xC0, 0, 2, 0x21, 4, 0xD2, 0, 0x15, 0, 0x0B, 0x4A, 0x32, 0x61, 0x62, 0x63,
+    ]),
+    (&[
+        0x60, 0, 0, 0, 0, 0x38, 0x3A, 0x3F, 0x20, 1, 0x0D, 0xB8, 0xC0, 0, 2, 0x21, 0, 0, 0, 0,
+        0, 0, 0, 0, 0x20, 1, 0x0D, 0xB8, 1, 0x22, 3, 0x44, 0, 0, 0, 0, 0xC6, 0x33, 0x64, 7,
+        3, 1, 0xF5, 0x1C, 0, 0, 0, 0, 0x60, 0, 0, 0, 0, 0x17, 6, 1, 0x20, 1, 0x0D, 0xB8,
+        1, 0x22, 3, 0x44, 0, 0, 0, 0, 0xC6, 0x33, 0x64, 7, 0x20, 1, 0x0D, 0xB8, 0xC0, 0, 2, 0x21,
+        0, 0, 0, 0, 0, 0, 0, 0, 4, 0xD2, 0, 0x15, 1, 2, 3, 4,
+    ], &[
+        0x45, 0, 0, 0x38, 0xBE, 0xEF, 0, 0, 0x3E, 1, 0xD1, 0x79, 0xC0, 0, 2, 0x21, 0xC6, 0x33, 0x64, 7,
+        0x0B, 1, 0xEC, 0x11, 0, 0, 0, 0, 0x45, 0, 0, 0x2B, 0, 0, 0, 0, 1, 6, 0xCD, 0x71,
+        0xC6, 0x33, 0x64, 7, 0xC0, 0, 2, 0x21, 4, 0xD2, 0, 0x15, 1, 2, 3, 4,
+    ]),
+    (&[
+        0x60, 0, 0, 0, 0, 0x47, 0x3A, 0x3F, 0x20, 1, 0x0D, 0xB8, 0xC0, 0, 2, 0x21, 0, 0, 0, 0,
+        0, 0, 0, 0, 0x20, 1, 0x0D, 0xB8, 1, 0x22, 3, 0x44, 0, 0, 0, 0, 0xC6, 0x33, 0x64, 7,
+        2, 0, 0x45, 0xC2, 0, 0, 5, 0x8C, 0x60, 0, 0, 0, 0, 0x17, 6, 1, 0x20, 1, 0x0D, 0xB8,
+        1, 0x22, 3, 0x44, 0, 0, 0, 0, 0xC6, 0x33, 0x64, 7, 0x20, 1, 0x0D, 0xB8, 0xC0, 0, 2, 0x21,
+        0, 0, 0, 0, 0, 0, 0, 0, 4, 0xD2, 0, 0x15, 1, 2, 3, 4, 5, 6, 7, 8,
+        0x50, 0x18, 0x20, 0, 0x6A, 0x37, 0, 0, 0x61, 0x62, 0x63,
+    ], &[
+        0x45, 0, 0, 0x47, 0xBE, 0xEF, 0, 0, 0x3E, 1, 0xD1, 0x6A, 0xC0, 0, 2, 0x21, 0xC6, 0x33, 0x64, 7,
+        3, 4, 0xE3, 0xFD, 0, 0, 5, 0x78, 0x45, 0, 0, 0x2B, 0, 0, 0, 0, 1, 6, 0xCD, 0x71,
+        0xC6, 0x33, 0x64, 7, 0xC0, 0, 2, 0x21, 4, 0xD2, 0, 0x15, 1, 2, 3, 4, 5, 6, 7, 8,
+        0x50, 0x18, 0x20, 0, 0xCA, 0x0F, 0, 0, 0x61, 0x62, 0x63,
+    ]),
+    (&[
+        0x60, 0, 0, 0, 0, 0x3C, 0x3A, 0x3F, 0x20, 1, 0x0D, 0xB8, 0xC0, 0, 2, 0x21, 0, 0, 0, 0,
+        0, 0, 0, 0, 0x20, 1, 0x0D, 0xB8, 1, 0x22, 3, 0x44, 0, 0, 0, 0, 0xC6, 0x33, 0x64, 7,
+        4, 0, 0x15, 0x86, 0, 0, 0, 7, 0x60, 0, 0, 0, 0, 0x0C, 0x3A, 1, 0x20, 1, 0x0D, 0xB8,
+        1, 0x22, 3, 0x44, 0, 0, 0, 0, 0xC6, 0x33, 0x64, 7, 0x20, 1, 0x0D, 0xB8, 0xC0, 0, 2, 0x21,
+        0, 0, 0, 0, 0, 0, 0, 0, 0x80, 0, 0x42, 0x78, 0x12, 0x34, 0, 7, 0x70, 0x69, 0x6E, 0x67,
+    ], &[
+        0x45, 0, 0, 0x3C, 0xBE, 0xEF, 0, 0, 0x3E, 1, 0xD1, 0x75, 0xC0, 0, 2, 0x21, 0xC6, 0x33, 0x64, 7,
+        0x0C, 0, 0xEB, 0xFF, 8, 0, 0, 0, 0x45, 0, 0, 0x20, 0, 0, 0, 0, 1, 1, 0xCD, 0x81,
+        0xC6, 0x33, 0x64, 7, 0xC0, 0, 2, 0x21, 8, 0, 6, 0xF4, 0x12, 0x34, 0, 7, 0x70, 0x69, 0x6E, 0x67,
+    ]),
+    (&[
+        0x60, 0, 0, 0, 0, 0x34, 0x3A, 0x3F, 0x20, 1, 0x0D, 0xB8, 0xC0, 0, 2, 0x21, 0, 0, 0, 0,
+        0, 0, 0, 0, 0x20, 1, 0x0D, 0xB8, 1, 0x22, 3, 0x44, 0, 0, 0, 0, 0xC6, 0x33, 0x64, 7,
+        4, 1, 0, 0xC4, 0, 0, 0, 6, 0x6B, 0x90, 0, 0, 0, 4, 0x32, 1, 0x20, 1, 0x0D, 0xB8,
+        1, 0x22, 3, 0x44, 0, 0, 0, 0, 0xC6, 0x33, 0x64, 7, 0x20, 1, 0x0D, 0xB8, 0xC0, 0, 2, 0x21,
+        0, 0, 0, 0, 0, 0, 0, 0, 0x61, 0x62, 0x63, 0x64,
+    ], &[
+        0x45, 0, 0, 0x34, 0xBE, 0xEF, 0, 0, 0x3E, 1, 0xD1, 0x7D, 0xC0, 0, 2, 0x21, 0xC6, 0x33, 0x64, 7,
+        3, 2, 0x38, 0x37, 0, 0, 0, 0, 0x45, 0xB9, 0, 0x18, 0, 0, 0, 0, 1, 0x32, 0xCC, 0x9F,
+        0xC6, 0x33, 0x64, 7, 0xC0, 0, 2, 0x21, 0x61, 0x62, 0x63, 0x64,
+    ]),
+];
+
 #[test]
 fn icmp_errors_are_translated(rt: HostRuntime) {
     for (packet, expected) in &ERROR_PACKETS {
@@ -757,6 +820,16 @@ fn icmp_errors_are_translated(rt: HostRuntime) {
         let len = expect_ok(&rt, ipv4_to_ipv6(packet, &PREFIXES, &mut buffer));
         expect_bytes(&rt, bytes_to(&rt, &buffer, len), expected);
         expect_equal(&rt, &buffer[119], &0xEE);
+    }
+}
+
+#[test]
+fn icmp_errors_are_translated_back(rt: HostRuntime) {
+    for (packet, expected) in &ERROR_PACKETS_BACK {
+        let mut buffer = [0xEE; 80];
+        let len = expect_ok(&rt, ipv6_to_ipv4(packet, &PREFIXES, 0xBEEF, &mut buffer));
+        expect_bytes(&rt, bytes_to(&rt, &buffer, len), expected);
+        expect_equal(&rt, &buffer[79], &0xEE);
     }
 }
 
@@ -816,19 +889,55 @@ fn icmp_errors_are_refused(rt: HostRuntime) {
     expect_equal(&rt, &outcome, &Err(error));
 }
 
-/// The number of pairs of type and code of a packet that are translated: the errors, and echo requests and replies with any code. A parameter
-/// problem has pointer 9.
+/// ICMPv6 errors that are refused.
+#[rattlefmt::skip]
+static NO_ERRORS_BACK: [(usize, usize, u8, PacketTranslationError); 9] = [
+    (0, 41, 5, PacketTranslationError::IcmpMessage { type_u8: 1, code_u8: 5 }),
+    (0, 40, 130, PacketTranslationError::IcmpMessage { type_u8: 130, code_u8: 1 }),
+    (0, 44, 1, PacketTranslationError::IcmpExtension(1)),
+    (0, 48, 0x45, PacketTranslationError::NoQuotedHeader),
+    (0, 54, 44, PacketTranslationError::QuotedHeader(TranslationError::ExtensionHeader(44))),
+    (0, 56, 0x21, PacketTranslationError::QuotedHeader(TranslationError::Source(AddressError::NotEmbedded))),
+    (0, 53, 7, PacketTranslationError::TransportHeader { required_len: 8, len: 7 }),
+    (0, 54, 58, PacketTranslationError::QuotedIcmp { type_u8: 4, code_u8: 210 }),
+    (3, 47, 2, PacketTranslationError::IcmpPointer(2)),
+];
+
+#[test]
+fn icmp_errors_are_refused_back(rt: HostRuntime) {
+    for (row, place, value, error) in &NO_ERRORS_BACK {
+        let mut packet = joined(&rt, &[ERROR_PACKETS_BACK[*row].0]);
+        packet.as_mut_slice()[*place] = *value;
+        let mut buffer = [0xEE; 80];
+        let outcome = ipv6_to_ipv4(packet.as_slice(), &PREFIXES, 0, &mut buffer);
+        expect_at(&rt, place, &outcome.err().as_ref(), &Some(error));
+        expect_bytes(&rt, &buffer, &[0xEE; 80]);
+    }
+    let mut buffer = [0xEE; 58];
+    let outcome = ipv6_to_ipv4(ERROR_PACKETS_BACK[0].0, &PREFIXES, 0, &mut buffer);
+    let error = PacketTranslationError::Space { required_len: 59, len: 58 };
+    expect_equal(&rt, &outcome, &Err(error));
+}
+
+/// The number of pairs of type and code of a packet that are translated: in addition to the errors, echo requests and replies with any code.
+/// A parameter problem has pointer 9, or over IPv6 pointer 7.
 #[test]
 fn all_messages(rt: HostRuntime) {
-    let mut packet = joined(&rt, &[ERROR_PACKETS[3].0]);
-    let mut translated = 0;
+    let mut over_ipv4 = joined(&rt, &[ERROR_PACKETS[3].0]);
+    let mut over_ipv6 = joined(&rt, &[ERROR_PACKETS_BACK[3].0]);
+    let mut to_ipv6 = 0;
+    let mut to_ipv4 = 0;
     let mut buffer = [0; 120];
     for type_u8 in 0..=u8::MAX {
         for code_u8 in 0..=u8::MAX {
-            packet.as_mut_slice()[20..22].copy_from_slice(&[type_u8, code_u8]);
-            let outcome = ipv4_to_ipv6(packet.as_slice(), &PREFIXES, &mut buffer);
-            translated += usize::from(outcome.is_ok());
+            over_ipv4.as_mut_slice()[20..22].copy_from_slice(&[type_u8, code_u8]);
+            over_ipv6.as_mut_slice()[40..42].copy_from_slice(&[type_u8, code_u8]);
+            let outcome = ipv4_to_ipv6(over_ipv4.as_slice(), &PREFIXES, &mut buffer);
+            to_ipv6 += usize::from(outcome.is_ok());
+            let outcome = ipv6_to_ipv4(over_ipv6.as_slice(), &PREFIXES, 0, &mut buffer);
+            to_ipv4 += usize::from(outcome.is_ok());
         }
     }
-    expect_equal(&rt, &translated, &785);
+    expect_equal(&rt, &to_ipv6, &785);
+    expect_equal(&rt, &to_ipv4, &1031);
 }

@@ -25,11 +25,11 @@ error_type protocol message is_error =
     (and_right (nat_le 8 (length message)) (is_none (type_over_ipv6 (slice_index message 0)))
     (and_right (protocol == 1) (nat_le 8 (length message) && is_none (type_over_ipv6 (slice_index message 0))) is_error))
 
--- a protocol that is not one of three
-pub no_protocol : (protocol : ℕ) (icmp udp tcp other : List ℕ) → protocol ≢ 1 → protocol ≢ 17 → protocol ≢ 6
-    → (if protocol == 1 then icmp else if protocol == 17 then udp else if protocol == 6 then tcp else other) ≡ other
-no_protocol protocol icmp udp tcp other no_icmp no_udp no_tcp =
-    let first : (protocol == 1) ≡ false = grind (arith, nat_tests, no_icmp) in
+-- a protocol that is neither ICMP nor UDP nor TCP; the version of ICMP has the number `icmp_number`
+pub no_protocol : (icmp_number protocol : ℕ) (icmp udp tcp other : List ℕ) → protocol ≢ icmp_number → protocol ≢ 17 → protocol ≢ 6
+    → (if protocol == icmp_number then icmp else if protocol == 17 then udp else if protocol == 6 then tcp else other) ≡ other
+no_protocol icmp_number protocol icmp udp tcp other no_icmp no_udp no_tcp =
+    let first : (protocol == icmp_number) ≡ false = grind (arith, nat_tests, no_icmp) in
     let second : (protocol == 17) ≡ false = grind (arith, nat_tests, no_udp) in
     let third : (protocol == 6) ≡ false = grind (arith, nat_tests, no_tcp) in
     ap (λ test. if test then icmp else if protocol == 17 then udp else if protocol == 6 then tcp else other) first

@@ -1,18 +1,6 @@
 -- Laws of the rules of a packet.
-use Rattle.std.proofs.Common.{◌≡◌, ◌≤◌, ◌+◌, ℕ, false, nat_lt, List, [], ◌∷◌, length, Option, Some, None, refl, ap, arith}
-use Rattle.std.proofs.lemmas.Bool.Decides.{nat_tests}
-use Rattle.net_base.specs.Refusals.{first_of, refused_if}
-use Rattle.ip_translation.specs.PacketsToIpv4 as ipv4
-use Rattle.ip_translation.specs.declared.packet_translation_error.PacketTranslationError.TheVariants.{Space}
-
--- the first three rules do not refuse
-pub last_of_four : {E : Type 0} (first second third last : Option E) → first ≡ None → second ≡ None → third ≡ None
-    → first_of (first ∷ (second ∷ (third ∷ (last ∷ [])))) ≡ last
-last_of_four None None None None a b c = refl
-last_of_four None None None (Some error) a b c = refl
-last_of_four (Some error) second third last a b c = absurd (grind arith)
-last_of_four None (Some error) third last a b c = absurd (grind arith)
-last_of_four None None (Some error) last a b c = absurd (grind arith)
+use Rattle.std.proofs.Common.{◌≡◌, List, [], ◌∷◌, Option, Some, None, refl, arith}
+use Rattle.net_base.specs.Refusals.{first_of}
 
 -- the first two rules do not refuse
 pub last_of_three : {E : Type 0} (first second last : Option E) → first ≡ None → second ≡ None
@@ -34,9 +22,3 @@ pub last_of_two : {E : Type 0} (first last : Option E) → first ≡ None → fi
 last_of_two None None a = refl
 last_of_two None (Some error) a = refl
 last_of_two (Some error) last a = absurd (grind arith)
-
--- a buffer that is long enough
-pub enough_room_ipv4 : (message : List ℕ) (room : ℕ) → 20 + length message ≤ room → ipv4.space_refusal message room ≡ None
-enough_room_ipv4 message room enough =
-    let test : nat_lt room (20 + length message) ≡ false = grind (arith, nat_tests) in
-    ap (λ short. refused_if short (Space (20 + length message) room)) test

@@ -6,7 +6,7 @@ use Rattle.net_base.specs.StoredChecksum.{icmp_checksum_place, with_checksum}
 use Rattle.word_sum.specs.Checksum.{folded, total, zero_as_all_ones}
 use Rattle.word_sum.specs.UpdatedChecksum.{updated_checksum_of}
 use Rattle.ip_translation.specs.declared.packet_translation_error.PacketTranslationError.{PacketTranslationError}
-use Rattle.ip_translation.specs.declared.packet_translation_error.PacketTranslationError.TheVariants.{IcmpMessage, QuotedIcmp, TransportHeader}
+use Rattle.ip_translation.specs.declared.packet_translation_error.PacketTranslationError.TheVariants.{QuotedIcmp, TransportHeader}
 
 -- the ICMPv6 type for the type of an ICMPv4 echo request or echo reply; `None` for any other type
 abbrev pub type_over_ipv6 : ℕ → Option ℕ
@@ -21,14 +21,6 @@ type_over_ipv4 type =
     if type == 128 then Some 8
     else if type == 129 then Some 0
     else None
-
--- The error of a message that is shorter than an echo header or is not an echo message. `new_type` maps a type to the type after the
--- translation.
-abbrev pub echo_refusal : (ℕ → Option ℕ) → List ℕ → Option PacketTranslationError
-echo_refusal new_type message = first_of (
-    refused_if (nat_lt (length message) 8) (TransportHeader 8 (length message))
-    ∷ refused_if (is_none (new_type (slice_index message 0))) (IcmpMessage (slice_index message 0) (slice_index message 1))
-    ∷ [])
 
 -- The error of a quoted message that is shorter than an echo header or is not an echo message. `new_type` maps a type to the type after the
 -- translation.

@@ -50,11 +50,17 @@ is_extension number = number == 0 || (number == 43 || (number == 44 || number ==
 abbrev pub max_payload_len : ℕ
 max_payload_len = max_len_over_ipv4 - 20
 
+-- The first error about the fields of the header of a quoted packet. Its hop limit is not checked, since routers change it.
+abbrev pub quoted_field_refusal : List ℕ → Option TranslationError
+quoted_field_refusal header = first_of (
+    refused_if (is_extension (next_header header)) (ExtensionHeader (next_header header))
+    ∷ refused_if (nat_lt max_payload_len (payload_len header)) (PayloadLength (payload_len header))
+    ∷ [])
+
 -- the first error about the fields of a header
 abbrev pub field_refusal : List ℕ → Option TranslationError
 field_refusal header = first_of (
-    refused_if (is_extension (next_header header)) (ExtensionHeader (next_header header))
-    ∷ refused_if (nat_lt max_payload_len (payload_len header)) (PayloadLength (payload_len header))
+    quoted_field_refusal header
     ∷ refused_if (nat_lt (hop_limit header) 2) TimeExceeded
     ∷ [])
 
@@ -70,6 +76,10 @@ addresses_refusal prefixes header = first_of (
 -- the first error about a header: about its fields, and then about its addresses
 abbrev pub header_refusal : Prefixes → List ℕ → Option TranslationError
 header_refusal prefixes header = first_of (field_refusal header ∷ addresses_refusal prefixes header ∷ [])
+
+-- the first error about the header of a quoted packet
+abbrev pub quoted_header_refusal : Prefixes → List ℕ → Option TranslationError
+quoted_header_refusal prefixes header = first_of (quoted_field_refusal header ∷ addresses_refusal prefixes header ∷ [])
 
 -- ---- the translated header
 
@@ -96,12 +106,21 @@ abbrev pub ipv4_header : List ℕ → List ℕ → List ℕ → List ℕ
 ipv4_header start source destination =
     with_header_checksum start (checksum_of (total (with_header_checksum start 0 source destination))) source destination
 
--- the IPv4 header for this IPv6 header
-abbrev pub translated_header : Prefixes → ℕ → List ℕ → List ℕ
-translated_header prefixes identification header = ipv4_header
-    (start_of_ipv4 (traffic_class header) (payload_len header + 20) identification (hop_limit header - 1) (protocol_of (next_header header)))
+-- the IPv4 header for this IPv6 header, with this identification, this total length and this time to live
+abbrev pub header_with : Prefixes → ℕ → ℕ → ℕ → List ℕ → List ℕ
+header_with prefixes identification total_len time_to_live header = ipv4_header
+    (start_of_ipv4 (traffic_class header) total_len identification time_to_live (protocol_of (next_header header)))
     (extracted prefixes.source (source header))
     (extracted prefixes.destination (destination header))
+
+-- the IPv4 header for this IPv6 header
+abbrev pub translated_header : Prefixes → ℕ → List ℕ → List ℕ
+translated_header prefixes identification header =
+    header_with prefixes identification (payload_len header + 20) (hop_limit header - 1) header
+
+-- the IPv4 header for the header of a quoted packet, which keeps its hop limit; the identification is 0
+abbrev pub quoted_header : Prefixes → List ℕ → List ℕ
+quoted_header prefixes header = header_with prefixes 0 (payload_len header + 20) (hop_limit header) header
 
 -- ---- the pseudo headers of UDP and TCP
 

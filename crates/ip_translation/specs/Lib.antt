@@ -1,11 +1,13 @@
 pub use Rattle.net_base.specs.Refusals
 pub mod EchoMessages
 pub mod ErrorTexts
+pub mod ErrorsToIpv4
 pub mod ErrorsToIpv6
 pub mod HeadersToIpv4
 pub mod HeadersToIpv6
 pub mod IcmpErrors
 pub mod Ipv4Packets
+pub mod Ipv6Packets
 pub mod PacketsToIpv4
 pub mod PacketsToIpv6
 pub mod Prefixes

@@ -1,33 +1,20 @@
 -- The translation of IPv6 packets to IPv4 (RFC 7915, section 5), and the packets that are not translated.
-use Rattle.std.specs.Prelude.{◌≡◌, ◌≢◌, ◌↔◌, ℕ, ◌+◌, ◌==◌, Bool, ◌&&◌, not, nat_le, nat_lt, if◌then◌else◌, List, [], ◌∷◌, ◌++◌, length, slice_index, slice_range, Option, Some, None}
+use Rattle.std.specs.Prelude.{◌≡◌, ◌≢◌, ◌↔◌, ℕ, ◌+◌, ◌-◌, ◌==◌, Bool, true, false, ◌&&◌, not, nat_le, nat_lt, if◌then◌else◌, List, [], ◌∷◌, ◌++◌, is_none, length, slice_index, Option, Some, None}
 use Rattle.std.specs.Option.{option_map, unwrap_or}
 use Rattle.ip_part.specs.Ip.{ipv6_header}
-use Rattle.net_base.specs.IpHeaders.{version}
 use Rattle.net_base.specs.IpNumbers.{icmpv6_number, tcp_number, udp_number}
 use Rattle.net_base.specs.Refusals.{first_of, refused_if}
 use Rattle.net_base.specs.StoredChecksum.{tcp_checksum_place, udp_checksum_place, with_checksum}
 use Rattle.word_sum.specs.Checksum.{Verifies}
 use Rattle.word_sum.specs.UpdatedChecksum.{updated_checksum_of, updated_udp_checksum_of}
-use Rattle.ip_translation.specs.EchoMessages.{echo_refusal, translated_echo, type_over_ipv4}
-use Rattle.ip_translation.specs.HeadersToIpv4.{added_addresses, header_refusal, new_pseudo_header, next_header, old_pseudo_header, payload_len, removed_addresses, translated_header}
+use Rattle.ip_translation.specs.EchoMessages.{translated_echo, type_over_ipv4}
+use Rattle.ip_translation.specs.ErrorsToIpv4.{error_refusal, error_without_checksum, translated_error, with_new_checksum}
+use Rattle.ip_translation.specs.HeadersToIpv4.{added_addresses, header_refusal, header_with, hop_limit, new_pseudo_header, next_header, old_pseudo_header, payload_len, removed_addresses, translated_header}
 use Rattle.ip_translation.specs.PacketsToIpv6.{VerifiesAlike, header_len_refusal, tcp_checksum, udp_checksum}
 use Rattle.ip_translation.specs.declared.packet_translation_error.PacketTranslationError.{PacketTranslationError}
 use Rattle.ip_translation.specs.declared.packet_translation_error.PacketTranslationError.TheVariants.{CutOff, Header, NoIpv6Header, NoUdpChecksum, Space}
 use Rattle.ip_translation.specs.declared.prefixes.Prefixes.{Prefixes}
-
--- ---- the parts of a packet
-
--- the bytes begin with a whole IPv6 header (RFC 8200, section 3)
-abbrev pub begins_with_header : List ℕ → Bool
-begins_with_header packet = nat_le 40 (length packet) && version packet == 6
-
--- the message: the bytes after the header that the payload length counts; all later bytes are padding
-abbrev pub message_after : List ℕ → List ℕ → List ℕ
-message_after header packet = slice_range packet 40 (40 + payload_len header)
-
--- the message of a packet that begins with an IPv6 header
-abbrev pub message_of : List ℕ → List ℕ
-message_of packet = message_after (ipv6_header packet) packet
+pub use Rattle.ip_translation.specs.Ipv6Packets.{begins_with_header, message_after, message_of}
 
 -- ---- errors
 
@@ -42,25 +29,46 @@ udp_refusal packet = first_of (
     ∷ refused_if (udp_checksum packet == 0) NoUdpChecksum
     ∷ [])
 
--- the error of a message of this protocol, if the message has no translation
+-- this is an ICMPv6 message that is no echo message; it is translated as an error, or refused
+abbrev pub is_icmp_error : ℕ → List ℕ → Bool
+is_icmp_error protocol message =
+    protocol == icmpv6_number && (nat_le 8 (length message) && is_none (type_over_ipv4 (slice_index message 0)))
+
+-- the error of a message of this protocol that is no ICMPv6 error, if the message has no translation
 abbrev pub message_refusal : ℕ → List ℕ → Option PacketTranslationError
 message_refusal protocol message =
-    if protocol == icmpv6_number then echo_refusal type_over_ipv4 message
+    if protocol == icmpv6_number then header_len_refusal 8 message
     else if protocol == udp_number then udp_refusal message
     else if protocol == tcp_number then header_len_refusal 20 message
     else None
 
--- the error of a buffer of `room` bytes that is shorter than the translated packet
-abbrev pub space_refusal : List ℕ → ℕ → Option PacketTranslationError
-space_refusal message room = refused_if (nat_lt room (20 + length message)) (Space (20 + length message) room)
+-- the error of a buffer of `room` bytes that is shorter than a packet with a translated message of `len` bytes
+abbrev pub space_refusal : ℕ → ℕ → Option PacketTranslationError
+space_refusal len room = refused_if (nat_lt room (20 + len)) (Space (20 + len) room)
+
+-- the first error of an ICMPv6 error; `room` is the length of the buffer
+abbrev pub error_packet_refusal : Prefixes → List ℕ → ℕ → Option PacketTranslationError
+error_packet_refusal prefixes message room = first_of (
+    error_refusal prefixes message
+    ∷ space_refusal (length (error_without_checksum prefixes message)) room
+    ∷ [])
+
+-- the first error of a message of this protocol that is no ICMP error; `room` is the length of the buffer
+abbrev pub other_refusal : ℕ → List ℕ → ℕ → Option PacketTranslationError
+other_refusal protocol message room = first_of (message_refusal protocol message ∷ space_refusal (length message) room ∷ [])
+
+-- the first error of a message of this protocol
+abbrev pub refusal_of : ℕ → Prefixes → List ℕ → ℕ → Option PacketTranslationError
+refusal_of protocol prefixes message room =
+    if is_icmp_error protocol message then error_packet_refusal prefixes message room
+    else other_refusal protocol message room
 
 -- the first error of a packet with this header; `room` is the length of the buffer
 abbrev pub refusal_after : List ℕ → Prefixes → List ℕ → ℕ → Option PacketTranslationError
 refusal_after header prefixes packet room = first_of (
     option_map Header (header_refusal prefixes header)
     ∷ cut_off_refusal header (length packet)
-    ∷ message_refusal (next_header header) (message_after header packet)
-    ∷ space_refusal (message_after header packet) room
+    ∷ refusal_of (next_header header) prefixes (message_after header packet) room
     ∷ [])
 
 -- the first error of a packet, which must begin with an IPv6 header; `room` is the length of the buffer
@@ -88,9 +96,10 @@ translated_icmp header message =
     translated_echo (unwrap_or (type_over_ipv4 (slice_index message 0)) (slice_index message 0))
     (old_pseudo_header header icmpv6_number (length message)) [] message
 
--- the translated message; a message of a protocol other than ICMPv6, UDP and TCP is unchanged
-abbrev pub translated_message : Prefixes → List ℕ → List ℕ → List ℕ
-translated_message prefixes header message =
+-- The translation of a message that is no ICMPv6 error. Its length stays. A message of a protocol other than ICMPv6, UDP and TCP is
+-- unchanged.
+abbrev pub updated_message : Prefixes → List ℕ → List ℕ → List ℕ
+updated_message prefixes header message =
     if next_header header == icmpv6_number then translated_icmp header message
     else if next_header header == udp_number then translated_udp prefixes header message
     else if next_header header == tcp_number then translated_tcp prefixes header message
@@ -98,16 +107,37 @@ translated_message prefixes header message =
 
 -- ---- the translated packet
 
--- the translation of a packet with this IPv6 header; the IPv4 header has this identification
-abbrev pub translated_after : List ℕ → Prefixes → ℕ → List ℕ → List ℕ
-translated_after header prefixes identification packet =
-    translated_header prefixes identification header ++ translated_message prefixes header (message_after header packet)
+-- the IPv4 packet with the error; its total length counts the translated error
+abbrev pub error_packet : List ℕ → Prefixes → ℕ → List ℕ → List ℕ
+error_packet header prefixes identification message =
+    header_with prefixes identification (length (error_without_checksum prefixes message) + 20) (hop_limit header - 1) header
+    ++ translated_error prefixes header message
+
+-- the translation of a packet with this IPv6 header and this message; the IPv4 header has this identification
+abbrev pub translation_of : List ℕ → Prefixes → ℕ → List ℕ → List ℕ
+translation_of header prefixes identification message =
+    if is_icmp_error (next_header header) message then error_packet header prefixes identification message
+    else translated_header prefixes identification header ++ updated_message prefixes header message
+
+-- the length of the translated packet
+abbrev pub translated_len : List ℕ → Prefixes → List ℕ → ℕ
+translated_len header prefixes message =
+    20 + (if is_icmp_error (next_header header) message then length (error_without_checksum prefixes message) else length message)
 
 -- the translation of a packet that begins with an IPv6 header
 abbrev pub translated_packet : Prefixes → ℕ → List ℕ → List ℕ
-translated_packet prefixes identification packet = translated_after (ipv6_header packet) prefixes identification packet
+translated_packet prefixes identification packet = translation_of (ipv6_header packet) prefixes identification (message_of packet)
 
 -- ---- a receiver's check
+
+-- a receiver accepts this error with its new checksum exactly if it accepts the ICMPv6 message
+abbrev pub IsChecksumAlike : List ℕ → List ℕ → List ℕ → Type 0
+IsChecksumAlike header message error =
+    (Verifies [] (with_new_checksum header message error)) ↔ (Verifies (old_pseudo_header header icmpv6_number (length message)) message)
+
+-- a receiver accepts the ICMP error exactly if it accepts the ICMPv6 error
+abbrev pub IsErrorAcceptedAlike : Prefixes → List ℕ → List ℕ → Type 0
+IsErrorAcceptedAlike prefixes header message = IsChecksumAlike header message (error_without_checksum prefixes message)
 
 -- A receiver accepts the translated message exactly if it accepts the original message. This holds for a UDP packet with a checksum, for a
 -- TCP segment and for an echo message.
@@ -118,3 +148,9 @@ pub record IsAcceptedAlike (prefixes : Prefixes) (header message translated : Li
       → VerifiesAlike 18 (old_pseudo_header header tcp_number) (new_pseudo_header prefixes header tcp_number) message translated
   pub echo : next_header header ≡ icmpv6_number
       → (Verifies [] translated) ↔ (Verifies (old_pseudo_header header icmpv6_number (length message)) message)
+
+-- a receiver accepts the message of the translated packet exactly if it accepts the message of the packet
+pub record AreAcceptedAlike (prefixes : Prefixes) (header message : List ℕ) : Type 0 where
+  pub error : is_icmp_error (next_header header) message ≡ true → IsErrorAcceptedAlike prefixes header message
+  pub other : is_icmp_error (next_header header) message ≡ false
+      → IsAcceptedAlike prefixes header message (updated_message prefixes header message)

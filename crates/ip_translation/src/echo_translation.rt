@@ -51,15 +51,15 @@ pub(crate) fn type_over_ipv6(type_u8: u8) -> Option<u8>
     }
 }
 
-/// Refuses an ICMPv6 message that is shorter than an echo header, or is not an echo message.
-pub(crate) fn check_ipv6_echo(message: &[u8]) -> Result<(), PacketTranslationError>
-    ensures refused { RefusesExactly result (specs.echo_refusal specs.type_over_ipv4 message.now) }
+/// Refuses a quoted ICMPv6 message that is shorter than an echo header, or is not an echo message.
+pub(crate) fn check_quoted_ipv6_echo(message: &[u8]) -> Result<(), PacketTranslationError>
+    ensures refused { RefusesExactly result (specs.quoted_echo_refusal specs.type_over_ipv4 message.now) }
     ensures there { IfOk result (λ _. 8 ≤ length message.now) }
 {
     check_header_len(message, ICMP_LEN)?;
     match type_over_ipv4(message[0]) {
         Some(_) => Ok(()),
-        None => Err(PacketTranslationError::IcmpMessage {
+        None => Err(PacketTranslationError::QuotedIcmp {
             type_u8: message[0],
             code_u8: message[1],
         }),

@@ -1,4 +1,4 @@
-ghost use Rattle.std.specs.Prelude.{◌≡◌};
+ghost use Rattle.std.specs.Prelude.{◌≡◌, ◌<◌, IfSome};
 ghost use Rattle.ip_translation.specs.IcmpErrors as specs;
 
 /// The ICMPv6 type and code for the type and code of an ICMP error (RFC 7915, section 4.2). `None` if a translator drops the message, or if
@@ -54,7 +54,8 @@ fn unreachable_over_ipv6(code_u8: u8) -> Option<(u8, u8)>
 /// | type 4, code 0: erroneous header field | type 12, code 0: parameter problem |
 /// | type 4, code 1: unrecognized next header | type 3, code 2: the protocol is unreachable |
 pub fn icmpv4_error(type_u8: u8, code_u8: u8) -> Option<(u8, u8)>
-    ensures { result ≡ specs.error_in (specs.errors_to_ipv4 code_u8) type_u8 code_u8 }
+    ensures kind { result ≡ specs.error_in (specs.errors_to_ipv4 code_u8) type_u8 code_u8 }
+    ensures some { IfSome result (λ kind. 0 < kind.0) }
 {
     match type_u8 {
         1 => match code_u8 {

@@ -53,22 +53,9 @@ pub fn header_to_ipv4(
     ensures len { IfOk result (λ translated. length translated.items ≡ 20) }
 {
     let total_len = check_fields(header)?;
-    let (source, destination) = ipv4_addresses(header, prefixes)?;
-    let [total_high, total_low] = total_len.to_be_bytes();
-    let [high, low] = identification.to_be_bytes();
-    let start = [
-        0x45,
-        header.traffic_class(),
-        total_high,
-        total_low,
-        high,
-        low,
-        flags(total_len),
-        0,
-        header.hop_limit().saturating_sub(1),
-        protocol_of(header.next_header()),
-    ];
-    Ok(ipv4_header(start, source, destination))
+    check_addresses(header, prefixes)?;
+    let time_to_live = header.hop_limit().saturating_sub(1);
+    Ok(header_with(header, prefixes, identification, total_len, time_to_live))
 }
 
 /// The change of the pseudo header of UDP and TCP (RFC 7915, section 5.5): the IPv4 addresses that the prefixes extract replace the IPv6
@@ -98,6 +85,33 @@ fn check_fields(header: &Ipv6HeaderSlice<'_>) -> Result<u16, TranslationError>
     ensures refused { RefusesExactly result (specs.field_refusal header.now) }
     ensures total_len { IfOk result (λ len. len ≡ specs.payload_len header.now + 20) }
 {
+    let total_len = check_quoted_fields(header)?;
+    if header.hop_limit() <= 1 {
+        return Err(TranslationError::TimeExceeded);
+    }
+    Ok(total_len)
+}
+
+/// Translates the header of a packet that an ICMPv6 error quotes. The time to live is the hop limit, and it is not lowered. The
+/// identification is 0.
+pub(crate) fn quoted_header_to_ipv4(
+    header: &Ipv6HeaderSlice<'_>,
+    prefixes: &Prefixes,
+) -> Result<ArrayVec<u8, 20>, TranslationError>
+    ensures refused { RefusesExactly result (specs.quoted_header_refusal prefixes.now header.now) }
+    ensures written { IfOk result (λ translated. translated.items ≡ specs.quoted_header prefixes.now header.now) }
+    ensures len { IfOk result (λ translated. length translated.items ≡ 20) }
+{
+    let total_len = check_quoted_fields(header)?;
+    check_addresses(header, prefixes)?;
+    Ok(header_with(header, prefixes, 0, total_len, header.hop_limit()))
+}
+
+/// Checks the fields of the header of a quoted packet, and returns the total length of the translated packet.
+fn check_quoted_fields(header: &Ipv6HeaderSlice<'_>) -> Result<u16, TranslationError>
+    ensures refused { RefusesExactly result (specs.quoted_field_refusal header.now) }
+    ensures total_len { IfOk result (λ len. len ≡ specs.payload_len header.now + 20) }
+{
     let next_header = header.next_header();
     if is_extension(next_header) {
         return Err(TranslationError::ExtensionHeader(next_header.0));
@@ -106,10 +120,39 @@ fn check_fields(header: &Ipv6HeaderSlice<'_>) -> Result<u16, TranslationError>
     if u16::MAX - IPV4_LEN < payload_len {
         return Err(TranslationError::PayloadLength(payload_len));
     }
-    if header.hop_limit() <= 1 {
-        return Err(TranslationError::TimeExceeded);
-    }
     Ok(payload_len + IPV4_LEN)
+}
+
+/// The IPv4 header for this IPv6 header, with this identification, this total length and this time to live. The prefixes extract the
+/// addresses.
+pub(crate) fn header_with(
+    header: &Ipv6HeaderSlice<'_>,
+    prefixes: &Prefixes,
+    identification: u16,
+    total_len: u16,
+    time_to_live: u8,
+) -> ArrayVec<u8, 20>
+    ensures written { result.items ≡ specs.header_with prefixes.now identification total_len time_to_live header.now }
+    ensures verifies { Verifies [] result.items }
+    ensures len { length result.items ≡ 20 }
+{
+    let (_, source) = prefixes.source.front(&header.source());
+    let (_, destination) = prefixes.destination.front(&header.destination());
+    let [total_high, total_low] = total_len.to_be_bytes();
+    let [high, low] = identification.to_be_bytes();
+    let start = [
+        0x45,
+        header.traffic_class(),
+        total_high,
+        total_low,
+        high,
+        low,
+        flags(total_len),
+        0,
+        time_to_live,
+        protocol_of(header.next_header()),
+    ];
+    ipv4_header(start, source, destination)
 }
 
 /// Whether this is the number of hop-by-hop options, or of a routing, fragment or destination options header.
@@ -122,15 +165,12 @@ fn is_extension(number: IpNumber) -> bool
         || number.0 == ip_number::IPV6_DESTINATION_OPTIONS.0
 }
 
-/// The source and the destination of the translated packet. Refuses an address that has no translation, or whose translation is not the
-/// address of a host.
-fn ipv4_addresses(
+/// Refuses an address that has no translation, or whose translation is not the address of a host.
+fn check_addresses(
     header: &Ipv6HeaderSlice<'_>,
     prefixes: &Prefixes,
-) -> Result<([u8; 4], [u8; 4]), TranslationError>
+) -> Result<(), TranslationError>
     ensures refused { RefusesExactly result (specs.addresses_refusal prefixes.now header.now) }
-    ensures source { IfOk result (λ addresses. addresses.0 ≡ extracted prefixes.now.source (specs.source header.now)) }
-    ensures destination { IfOk result (λ addresses. addresses.1 ≡ extracted prefixes.now.destination (specs.destination header.now)) }
 {
     let source = match prefixes.source.to_ipv4(&header.source()) {
         Ok(source) => source,
@@ -146,7 +186,7 @@ fn ipv4_addresses(
     if is_illegal(destination) {
         return Err(TranslationError::IllegalDestination);
     }
-    Ok((source, destination))
+    Ok(())
 }
 
 /// The greatest total length of a packet that may be fragmented, in bytes (RFC 7915, section 5.1).

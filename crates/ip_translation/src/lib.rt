@@ -13,6 +13,7 @@
 mod address_error;
 mod changed_message;
 mod echo_translation;
+mod error_to_ipv4;
 mod error_to_ipv6;
 mod header_translation;
 mod icmp_errors;

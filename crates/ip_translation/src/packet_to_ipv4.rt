@@ -1,16 +1,22 @@
-ghost use Rattle.std.specs.Prelude.{◌≡◌, ◌≢◌, ◌≤◌, ◌+◌, ◌++◌, ◌↔◌, [], IfErr, IfOk, MatchOption, drop, false, length, true};
+ghost use Rattle.std.specs.Prelude.{◌≡◌, ◌≤◌, ◌<◌, ◌+◌, ◌++◌, ◌↔◌, [], IfErr, IfOk, MatchOption, drop, false, length, slice_index, true};
 ghost use Rattle.std.specs.Option.{option_map};
 ghost use Rattle.ip_part.specs.Ip.{ipv6_header};
 ghost use Rattle.net_base.specs.IpNumbers.{icmpv6_number, tcp_number, udp_number};
 ghost use Rattle.net_base.specs.PseudoHeader.{max_len_over_ipv4};
 ghost use Rattle.net_base.specs.Refusals.{RefusesExactly};
 ghost use Rattle.word_sum.specs.Checksum.{Verifies};
+ghost use Rattle.ip_translation.specs.ErrorsToIpv4 as errors;
 ghost use Rattle.ip_translation.specs.HeadersToIpv4 as headers;
 ghost use Rattle.ip_translation.specs.PacketsToIpv4 as specs;
 ghost use Rattle.ip_translation.specs.declared.packet_translation_error.PacketTranslationError.TheVariants.{Header};
 
-use crate::echo_translation::{check_ipv6_echo, icmpv6_pseudo_header, type_over_ipv4, write_echo};
-use crate::message_translation::{TCP_LEN, UDP_CHECKSUM_AT, UDP_LEN, check_header_len, number};
+use crate::changed_message::store_changed_checksum;
+use crate::echo_translation::{icmpv6_pseudo_header, type_over_ipv4, write_echo};
+use crate::error_to_ipv4::error_to_ipv4;
+use crate::ipv4_header_translation::header_with;
+use crate::message_translation::{
+    ICMP_LEN, TCP_LEN, UDP_CHECKSUM_AT, UDP_LEN, check_header_len, check_space, number,
+};
 use crate::updated_message::{write_updated_tcp, write_updated_udp};
 use crate::{PacketTranslationError, Prefixes, header_to_ipv4, pseudo_header_change_to_ipv4};
 use arrayvec::ArrayVec;
@@ -29,6 +35,10 @@ const IPV6_LEN: usize = 40;
 /// header contains the addresses. An ICMPv6 echo message becomes an ICMP echo message (section 5.2). A message of any other protocol is
 /// unchanged.
 ///
+/// An ICMPv6 error becomes the ICMP error that `icmpv4_error` names, with the pointer of `icmpv4_pointer` or the MTU of `icmpv4_mtu`
+/// (section 5.2). The packet that it quotes is translated with the exchanged prefixes, keeps its hop limit, and gets the identification 0
+/// (section 5.3). Its checksum is updated if the quote contains it. A quote that is longer than in an ICMPv6 error of 1280 bytes is cut.
+///
 /// # Errors
 ///
 /// After an error the buffer is unchanged. The call checks these cases, in this order:
@@ -36,7 +46,13 @@ const IPV6_LEN: usize = 40;
 /// - `Header` if `header_to_ipv4` refuses the header.
 /// - `CutOff` if there are fewer bytes than the header and its payload length.
 /// - `TransportHeader` if a UDP packet or an ICMP message is shorter than 8 bytes, or a TCP segment is shorter than 20 bytes.
-/// - `IcmpMessage` if an ICMP message is neither an echo request nor an echo reply.
+/// - `IcmpMessage` if an ICMPv6 message is not an echo message, and `icmpv4_error` returns `None`.
+/// - `IcmpExtension` if "destination unreachable" or "time exceeded" has an extension (RFC 4884): byte 4 of the message is not 0.
+/// - `NoQuotedHeader` if the packet that an ICMPv6 error quotes does not begin with a whole IPv6 header.
+/// - `QuotedHeader` if the quoted header has no translation. The call checks its next header, its payload length and its addresses, as
+///   `header_to_ipv4` does.
+/// - `TransportHeader` or `QuotedIcmp` if the quoted message of ICMPv6, UDP or TCP is shorter than 8 bytes, or is no echo message of ICMPv6.
+/// - `IcmpPointer` if a parameter problem has a pointer for which `icmpv4_pointer` returns `None`.
 /// - `NoUdpChecksum` if a UDP packet has no checksum.
 /// - `Space` if the buffer is shorter than the translated packet.
 pub fn ipv6_to_ipv4(
@@ -46,12 +62,11 @@ pub fn ipv6_to_ipv4(
     buffer: &mut [u8],
 ) -> Result<usize, PacketTranslationError>
     ensures refused { RefusesExactly result (specs.packet_refusal prefixes.now packet.now (length buffer.old)) }
-    ensures len { IfOk result (λ len. len ≡ 20 + length (specs.message_of packet.now)) }
+    ensures len { IfOk result (λ len. len ≡ specs.translated_len (ipv6_header packet.now) prefixes.now (specs.message_of packet.now)) }
     ensures written { IfOk result (λ len. buffer.new ≡ specs.translated_packet prefixes.now identification packet.now ++ drop len buffer.old) }
     ensures unchanged { IfErr result (λ _. buffer.new ≡ buffer.old) }
     // A receiver accepts the message of the translated packet exactly if it accepts the message of the original packet.
-    ensures alike { IfOk result (λ _. specs.IsAcceptedAlike prefixes.now (ipv6_header packet.now) (specs.message_of packet.now)
-        (specs.translated_message prefixes.now (ipv6_header packet.now) (specs.message_of packet.now))) }
+    ensures alike { IfOk result (λ _. specs.AreAcceptedAlike prefixes.now (ipv6_header packet.now) (specs.message_of packet.now)) }
 {
     let Some(header) = front_header(packet) else {
         return Err(PacketTranslationError::NoIpv6Header);
@@ -60,7 +75,7 @@ pub fn ipv6_to_ipv4(
 }
 
 /// The IPv6 header at the front of a packet.
-fn front_header<'a>(packet: &'a [u8]) -> Option<Ipv6HeaderSlice<'a>>
+pub(crate) fn front_header<'a>(packet: &'a [u8]) -> Option<Ipv6HeaderSlice<'a>>
     ensures found { MatchOption result (specs.begins_with_header packet.now ≡ false)
         (λ header. (specs.begins_with_header packet.now ≡ true) × (header ≡ ipv6_header packet.now)) }
 {
@@ -76,25 +91,121 @@ fn translate_after(
     buffer: &mut [u8],
 ) -> Result<usize, PacketTranslationError>
     ensures refused { RefusesExactly result (specs.refusal_after header.now prefixes.now packet.now (length buffer.old)) }
-    ensures len { IfOk result (λ len. len ≡ 20 + length (specs.message_after header.now packet.now)) }
+    ensures len { IfOk result (λ len. len ≡ specs.translated_len header.now prefixes.now (specs.message_after header.now packet.now)) }
     ensures written { IfOk result (λ len. buffer.new
-        ≡ specs.translated_after header.now prefixes.now identification packet.now ++ drop len buffer.old) }
+        ≡ specs.translation_of header.now prefixes.now identification (specs.message_after header.now packet.now) ++ drop len buffer.old) }
     ensures unchanged { IfErr result (λ _. buffer.new ≡ buffer.old) }
-    ensures alike { IfOk result (λ _. specs.IsAcceptedAlike prefixes.now header.now (specs.message_after header.now packet.now)
-        (specs.translated_message prefixes.now header.now (specs.message_after header.now packet.now))) }
+    ensures alike { IfOk result (λ _. specs.AreAcceptedAlike prefixes.now header.now (specs.message_after header.now packet.now)) }
 {
     let ipv4_header = translated_header(header, prefixes, identification)?;
     let message = message_after(header, packet)?;
+    if is_icmp_error(header.next_header(), message) {
+        return translate_error(message, header, prefixes, identification, buffer);
+    }
+    translate_message(ipv4_header.as_slice(), message, header, prefixes, buffer)
+}
+
+/// Translates a packet with this header and this message, which is no ICMPv6 error. `ipv4_header` is the translated header.
+fn translate_message(
+    ipv4_header: &[u8],
+    message: &[u8],
+    header: &Ipv6HeaderSlice<'_>,
+    prefixes: &Prefixes,
+    buffer: &mut [u8],
+) -> Result<usize, PacketTranslationError>
+    requires len { length ipv4_header.now ≡ 20 }
+    requires counted { length message.now ≤ max_len_over_ipv4 }
+    ensures refused { RefusesExactly result (specs.other_refusal (headers.next_header header.now) message.now (length buffer.old)) }
+    ensures len { IfOk result (λ len. len ≡ 20 + length message.now) }
+    ensures written { IfOk result (λ len. buffer.new
+        ≡ (ipv4_header.now ++ specs.updated_message prefixes.now header.now message.now) ++ drop len buffer.old) }
+    ensures unchanged { IfErr result (λ _. buffer.new ≡ buffer.old) }
+    ensures alike { IfOk result (λ _. specs.IsAcceptedAlike prefixes.now header.now message.now
+        (specs.updated_message prefixes.now header.now message.now)) }
+{
     check_message(header.next_header(), message)?;
     let len = IPV4_LEN + message.len();
-    if buffer.len() < len {
-        return Err(PacketTranslationError::Space {
-            required_len: len,
-            len: buffer.len(),
-        });
-    }
-    write_parts(buffer, ipv4_header.as_slice(), message, header, prefixes);
+    check_space(len, buffer.len())?;
+    write_parts(buffer, ipv4_header, message, header, prefixes);
     Ok(len)
+}
+
+/// Whether a message of this protocol is an ICMPv6 message, but no echo message.
+fn is_icmp_error(protocol: IpNumber, message: &[u8]) -> bool
+    ensures { result ≡ specs.is_icmp_error protocol.0 message.now }
+{
+    protocol.0 == ip_number::IPV6_ICMP.0
+        && ICMP_LEN <= message.len()
+        && type_over_ipv4(message[0]).is_none()
+}
+
+/// Translates a packet with this header and this ICMPv6 error.
+fn translate_error(
+    message: &[u8],
+    header: &Ipv6HeaderSlice<'_>,
+    prefixes: &Prefixes,
+    identification: u16,
+    buffer: &mut [u8],
+) -> Result<usize, PacketTranslationError>
+    requires there { 8 ≤ length message.now }
+    requires counted { length message.now ≤ max_len_over_ipv4 }
+    ensures refused { RefusesExactly result (specs.error_packet_refusal prefixes.now message.now (length buffer.old)) }
+    ensures len { IfOk result (λ len. len ≡ 20 + length (errors.error_without_checksum prefixes.now message.now)) }
+    ensures written { IfOk result (λ len. buffer.new
+        ≡ specs.error_packet header.now prefixes.now identification message.now ++ drop len buffer.old) }
+    ensures unchanged { IfErr result (λ _. buffer.new ≡ buffer.old) }
+    ensures alike { IfOk result (λ _. specs.IsErrorAcceptedAlike prefixes.now header.now message.now) }
+{
+    let error = error_to_ipv4(message, prefixes)?;
+    let len = IPV4_LEN + error.len();
+    check_space(len, buffer.len())?;
+    let time_to_live = header.hop_limit().saturating_sub(1);
+    let ipv4_header = header_with(header, prefixes, identification, len as u16, time_to_live);
+    write_error_parts(
+        buffer,
+        ipv4_header.as_slice(),
+        error.as_slice(),
+        message,
+        header,
+    );
+    Ok(len)
+}
+
+/// Writes an IPv4 header and an ICMP error with its checksum to the front of the buffer. `error` is this error with 0 instead of its checksum.
+fn write_error_parts(
+    buffer: &mut [u8],
+    ipv4_header: &[u8],
+    error: &[u8],
+    message: &[u8],
+    header: &Ipv6HeaderSlice<'_>,
+)
+    requires room { length ipv4_header.now + length error.now ≤ length buffer.old }
+    requires there { 8 ≤ length message.now }
+    requires counted { length message.now ≤ max_len_over_ipv4 }
+    requires error_there { 28 ≤ length error.now }
+    requires some { 0 < slice_index error.now 0 }
+    ensures written { buffer.new ≡ (ipv4_header.now ++ errors.with_new_checksum header.now message.now error.now)
+        ++ drop (length ipv4_header.now + length error.now) buffer.old }
+    ensures alike { specs.IsChecksumAlike header.now message.now error.now }
+{
+    let (front, rest) = buffer.split_at_mut(ipv4_header.len());
+    front.copy_from_slice(ipv4_header);
+    write_error(&mut rest[..error.len()], error, message, header);
+}
+
+/// Writes an ICMP error with its checksum. `error` is this error with 0 instead of its checksum.
+fn write_error(translated: &mut [u8], error: &[u8], message: &[u8], header: &Ipv6HeaderSlice<'_>)
+    requires room { length translated.old ≡ length error.now }
+    requires there { 8 ≤ length message.now }
+    requires counted { length message.now ≤ max_len_over_ipv4 }
+    requires error_there { 28 ≤ length error.now }
+    requires some { 0 < slice_index error.now 0 }
+    ensures written { translated.new ≡ errors.with_new_checksum header.now message.now error.now }
+    ensures alike { specs.IsChecksumAlike header.now message.now error.now }
+{
+    let old = icmpv6_pseudo_header(header.source(), header.destination(), message.len() as u32);
+    translated.copy_from_slice(error);
+    store_changed_checksum(translated, message, old.as_slice(), &[]);
 }
 
 /// The IPv4 header for this IPv6 header.
@@ -132,7 +243,7 @@ fn message_after<'a>(
     Ok(&packet[IPV6_LEN..total_len])
 }
 
-/// Refuses a message of this protocol if the message has no translation.
+/// Refuses a message of this protocol if the message has no translation. The message is no ICMPv6 error.
 fn check_message(protocol: IpNumber, message: &[u8]) -> Result<(), PacketTranslationError>
     ensures refused { RefusesExactly result (specs.message_refusal protocol.0 message.now) }
     ensures udp { IfOk result (λ _. protocol.0 ≡ udp_number → 8 ≤ length message.now) }
@@ -140,7 +251,7 @@ fn check_message(protocol: IpNumber, message: &[u8]) -> Result<(), PacketTransla
     ensures icmp { IfOk result (λ _. protocol.0 ≡ icmpv6_number → 8 ≤ length message.now) }
 {
     if protocol.0 == ip_number::IPV6_ICMP.0 {
-        return check_ipv6_echo(message);
+        return check_header_len(message, ICMP_LEN);
     }
     if protocol.0 == ip_number::UDP.0 {
         return check_udp(message);
@@ -176,17 +287,17 @@ fn write_parts(
     requires tcp { headers.next_header header.now ≡ tcp_number → 20 ≤ length message.now }
     requires icmp { headers.next_header header.now ≡ icmpv6_number → 8 ≤ length message.now }
     requires counted { length message.now ≤ max_len_over_ipv4 }
-    ensures written { buffer.new ≡ (ipv4_header.now ++ specs.translated_message prefixes.now header.now message.now)
+    ensures written { buffer.new ≡ (ipv4_header.now ++ specs.updated_message prefixes.now header.now message.now)
         ++ drop (length ipv4_header.now + length message.now) buffer.old }
-    ensures alike { specs.IsAcceptedAlike prefixes.now header.now message.now (specs.translated_message prefixes.now header.now message.now) }
+    ensures alike { specs.IsAcceptedAlike prefixes.now header.now message.now (specs.updated_message prefixes.now header.now message.now) }
 {
     let (front, rest) = buffer.split_at_mut(ipv4_header.len());
     front.copy_from_slice(ipv4_header);
     write_message(&mut rest[..message.len()], message, header, prefixes);
 }
 
-/// Writes the translation of a message. In UDP and TCP only the checksum changes. An ICMPv6 echo message becomes an ICMP echo message. A
-/// message of any other protocol is unchanged.
+/// Writes the translation of a message that is no ICMPv6 error. In UDP and TCP only the checksum changes. An ICMPv6 echo message becomes an
+/// ICMP echo message. A message of any other protocol is unchanged.
 fn write_message(
     translated: &mut [u8],
     message: &[u8],
@@ -198,7 +309,7 @@ fn write_message(
     requires tcp { headers.next_header header.now ≡ tcp_number → 20 ≤ length message.now }
     requires icmp { headers.next_header header.now ≡ icmpv6_number → 8 ≤ length message.now }
     requires counted { length message.now ≤ max_len_over_ipv4 }
-    ensures written { translated.new ≡ specs.translated_message prefixes.now header.now message.now }
+    ensures written { translated.new ≡ specs.updated_message prefixes.now header.now message.now }
     ensures alike { specs.IsAcceptedAlike prefixes.now header.now message.now translated.new }
 {
     if header.next_header().0 == ip_number::IPV6_ICMP.0 {

@@ -24,22 +24,21 @@ pub enum PacketTranslationError {
         /// The number of bytes that the packet has.
         len: usize,
     },
-    /// An ICMP message with this type and code is not translated. Echo messages are, and over IPv4 the errors for which `icmpv6_error` returns
-    /// a type and a code.
+    /// An ICMP message with this type and code is not translated. Echo messages are, and errors for which `icmpv6_error` or `icmpv4_error`
+    /// returns a type and a code.
     IcmpMessage {
         /// The type of the message.
         type_u8: u8,
         /// The code of the message.
         code_u8: u8,
     },
-    /// An ICMP error contains an extension. This is its length field, which counts words of four bytes of the quoted packet (RFC 4884, section
-    /// 4).
+    /// An ICMP error contains an extension. This is its length field, which counts words of the quoted packet (RFC 4884, section 4).
     IcmpExtension(u8),
-    /// The pointer of an ICMP parameter problem points to this byte of the IPv4 header, which has no place in an IPv6 header.
+    /// The pointer of an ICMP parameter problem points to this byte of the IP header, which has no place in the other version of IP.
     IcmpPointer(u32),
-    /// The packet that an ICMP error quotes does not begin with a whole IPv4 header.
+    /// The packet that an ICMP error quotes does not begin with a whole IP header of the same version.
     NoQuotedHeader,
-    /// The IPv4 header of the packet that an ICMP error quotes has no translation.
+    /// The IP header of the packet that an ICMP error quotes has no translation.
     QuotedHeader(TranslationError),
     /// An ICMP error is about an ICMP message with this type and code, which is no echo message.
     QuotedIcmp {

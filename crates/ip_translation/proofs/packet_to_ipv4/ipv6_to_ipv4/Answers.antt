@@ -1,5 +1,5 @@
-use Rattle.std.proofs.Common.{List, ℕ, Option, length, subst, sym, ap, ◌∙◌}
-use Rattle.std.specs.Prelude.{not}
+use Rattle.std.proofs.Common.{◌≡◌, ◌++◌, drop, List, ℕ, Option, length, subst, sym, ap, ◌∙◌}
+use Rattle.std.specs.Prelude.{IfOk, not}
 use Rattle.net_base.specs.Refusals.{RefusesExactly, refused_if}
 use Rattle.ip_translation.specs.PacketsToIpv4 as specs
 use Rattle.ip_translation.specs.declared.packet_translation_error.PacketTranslationError.TheVariants.{NoIpv6Header}
@@ -18,3 +18,19 @@ returns-clause-refused c =
     (ap (λ begins. refused_if (not begins) NoIpv6Header) c.in-Some.ensures.found.0)
     ∙ ap (λ header. specs.refusal_after header c.args.prefixes.now packet room) (sym c.in-Some.ensures.found.1)))
     c.translate_after.ensures.refused
+
+pub returns-clause-len : goal.returns-clause-len
+returns-clause-len c =
+    subst (λ header. IfOk c.translate_after.result (λ len. len ≡ specs.translated_len header c.args.prefixes.now (specs.message_after header c.args.packet.now)))
+    c.in-Some.ensures.found.1 c.translate_after.ensures.len
+
+pub returns-clause-written : goal.returns-clause-written
+returns-clause-written c =
+    subst (λ header. IfOk c.translate_after.result (λ len. c.translate_after.new.buffer
+    ≡ specs.translation_of header c.args.prefixes.now c.args.identification (specs.message_after header c.args.packet.now) ++ drop len c.args.buffer.now))
+    c.in-Some.ensures.found.1 c.translate_after.ensures.written
+
+pub returns-clause-alike : goal.returns-clause-alike
+returns-clause-alike c =
+    subst (λ header. IfOk c.translate_after.result (λ _. specs.AreAcceptedAlike c.args.prefixes.now header (specs.message_after header c.args.packet.now)))
+    c.in-Some.ensures.found.1 c.translate_after.ensures.alike

@@ -1,0 +1,258 @@
+ghost use Rattle.std.specs.Prelude.{◌≡◌, ◌≤◌, ◌<◌, ◌+◌, IfOk, length, slice_index};
+ghost use Rattle.std.specs.Option.{option_map};
+ghost use Rattle.net_base.specs.IpNumbers.{icmpv6_number, tcp_number, udp_number};
+ghost use Rattle.net_base.specs.Refusals.{RefusesExactly};
+ghost use Rattle.ip_translation.specs.ErrorsToIpv4 as specs;
+ghost use Rattle.ip_translation.specs.HeadersToIpv4 as headers;
+ghost use Rattle.ip_translation.specs.QuotedPackets.{max_quoted_len};
+ghost use Rattle.ip_translation.specs.declared.packet_translation_error.PacketTranslationError.TheVariants.{QuotedHeader};
+
+use crate::echo_translation::{
+    check_quoted_ipv6_echo, icmpv6_pseudo_header, type_over_ipv4, write_echo,
+};
+use crate::ipv4_header_translation::quoted_header_to_ipv4;
+use crate::message_translation::{TCP_CHECKSUM_AT, UDP_LEN, check_header_len};
+use crate::packet_to_ipv4::front_header;
+use crate::quoted_packet::{ERROR_LEN, MAX_ERROR_LEN, MAX_QUOTED_LEN, joined};
+use crate::updated_message::{write_updated_tcp, write_updated_udp};
+use crate::{
+    PacketTranslationError, Prefixes, icmpv4_error, icmpv4_mtu, icmpv4_pointer,
+    pseudo_header_change_to_ipv4,
+};
+use arrayvec::ArrayVec;
+use net_base::{IpNumber, Ipv6HeaderSlice, ip_number};
+
+/// The length of an IPv6 header, in bytes (RFC 8200, section 3).
+const IPV6_LEN: usize = 40;
+
+/// The place of the length of the quoted packet in an ICMPv6 error, in bytes (RFC 4884, section 4).
+const QUOTE_LENGTH_AT: usize = 4;
+
+/// The type of the ICMPv6 message "destination unreachable" (RFC 4443, section 3.1).
+const UNREACHABLE: u8 = 1;
+
+/// The type of the ICMPv6 message "time exceeded" (RFC 4443, section 3.3).
+const TIME_EXCEEDED: u8 = 3;
+
+/// The type of the ICMP message "destination unreachable" (RFC 792).
+const IPV4_UNREACHABLE: u8 = 3;
+
+/// The code of the ICMP message "fragmentation needed" (RFC 792).
+const FRAGMENTATION_NEEDED: u8 = 4;
+
+/// The type of the ICMP message "parameter problem" (RFC 792).
+const IPV4_PARAMETER_PROBLEM: u8 = 12;
+
+/// The ICMP error for an ICMPv6 error, with 0 instead of its checksum.
+pub(crate) fn error_to_ipv4(
+    message: &[u8],
+    prefixes: &Prefixes,
+) -> Result<ArrayVec<u8, MAX_ERROR_LEN>, PacketTranslationError>
+    requires there { 8 ≤ length message.now }
+    ensures refused { RefusesExactly result (specs.error_refusal prefixes.now message.now) }
+    ensures written { IfOk result (λ error. error.items ≡ specs.error_without_checksum prefixes.now message.now) }
+    ensures there { IfOk result (λ error. 28 ≤ length error.items) }
+    ensures some { IfOk result (λ error. 0 < slice_index error.items 0) }
+{
+    let kind = kind_to_ipv4(message)?;
+    let Some(quoted) = front_header(&message[ERROR_LEN..]) else {
+        return Err(PacketTranslationError::NoQuotedHeader);
+    };
+    let exchanged = Prefixes {
+        source: prefixes.destination,
+        destination: prefixes.source,
+    };
+    error_about(&quoted, kind, message, &exchanged)
+}
+
+/// The ICMP type and code of an error. Refuses a message that is dropped, or that has an extension.
+fn kind_to_ipv4(message: &[u8]) -> Result<(u8, u8), PacketTranslationError>
+    requires there { 8 ≤ length message.now }
+    ensures refused { RefusesExactly result (specs.kind_refusal message.now) }
+    ensures kind { IfOk result (λ kind. kind ≡ specs.kind message.now) }
+    ensures some { IfOk result (λ kind. 0 < kind.0) }
+{
+    let Some(kind) = icmpv4_error(message[0], message[1]) else {
+        return Err(PacketTranslationError::IcmpMessage {
+            type_u8: message[0],
+            code_u8: message[1],
+        });
+    };
+    if has_extension(message) {
+        return Err(PacketTranslationError::IcmpExtension(message[QUOTE_LENGTH_AT]));
+    }
+    Ok(kind)
+}
+
+/// Whether an ICMPv6 error has an extension. Only "destination unreachable" and "time exceeded" can have one.
+fn has_extension(message: &[u8]) -> bool
+    requires there { 8 ≤ length message.now }
+    ensures { result ≡ specs.has_extension message.now }
+{
+    (message[0] == UNREACHABLE || message[0] == TIME_EXCEEDED) && message[QUOTE_LENGTH_AT] != 0
+}
+
+/// The ICMP error of this kind about a packet with this header. The prefixes are those of the quoted packet.
+fn error_about(
+    quoted: &Ipv6HeaderSlice<'_>,
+    kind: (u8, u8),
+    message: &[u8],
+    prefixes: &Prefixes,
+) -> Result<ArrayVec<u8, MAX_ERROR_LEN>, PacketTranslationError>
+    requires there { 8 ≤ length message.now }
+    requires some { 0 < kind.0 }
+    ensures refused { RefusesExactly result (specs.refusal_about quoted.now kind prefixes.now message.now) }
+    ensures written { IfOk result (λ error. error.items ≡ specs.error_about quoted.now kind prefixes.now message.now) }
+    ensures there { IfOk result (λ error. 28 ≤ length error.items) }
+    ensures some { IfOk result (λ error. 0 < slice_index error.items 0) }
+{
+    let ipv4_header = quoted_header(quoted, prefixes)?;
+    let bytes = quoted_message(quoted, &message[ERROR_LEN..])?;
+    let word = error_word(kind, message)?;
+    let mut room = [0; MAX_QUOTED_LEN];
+    let translated = &mut room[..bytes.len()];
+    write_quote(translated, bytes, quoted, prefixes);
+    Ok(joined(kind, word, ipv4_header.as_slice(), translated))
+}
+
+/// The IPv4 header for the header of a quoted packet.
+fn quoted_header(
+    quoted: &Ipv6HeaderSlice<'_>,
+    prefixes: &Prefixes,
+) -> Result<ArrayVec<u8, 20>, PacketTranslationError>
+    ensures refused { RefusesExactly result (option_map QuotedHeader (headers.quoted_header_refusal prefixes.now quoted.now)) }
+    ensures written { IfOk result (λ translated. translated.items ≡ headers.quoted_header prefixes.now quoted.now) }
+    ensures len { IfOk result (λ translated. length translated.items ≡ 20) }
+{
+    match quoted_header_to_ipv4(quoted, prefixes) {
+        Ok(translated) => Ok(translated),
+        Err(error) => Err(PacketTranslationError::QuotedHeader(error)),
+    }
+}
+
+/// The bytes of the quoted message that an ICMPv6 error has room for. Refuses a message that is too short, or is no echo message of ICMPv6.
+fn quoted_message<'a>(
+    quoted: &Ipv6HeaderSlice<'_>,
+    quote: &'a [u8],
+) -> Result<&'a [u8], PacketTranslationError>
+    ensures refused { RefusesExactly result (specs.quoted_message_refusal (headers.next_header quoted.now) (specs.quoted_message quoted.now quote.now)) }
+    ensures bytes { IfOk result (λ bytes. bytes.now ≡ specs.quoted_message quoted.now quote.now) }
+    ensures counted { IfOk result (λ bytes. length bytes.now ≤ max_quoted_len) }
+    ensures there { IfOk result (λ bytes. specs.HasQuotedHeader (headers.next_header quoted.now) bytes.now) }
+{
+    let bytes = counted_bytes(quoted, quote);
+    check_quoted_message(quoted.next_header(), bytes)?;
+    Ok(bytes)
+}
+
+/// The bytes of the quoted message, up to the payload length and to the length that an ICMPv6 error has room for.
+fn counted_bytes<'a>(quoted: &Ipv6HeaderSlice<'_>, quote: &'a [u8]) -> &'a [u8]
+    ensures bytes { result.now ≡ specs.quoted_message quoted.now quote.now }
+    ensures counted { length result.now ≤ max_quoted_len }
+{
+    let end = (IPV6_LEN + usize::from(quoted.payload_length())).min(quote.len());
+    let counted = &quote[..end];
+    let start = IPV6_LEN.min(counted.len());
+    let bytes = &counted[start..];
+    let len = MAX_QUOTED_LEN.min(bytes.len());
+    &bytes[..len]
+}
+
+/// Refuses a quoted message that is too short, or is no echo message of ICMPv6.
+fn check_quoted_message(protocol: IpNumber, message: &[u8]) -> Result<(), PacketTranslationError>
+    ensures refused { RefusesExactly result (specs.quoted_message_refusal protocol.0 message.now) }
+    ensures there { IfOk result (λ _. specs.HasQuotedHeader protocol.0 message.now) }
+{
+    if protocol.0 == ip_number::IPV6_ICMP.0 {
+        return check_quoted_ipv6_echo(message);
+    }
+    if protocol.0 == ip_number::UDP.0 || protocol.0 == ip_number::TCP.0 {
+        return check_header_len(message, UDP_LEN);
+    }
+    Ok(())
+}
+
+/// Writes the translation of a quoted message.
+fn write_quote(
+    translated: &mut [u8],
+    message: &[u8],
+    quoted: &Ipv6HeaderSlice<'_>,
+    prefixes: &Prefixes,
+)
+    requires room { length translated.old ≡ length message.now }
+    requires there { specs.HasQuotedHeader (headers.next_header quoted.now) message.now }
+    ensures { translated.new ≡ specs.translated_quote prefixes.now quoted.now message.now }
+{
+    if quoted.next_header().0 == ip_number::IPV6_ICMP.0 {
+        write_quoted_icmp(translated, message, quoted);
+        return;
+    }
+    if quoted.next_header().0 == ip_number::UDP.0 {
+        let change = pseudo_header_change_to_ipv4(quoted, prefixes);
+        write_updated_udp(translated, message, change);
+        return;
+    }
+    if quoted.next_header().0 == ip_number::TCP.0 {
+        write_quoted_tcp(translated, message, quoted, prefixes);
+        return;
+    }
+    translated.copy_from_slice(message);
+}
+
+/// Writes a quoted TCP segment. Its checksum is updated if it is there.
+fn write_quoted_tcp(
+    translated: &mut [u8],
+    message: &[u8],
+    quoted: &Ipv6HeaderSlice<'_>,
+    prefixes: &Prefixes,
+)
+    requires room { length translated.old ≡ length message.now }
+    ensures { translated.new ≡ specs.quoted_tcp prefixes.now quoted.now message.now }
+{
+    if message.len() < TCP_CHECKSUM_AT + 2 {
+        translated.copy_from_slice(message);
+        return;
+    }
+    let change = pseudo_header_change_to_ipv4(quoted, prefixes);
+    write_updated_tcp(translated, message, change);
+}
+
+/// Writes a quoted echo message. Its old pseudo header contains the length of the whole message.
+fn write_quoted_icmp(translated: &mut [u8], message: &[u8], quoted: &Ipv6HeaderSlice<'_>)
+    requires room { length translated.old ≡ length message.now }
+    requires there { 8 ≤ length message.now }
+    ensures { translated.new ≡ specs.quoted_icmp quoted.now message.now }
+{
+    let type_u8 = type_over_ipv4(message[0]).unwrap_or(message[0]);
+    let len = u32::from(quoted.payload_length());
+    let old = icmpv6_pseudo_header(quoted.source(), quoted.destination(), len);
+    write_echo(translated, message, type_u8, old.as_slice(), &[]);
+}
+
+/// The four bytes after the checksum of the ICMP error.
+fn error_word(kind: (u8, u8), message: &[u8]) -> Result<[u8; 4], PacketTranslationError>
+    requires there { 8 ≤ length message.now }
+    ensures refused { RefusesExactly result (specs.pointer_refusal kind message.now) }
+    ensures word { IfOk result (λ word. word ≡ specs.word kind message.now) }
+{
+    let number = number_of(message);
+    if kind.0 == IPV4_PARAMETER_PROBLEM {
+        return match icmpv4_pointer(number) {
+            Some(pointer) => Ok([pointer, 0, 0, 0]),
+            None => Err(PacketTranslationError::IcmpPointer(number)),
+        };
+    }
+    if kind.0 == IPV4_UNREACHABLE && kind.1 == FRAGMENTATION_NEEDED {
+        let [high, low] = icmpv4_mtu(number).to_be_bytes();
+        return Ok([0, 0, high, low]);
+    }
+    Ok([0; 4])
+}
+
+/// The number after the checksum of an ICMPv6 error: the pointer of a parameter problem, or the MTU of "packet too big".
+fn number_of(message: &[u8]) -> u32
+    requires there { 8 ≤ length message.now }
+    ensures { result ≡ specs.number_of message.now }
+{
+    u32::from_be_bytes([message[4], message[5], message[6], message[7]])
+}
