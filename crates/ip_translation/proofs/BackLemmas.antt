@@ -1,11 +1,11 @@
 -- A message that is translated and translated back is the same message.
-use Rattle.std.proofs.Common.{◌≡◌, ◌≢◌, ℕ, ◌+◌, ◌-◌, ◌<◌, ◌≤◌, ◌==◌, Bool, true, false, if◌then◌else◌, List, [], ◌∷◌, ◌++◌, length, take, drop, slice_range, length-append, refl, sym, ap, ap₂, ◌∙◌, arith}
+use Rattle.std.proofs.Common.{◌≡◌, ◌≢◌, ℕ, ◌+◌, ◌<◌, ◌≤◌, ◌==◌, Bool, true, false, if◌then◌else◌, List, [], ◌∷◌, ◌++◌, length, take, drop, slice_range, length-append, refl, sym, ap, ap₂, ◌∙◌, arith}
 use Rattle.std.proofs.lemmas.List.{append_assoc, drop_at, length-take-le, take_all, take_at}
 use Rattle.std.specs.Int.{to_be_bytes, w16}
 use Rattle.net_base.specs.Bytes.{IsBytes, be_number}
 use Rattle.net_base.specs.StoredChecksum.{with_checksum}
 use Rattle.net_base.proofs.StoredChecksumLemmas.{stored_checksum, with_checksum-stored}
-use Rattle.word_sum.specs.Checksum.{all_ones, checksum_of, complement, folded}
+use Rattle.word_sum.specs.Checksum.{all_ones, complement, folded}
 use Rattle.word_sum.specs.UpdatedChecksum.{updated_checksum_of, updated_udp_checksum_of}
 use Rattle.word_sum.proofs.ChecksumChangeLemmas.{updated_reversed_iff, updated_udp_reversed}
 use Rattle.ip_translation.specs.HeadersToIpv6.{ipv6_header}

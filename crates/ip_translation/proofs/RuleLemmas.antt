@@ -1,5 +1,5 @@
 -- Laws of the rules of a packet.
-use Rattle.std.proofs.Common.{◌≡◌, List, [], ◌∷◌, Option, Some, None, refl, arith}
+use Rattle.std.proofs.Common.{◌≡◌, [], ◌∷◌, Option, Some, None, refl, arith}
 use Rattle.net_base.specs.Refusals.{first_of}
 
 -- the first two rules do not refuse

@@ -1,4 +1,4 @@
-ghost use Rattle.std.specs.Prelude.{◌≡◌, ◌≢◌, ◌≤◌, ◌+◌, ◌%◌, ◌↔◌, ℕ, length};
+ghost use Rattle.std.specs.Prelude.{◌≡◌, ◌≢◌, ◌≤◌, ◌+◌, ◌%◌, ◌↔◌, length};
 ghost use Rattle.net_base.specs.StoredChecksum.{icmp_checksum_place, with_checksum};
 ghost use Rattle.word_sum.specs.Checksum.{Verifies, total};
 ghost use Rattle.ip_translation.specs.EchoMessages as specs;

@@ -1,13 +1,9 @@
-ghost use Rattle.std.specs.Prelude.{◌≡◌, ◌≤◌, ◌<◌, ◌+◌, IfOk, MatchOption, drop, false, length, true};
+ghost use Rattle.std.specs.Prelude.{◌≡◌, ◌≤◌, IfOk, length};
 ghost use Rattle.std.specs.Option.{option_map};
-ghost use Rattle.ip_part.specs.Ip.{ipv4_header};
 ghost use Rattle.net_base.specs.IpHeaders.{ipv4_header_len};
-ghost use Rattle.net_base.specs.IpNumbers.{icmpv4_number, tcp_number, udp_number};
-ghost use Rattle.net_base.specs.PseudoHeader.{max_len_over_ipv4};
 ghost use Rattle.net_base.specs.Refusals.{RefusesExactly};
 ghost use Rattle.ip_translation.specs.ErrorsToIpv6 as specs;
 ghost use Rattle.ip_translation.specs.HeadersToIpv6 as headers;
-ghost use Rattle.ip_translation.specs.Ipv4Packets as packets;
 ghost use Rattle.ip_translation.specs.QuotedPackets.{max_quoted_len};
 ghost use Rattle.ip_translation.specs.declared.packet_translation_error.PacketTranslationError.TheVariants.{QuotedHeader};
 

@@ -1,4 +1,4 @@
-ghost use Rattle.std.specs.Prelude.{◌≡◌, ◌≤◌, ◌<◌, ◌-◌, ◌+◌, ℕ, IfOk, length, slice_index};
+ghost use Rattle.std.specs.Prelude.{◌≡◌, ◌≤◌, ◌<◌, ◌+◌, ℕ, IfOk, length, slice_index};
 ghost use Rattle.net_base.specs.IpHeaders.{ipv4_header_len};
 ghost use Rattle.net_base.specs.PseudoHeader.{max_len_over_ipv4};
 ghost use Rattle.net_base.specs.Refusals.{RefusesExactly};

@@ -3,7 +3,6 @@ ghost use Rattle.net_base.specs.Refusals.{RefusesExactly};
 ghost use Rattle.word_sum.specs.Checksum.{Verifies, checksum_of, total};
 ghost use Rattle.word_sum.specs.ChecksumChange.{added_value, removed_value};
 ghost use Rattle.ip_translation.specs.HeadersToIpv4 as specs;
-ghost use Rattle.ip_translation.specs.Prefixes.{extracted};
 ghost use Rattle.ip_translation.specs.PseudoHeaders.{AreTurned};
 
 use crate::header_translation::is_illegal;

@@ -1,4 +1,4 @@
-use Rattle.std.proofs.Common.{◌≡◌, ◌≢◌, List, ℕ, sym, ◌∙◌, arith}
+use Rattle.std.proofs.Common.{◌≢◌, List, ℕ, sym, ◌∙◌, arith}
 use Rattle.ip_translation.specs.ErrorsToIpv4 as specs
 use Rattle.ip_translation.specs.HeadersToIpv4.{next_header}
 use Rattle.ip_translation.proofs.ErrorLemmas.{no_protocol}

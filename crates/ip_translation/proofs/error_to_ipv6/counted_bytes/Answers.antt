@@ -1,4 +1,4 @@
-use Rattle.std.proofs.Common.{◌≡◌, ◌-◌, ◌*◌, min, List, ℕ, length, drop, take, rules, ap, ◌∙◌}
+use Rattle.std.proofs.Common.{◌≡◌, ◌-◌, min, List, ℕ, length, drop, take, rules, ap, ◌∙◌}
 use Rattle.std.proofs.lemmas.List.{drop_min, take_min}
 use Rattle.net_base.specs.IpHeaders.{ipv4_header_len}
 use Rattle.ip_translation.specs.HeadersToIpv6.{total_len}

@@ -1,4 +1,4 @@
-use Rattle.std.proofs.Common.{◌≡◌, ◌≢◌, List, ℕ, sym, ◌∙◌, arith}
+use Rattle.std.proofs.Common.{◌≢◌, List, ℕ, sym, ◌∙◌, arith}
 use Rattle.ip_translation.specs.ErrorsToIpv6 as specs
 use Rattle.ip_translation.specs.HeadersToIpv6.{protocol}
 use Rattle.ip_translation.proofs.ErrorLemmas.{no_protocol}

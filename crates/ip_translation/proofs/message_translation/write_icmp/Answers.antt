@@ -1,4 +1,4 @@
-use Rattle.std.proofs.Common.{◌≡◌, ◌⊎◌, ◌<◌, List, [], ℕ, length, inr, rules, subst, ap₂, ap, ◌∙◌, arith}
+use Rattle.std.proofs.Common.{◌≡◌, ◌<◌, List, [], ℕ, length, inr, rules, subst, arith}
 use Rattle.std.specs.Prelude.{◌↔◌}
 use Rattle.net_base.specs.IpNumbers.{icmpv6_number}
 use Rattle.word_sum.specs.Checksum.{Verifies, total}

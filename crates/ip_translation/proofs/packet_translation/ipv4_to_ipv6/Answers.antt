@@ -1,4 +1,4 @@
-use Rattle.std.proofs.Common.{◌≡◌, ◌++◌, drop, List, ℕ, Option, length, subst, sym, ap, ◌∙◌}
+use Rattle.std.proofs.Common.{◌≡◌, ◌++◌, drop, List, ℕ, length, subst, sym, ap, ◌∙◌}
 use Rattle.std.specs.Prelude.{IfOk, not}
 use Rattle.net_base.specs.Refusals.{RefusesExactly, refused_if}
 use Rattle.ip_translation.specs.PacketsToIpv6 as specs
