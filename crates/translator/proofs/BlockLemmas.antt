@@ -1,5 +1,5 @@
 -- The blocks of a pcapng file as parts.
-use Rattle.std.proofs.Common.{◌≡◌, ◌≢◌, ◌≤◌, ◌<◌, ◌+◌, ◌-◌, ◌++◌, ◌∙◌, ◌⊎◌, ℕ, Bool, List, Option, Result, Some, None, Ok, Err, [], ap, append_assoc, append-nil, arith, drop, inl, inr, length, length-append, min, refl, slice_range, subst, sym, take, ⊎_elim}
+use Rattle.std.proofs.Common.{◌≡◌, ◌≢◌, ◌≤◌, ◌<◌, ◌+◌, ◌-◌, ◌++◌, ◌∙◌, ◌⊎◌, ℕ, List, Option, Result, Some, None, Ok, Err, [], ap, append_assoc, append-nil, arith, drop, inl, inr, length, length-append, min, refl, slice_range, subst, sym, take, ⊎_elim}
 use Rattle.std.proofs.KnownBytes.{Appends-trans, Consumes-trans, Appends-nil, Consumes-nil}
 use Rattle.std.proofs.lemmas.Bool.{cases_lt}
 use Rattle.std.proofs.lemmas.Bool.Decides.{nat_tests}

@@ -1,5 +1,5 @@
 -- Addresses that differ get new addresses that differ, if no replacements can merge them.
-use Rattle.std.proofs.Common.{◌≡◌, ◌∙◌, ◌+◌, ◌/◌, ◌||◌, ◌&&◌, ◌==◌, ◌⊎◌, ℕ, Bool, List, [], ◌∷◌, None, Option, Some, ap, ap₂, arith, bit_and, bit_or, false, inl, inr, not, refl, subst, sym, true, unwrap_or, ⊎_elim}
+use Rattle.std.proofs.Common.{◌≡◌, ◌∙◌, ◌/◌, ◌||◌, ◌&&◌, ◌==◌, ℕ, Bool, List, [], ◌∷◌, None, Option, Some, ap, ap₂, arith, bit_and, bit_or, false, not, refl, subst, sym, true, unwrap_or, ⊎_elim}
 use Rattle.std.proofs.lemmas.Bool.Decides.{nat_tests}
 use Rattle.std.proofs.lemmas.Nat.{and_assoc, and_or_apart, or_comm, or_shr}
 use Rattle.std.specs.Prelude.{cond}
@@ -7,7 +7,7 @@ use Rattle.std.specs.List.{find, list_any}
 use Rattle.std.specs.Option.{option_map}
 use lib.Arith.{bin_ind}
 use lib.Bits.{and_self, and_zero_r, or_add_and, or_step}
-use Rattle.translator.specs.Merging.{AreApart, IsReplaced, KeepsApart, any_meet, can_merge, has_host_bits, is_narrower, is_same_network, meet, merges_addresses, overlap}
+use Rattle.translator.specs.Merging.{AreApart, KeepsApart, any_meet, can_merge, has_host_bits, is_narrower, is_same_network, meet, merges_addresses, overlap}
 use Rattle.translator.specs.Replacements.{in_network, is_in, new_address}
 use Rattle.translator.specs.declared.network.Network.{Network}
 use Rattle.translator.specs.declared.replacements.NetworkReplacement.{NetworkReplacement}

@@ -1,6 +1,6 @@
 -- The blocks of a pcapng file as parts (draft-ietf-opsawg-pcapng, section 3.1). The buffer has room for `max_packet_len` bytes. If a block
 -- is longer, its bytes that do not fit in the buffer are copied.
-use Rattle.std.specs.Prelude.{◌≡◌, ◌≢◌, ◌+◌, ◌-◌, ◌<◌, ◌≤◌, ◌++◌, ◌⊎◌, ◌==◌, ℕ, Bool, if◌then◌else◌, List, [], drop, length, min, slice_range, take, Option, Some, None, Result, Ok, Err}
+use Rattle.std.specs.Prelude.{◌≡◌, ◌≢◌, ◌+◌, ◌-◌, ◌<◌, ◌≤◌, ◌++◌, ◌⊎◌, ◌==◌, ℕ, if◌then◌else◌, List, [], drop, length, min, slice_range, take, Option, Some, None, Result, Ok, Err}
 use Rattle.std.specs.Io.KnownBytes.{Appends, Consumes}
 use Rattle.capture_file.specs.Packets.{IsWithin}
 use Rattle.capture_file.specs.Pcapng.{IsBlock, block_header, block_header_refusal, block_len, block_refusal}

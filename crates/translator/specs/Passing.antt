@@ -1,5 +1,5 @@
 -- What the program copies: a part is a record of a classic capture, or a block of a pcapng file.
-use Rattle.std.specs.Prelude.{◌≡◌, ◌⊎◌, ℕ, Bool, ⊤, Option, List, Result, Ok, Err}
+use Rattle.std.specs.Prelude.{◌≡◌, ◌⊎◌, ℕ, ⊤, Option, List, Result, Ok, Err}
 use Rattle.std.specs.Io.KnownBytes.{IsAtEnd}
 use Rattle.capture_copy.specs.Copies.{Copies, CopiesFront}
 use Rattle.capture_copy.specs.Passing as copier

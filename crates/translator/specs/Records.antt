@@ -1,5 +1,5 @@
 -- The records of a classic capture as parts (draft-ietf-opsawg-pcap, section 5).
-use Rattle.std.specs.Prelude.{◌≡◌, ◌<◌, ◌≤◌, ◌++◌, ◌⊎◌, ℕ, Bool, List, drop, length, take, Some, None, Result, Err}
+use Rattle.std.specs.Prelude.{◌≡◌, ◌<◌, ◌≤◌, ◌++◌, ◌⊎◌, ℕ, List, drop, length, take, Some, None, Result, Err}
 use Rattle.capture_file.specs.Classic.{IsRecord, record_header, record_header_len, record_len}
 use Rattle.capture_file.specs.Packets.{offset_after_record}
 use Rattle.capture_file.specs.declared.classic.capture_header.CaptureHeader.{CaptureHeader}

@@ -1,4 +1,4 @@
-use Rattle.std.proofs.Common.{◌∙◌, ap, ap₂, map, rules, string_bytes}
+use Rattle.std.proofs.Common.{◌∙◌, ap, ap₂, map, string_bytes}
 use Rattle.std.specs.Option.{option_map}
 use Rattle.clap.specs.Words.{app_of}
 use Rattle.translator.specs.CommandLine.{capture_name}
