@@ -51,7 +51,7 @@ TranslatesIp table packet after (Ok true) =
 TranslatesIp table packet after (Ok false) = (reason_of table packet ≡ None) × (is_nothing table packet ≡ true) × (after ≡ packet)
 TranslatesIp table packet after (Err reason) = (reason_of table packet ≡ Some reason) × (after ≡ packet)
 
--- the same, where the outcome also states the IP version of the packet
+-- the same, with an outcome that also states the IP version of the packet
 abbrev pub TranslatesPacket : Table → List ℕ → List ℕ → Result Done Reason → Type 0
 TranslatesPacket table packet after (Ok done) =
     (applies : Bool) × (done ≡ done_with (version packet == 6) applies) × TranslatesIp table packet after (Ok applies)
