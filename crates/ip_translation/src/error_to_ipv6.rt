@@ -32,7 +32,7 @@ const QUOTE_LENGTH_AT: usize = 5;
 const MTU_AT: usize = 6;
 
 /// The type of the ICMPv6 message "packet too big" (RFC 4443, section 3.2).
-const PACKET_TOO_BIG: u8 = 2;
+const TOO_BIG: u8 = 2;
 
 /// The type of the ICMPv6 message "parameter problem" (RFC 4443, section 3.4).
 const PARAMETER_PROBLEM: u8 = 4;
@@ -232,7 +232,7 @@ fn error_word(kind: (u8, u8), message: &[u8], total_len: u16) -> Result<u32, Pac
     ensures refused { RefusesExactly result (specs.pointer_refusal kind message.now) }
     ensures word { IfOk result (λ word. word ≡ specs.word kind message.now total_len) }
 {
-    if kind.0 == PACKET_TOO_BIG {
+    if kind.0 == TOO_BIG {
         return Ok(icmpv6_mtu(number(message, MTU_AT), total_len));
     }
     if kind.0 != PARAMETER_PROBLEM {
