@@ -1,5 +1,5 @@
 -- The file to which the packets of a capture are written instead of a report.
-use Rattle.std.specs.Prelude.{◌≡◌, ℕ, ◌==◌, ◌&&◌, ◌++◌, Bool, false, IfOk, IsOk, List, [], ◌∷◌, codes, decimal, Option, Some, Result, Ok, Err}
+use Rattle.std.specs.Prelude.{◌≡◌, ℕ, ◌++◌, IfOk, IsOk, List, [], ◌∷◌, codes, decimal, Option, Some, Result, Ok, Err}
 use Rattle.std.specs.Io.KnownBytes.{Keeps}
 use Rattle.std.specs.declared.io.Error.{Error}
 use Rattle.capture_request.specs.Endings.{exit_status}
@@ -13,12 +13,6 @@ use Rattle.capture_selection.specs.Captures.{SelectsCapture}
 use Rattle.capture_selection.specs.declared.counts.Counts.{Counts}
 use Rattle.capture_selection.specs.declared.selection_error.SelectionError.{SelectionError}
 use Rattle.capture_selection.specs.declared.selection_error.SelectionError.TheVariants.{Capture, Write}
-use Rattle.capture_report.specs.declared.input.FileId.{FileId}
-
--- two files are the same file: the numbers of both files are known, and are equal
-abbrev pub is_same_file : Option FileId → Option FileId → Bool
-is_same_file (Some file) (Some other) = file.device == other.device && file.number == other.number
-is_same_file file other = false
 
 -- ---- exit statuses
 

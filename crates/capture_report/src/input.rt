@@ -1,14 +1,13 @@
 //! The input from which a capture is read.
 
 ghost use Rattle.std.specs.Prelude.{◌≡◌, IfOk};
-ghost use Rattle.capture_report.specs.Inputs.{IsFileLen, IsRequestedBy, is_escaped};
-ghost use Rattle.capture_report.specs.Outputs.{is_same_file};
+ghost use Rattle.capture_report.specs.Inputs.{ComparesFiles, IsFileLen, IsIdOf, IsRequestedBy, is_escaped, is_same_file};
 
+use crate::file_id::FileId;
+use crate::file_system::FileSystem;
 use capture_request::STANDARD_INPUT;
-use std::fs::{File, Metadata};
+use std::io;
 use std::io::{ErrorKind, Read, Stdin};
-use std::os::unix::fs::MetadataExt;
-use std::{fs, io};
 
 /// The name of the file that is standard input, on Linux.
 const STANDARD_INPUT_FILE: &str = "/dev/stdin";
@@ -18,73 +17,56 @@ const NOT_UTF8: &str = "The name is not UTF-8, and no file is opened by such a n
 
 /// The input from which a capture is read.
 #[derive(Drop)]
-pub enum Input {
+pub enum Input<F> {
     /// Standard input.
     Standard(Stdin),
     /// A file.
-    File(File),
+    File(F),
 }
 
-impl Input {
-    /// Opens the file with this name, or standard input if the name is `-`.
-    ///
-    /// # Errors
-    ///
-    /// The error of the operating system if the file can't be opened, and `InvalidFilename` if the name is escaped because it is not UTF-8.
-    /// A file can be opened only if its name is UTF-8.
-    pub fn open(rt: &HostRuntime, name: &str) -> io::Result<Input>
-        ensures { IfOk result (IsRequestedBy name.now) }
-    {
-        if name == STANDARD_INPUT {
-            return Ok(Input::Standard(rt.stdin()));
-        }
-        if is_escaped(name) {
-            return Err(io::Error::new(ErrorKind::InvalidFilename, NOT_UTF8));
-        }
-        Ok(Input::File(File::open(rt, name)?))
+/// Opens the file with this name, or standard input if the name is `-`.
+///
+/// # Errors
+///
+/// The error of the operating system if the file can't be opened, and `InvalidFilename` if the name is escaped because it is not UTF-8. A
+/// file can be opened only if its name is UTF-8.
+pub fn open_input<S: FileSystem>(system: &S, name: &str) -> io::Result<Input<S::File>>
+    ensures { IfOk result (IsRequestedBy (S.opens system.now) name.now) }
+{
+    if name == STANDARD_INPUT {
+        return Ok(Input::Standard(system.stdin()));
     }
-
-    /// Returns the length of a file in bytes. It is 0 for standard input, and if the operating system does not report a length.
-    pub fn len(&self) -> u64
-        ensures { IsFileLen self.now result }
-    {
-        let Input::File(file) = self else {
-            return 0;
-        };
-        match file.metadata() {
-            Ok(metadata) => metadata.len(),
-            Err(_) => 0,
-        }
+    if is_escaped(name) {
+        return Err(io::Error::new(ErrorKind::InvalidFilename, NOT_UTF8));
     }
+    Ok(Input::File(system.open_file(name)?))
+}
 
-    /// Whether this input is the file with this name. The numbers of the devices and of the files are compared. If they can't be read, the
-    /// result is `false`.
-    pub fn is_named(&self, rt: &HostRuntime, name: &str) -> bool {
-        let metadata = match self {
-            Input::Standard(_) => fs::metadata(rt, STANDARD_INPUT_FILE),
-            Input::File(file) => file.metadata(),
-        };
-        is_same_file(FileId::of(metadata), FileId::of(fs::metadata(rt, name)))
+/// Returns the length of a file in bytes. It is 0 for standard input, and if the operating system does not report a length.
+pub fn len_of<S: FileSystem>(system: &S, input: &Input<S::File>) -> u64
+    ensures { IsFileLen input.now result }
+{
+    match input {
+        Input::Standard(_) => 0,
+        Input::File(file) => system.len(file),
     }
 }
 
-/// The number of a device, and the number of a file on it. Together they identify the file.
-#[derive(Clone, Copy)]
-pub struct FileId {
-    /// The number of the device that contains the file.
-    pub device: u64,
-    /// The number of the file on the device.
-    pub number: u64,
+/// Whether an input is the file with this name. The numbers of the devices and of the files are compared. If they can't be read, the result
+/// is `false`.
+pub fn is_named<S: FileSystem>(system: &S, input: &Input<S::File>, name: &str) -> bool
+    ensures { ComparesFiles (S.identifies system.now) (S.identifies_open system.now) input.now name.now result }
+{
+    is_same_file(id_of(system, input), system.id(name))
 }
 
-impl FileId {
-    /// Returns the numbers in the metadata of a file, or `None` if the metadata could not be read.
-    fn of(told: io::Result<Metadata>) -> Option<FileId> {
-        let metadata = told.ok()?;
-        Some(FileId {
-            device: metadata.dev(),
-            number: metadata.ino(),
-        })
+/// The numbers of the file from which an input is read, or `None` if they can't be read.
+fn id_of<S: FileSystem>(system: &S, input: &Input<S::File>) -> Option<FileId>
+    ensures { IsIdOf (S.identifies system.now) (S.identifies_open system.now) input.now result }
+{
+    match input {
+        Input::Standard(_) => system.id(STANDARD_INPUT_FILE),
+        Input::File(file) => system.id_of_open(file),
     }
 }
 
@@ -105,7 +87,7 @@ fn is_escaped(name: &str) -> bool
     matches!(name.as_bytes(), [0, ..])
 }
 
-impl Read for Input {
+impl<F: Read> Read for Input<F> {
     fn read(&mut self, buffer: &mut [u8]) -> io::Result<usize> {
         match self {
             Input::Standard(stdin) => stdin.read(buffer),

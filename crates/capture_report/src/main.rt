@@ -10,19 +10,26 @@
 //! ```
 #![tactic(auto)]
 
-ghost use Rattle.std.specs.Prelude.{◌≡◌, ◌-◌, ◌^◌, IfOk, IsOk, IsTrue, Ok, option_map, string_bytes};
+ghost use Rattle.std.specs.Prelude.{◌≡◌, ◌-◌, ◌^◌, IfOk, IsOk, IsTrue, Ok, map, option_map, string_bytes};
 ghost use Rattle.std.specs.IoError.{error_kind};
 ghost use Rattle.clap.specs.Words.{kind_of};
 ghost use Rattle.capture_request.specs.ErrorLines.{IsOneLine, IsOpenErrorLine, WritesSome};
+ghost use Rattle.capture_request.specs.ExitStatuses.{exit_number};
 ghost use Rattle.capture_request.specs.Names.{shown_name};
 ghost use Rattle.capture_report.specs.Failures.{failure_number, write_failure_number};
 ghost use Rattle.capture_report.specs.Outputs.{AreErrorLines, AreSelectionLines, FailsFirst, IsStatusOf, WritesSelection, counts_line, written_status};
 ghost use Rattle.capture_report.specs.Progress.{inner_of, next_of};
 ghost use Rattle.capture_arguments.specs.Rejections.{answer_number};
+ghost use Rattle.capture_run.specs.Captures.{Gives, IsRun, WritesRun};
 
+mod computer;
+mod file_id;
+mod file_system;
+mod filters;
 mod input;
 mod new_file;
 mod progress;
+mod task;
 
 use capture_arguments::{
     Options, OwnArguments, no_capture, output_is_capture, requested_options, words_of,
@@ -33,7 +40,10 @@ use capture_request::{
 };
 use capture_run::{Open, Outputs, Sources, WriteError, run};
 use capture_selection::{Copier, Counts, SelectionError, write_selected};
-use input::Input;
+use computer::Computer;
+use file_system::FileSystem;
+use filters::missing_filter;
+use input::{Input, is_named, len_of, open_input};
 use new_file::NewFile;
 use progress::{Progress, is_shown};
 use std::alloc::{AllocError, Global};
@@ -42,6 +52,7 @@ use std::io;
 use std::io::{BufReader, BufWriter, ErrorKind, IsTerminal, LineWriter, Read, Write};
 use std::process::ExitCode;
 use streams::{new_buffer, write_whole};
+use task::{Task, first_name, task_of};
 
 /// The size of the input buffer of a capture and of the buffer of standard output, in bytes.
 const BUFFER_LEN: usize = 1 << 16;
@@ -77,18 +88,26 @@ fn status(rt: &HostRuntime) -> io::Result<u8> {
         Ok(options) => options,
         Err(error) => return answer(rt, error),
     };
-    if options.files.is_empty() && rt.stdin().is_terminal() {
-        return answer(rt, no_capture(&rt.alloc()));
+    if let Some((name, error)) = missing_filter(&Computer { rt }, options.files.as_slice()) {
+        let status = ExitStatus::NoCapture;
+        return unopened(&mut rt.stderr(), rt.alloc(), name, &error, status);
     }
-    if let Some(name) = options.write {
-        return write_to(rt, &options, name);
+    match task_of(
+        &options,
+        rt.stdin().is_terminal(),
+        rt.stdout().is_terminal(),
+    ) {
+        Task::Refuse => answer(rt, no_capture(&rt.alloc())),
+        Task::Write(name) => write_to(rt, &options, name),
+        Task::ReportByLine => {
+            let output = LineWriter::with_capacity(rt.alloc(), BUFFER_LEN, rt.stdout())?;
+            report_to(rt, &options, output)
+        }
+        Task::Report => {
+            let output = BufWriter::with_capacity(rt.alloc(), BUFFER_LEN, rt.stdout())?;
+            report_to(rt, &options, output)
+        }
     }
-    if options.line_buffered || rt.stdout().is_terminal() {
-        let output = LineWriter::with_capacity(rt.alloc(), BUFFER_LEN, rt.stdout())?;
-        return report_to(rt, &options, output);
-    }
-    let output = BufWriter::with_capacity(rt.alloc(), BUFFER_LEN, rt.stdout())?;
-    report_to(rt, &options, output)
 }
 
 /// Writes the error in the arguments, or the text that they request, and returns the exit status.
@@ -102,7 +121,7 @@ fn answer(rt: &HostRuntime, error: clap::Error) -> io::Result<u8>
     Ok(error.exit_code() as u8)
 }
 
-/// Reports all captures, and returns the exit status.
+/// Reports all captures to standard output, and returns the exit status.
 fn report_to<W: Write + Drop>(
     rt: &HostRuntime,
     options: &Options<'_>,
@@ -112,11 +131,8 @@ fn report_to<W: Write + Drop>(
     let lines_on_terminal = rt.stdout().is_terminal() && options.parts.lines != Lines::None;
     let files = Files {
         rt,
+        system: &Computer { rt },
         lines_on_terminal,
-    };
-    let sources = Sources {
-        names: options.files.as_slice(),
-        opener: &files,
     };
     let mut outputs = Outputs {
         alloc: rt.alloc(),
@@ -128,61 +144,100 @@ fn report_to<W: Write + Drop>(
         return Ok(write_failure(rt, &WriteError::NoMemory));
     };
     let buffer = bytes.as_mut_slice().as_mut_array().unwrap();
-    match run(&sources, options.parts, state, buffer, &mut outputs) {
+    match report(options, &files, state, buffer, &mut outputs) {
         Ok(status) => Ok(status.number()),
         Err(error) => Ok(write_failure(rt, &error)),
     }
 }
 
+/// Reports the captures that the options name, in their order, and returns the exit status. The report has the parts that the options
+/// request. `state` provides the keys for hashing flows. Packets are read into `buffer`.
+///
+/// # Errors
+///
+/// `Write` if writing fails, and `NoMemory` if no memory is left, as `run` states.
+fn report<O: Open, W: Write, E: Write>(
+    options: &Options<'_>,
+    opener: &O,
+    state: RandomState,
+    buffer: &mut [u8; MAX_PACKET_LEN],
+    outputs: &mut Outputs<W, E>,
+) -> Result<ExitStatus, WriteError>
+    ensures { IfOk result (λ status. WritesRun (W.contents outputs.old.report) (W.contents outputs.new.report)
+        (E.contents outputs.old.errors) (E.contents outputs.new.errors)
+        (IsRun (Gives (O.misses opener.now) (O.opens opener.now) O.Input.remaining) options.now.parts
+        (map (λ name. name.now) options.now.files.items) status)) }
+{
+    let sources = Sources {
+        names: options.files.as_slice(),
+        opener,
+    };
+    run(&sources, options.parts, state, buffer, outputs)
+}
+
 /// Writes the packets of the capture to the file with this name, or to standard output, and returns the exit status. The file is created
 /// when its first byte is written. So it is created only if the beginning of the capture was accepted.
 fn write_to(rt: &HostRuntime, options: &Options<'_>, name: &str) -> io::Result<u8> {
-    let capture = options.files.as_slice().first().copied();
-    let input = match Input::open(rt, capture.unwrap_or(STANDARD_INPUT)) {
+    let system = Computer { rt };
+    let capture = first_name(options);
+    let input = match open_input(&system, capture.unwrap_or(STANDARD_INPUT)) {
         Ok(input) => input,
         Err(error) => {
             let name = capture.unwrap_or(STANDARD_INPUT);
-            return unopened(&mut rt.stderr(), rt.alloc(), name, &error);
+            return unopened(
+                &mut rt.stderr(),
+                rt.alloc(),
+                name,
+                &error,
+                ExitStatus::Failed,
+            );
         }
     };
     if name == STANDARD_INPUT {
-        let input = with_progress(rt, input, rt.stdout().is_terminal());
+        let input = with_progress(rt, &system, input, rt.stdout().is_terminal());
         return write_packets(rt, &options.parts, capture, input, rt.stdout());
     }
-    if input.is_named(rt, name) {
+    if is_named(&system, &input, name) {
         return answer(rt, output_is_capture(&rt.alloc()));
     }
     let mut output = NewFile::new(rt, name);
-    let input = with_progress(rt, input, false);
+    let input = with_progress(rt, &system, input, false);
     match write_packets(rt, &options.parts, capture, input, &mut output) {
         Err(error) if output.is_refused() => {
-            unopened(&mut rt.stderr(), rt.alloc(), name, &error)
+            unopened(
+                &mut rt.stderr(),
+                rt.alloc(),
+                name,
+                &error,
+                ExitStatus::Failed,
+            )
         }
         result => result,
     }
 }
 
-/// Writes the error of a file that can't be opened or created, and returns the exit status.
+/// Writes the error of a file that can't be opened or created, and returns this exit status.
 fn unopened<E: Write>(
     errors: &mut E,
     alloc: Global,
     name: &str,
     error: &io::Error,
+    status: ExitStatus,
 ) -> io::Result<u8>
-    ensures status { IfOk result (λ status. status ≡ 3) }
+    ensures status { IfOk result (λ number. number ≡ exit_number status) }
     ensures line { WritesSome (E.contents errors.old) (E.contents errors.new) (IsOk result) (IsOneLine (IsOpenErrorLine name.now)) }
 {
     write_open_error(errors, alloc, name, error)?;
-    Ok(ExitStatus::Failed.number())
+    Ok(status.number())
 }
 
 /// Writes the packets for which the report has a line, as a capture, to `output`. Then writes the counts of packets to standard error.
 /// Returns the exit status. If the capture has a name, errors contain the name.
-fn write_packets<W: Write + Drop>(
+fn write_packets<R: Read + Drop, W: Write + Drop>(
     rt: &HostRuntime,
     parts: &Parts,
     name: Option<&str>,
-    input: Progress<Input>,
+    input: R,
     output: W,
 ) -> io::Result<u8> {
     let input = BufReader::with_capacity(rt.alloc(), BUFFER_LEN, input)?;
@@ -307,36 +362,43 @@ fn write_failure(rt: &HostRuntime, error: &WriteError) -> u8
 
 /// Returns an input that shows the progress of reading if the input is a long file and standard error is a terminal. `lines_on_terminal`
 /// states whether other output is written to the terminal at the same time. Then no progress is shown.
-fn with_progress(rt: &HostRuntime, input: Input, lines_on_terminal: bool) -> Progress<Input>
+fn with_progress<S: FileSystem>(
+    rt: &HostRuntime,
+    system: &S,
+    input: Input<S::File>,
+    lines_on_terminal: bool,
+) -> Progress<Input<S::File>>
     ensures inner { inner_of result ≡ input }
     ensures mixed { IsTrue lines_on_terminal → next_of result ≡ 2 ^ 64 - 1 }
 {
-    let len = input.len();
+    let len = len_of(system, &input);
     let shown = is_shown(len, rt.stderr().is_terminal(), lines_on_terminal);
     Progress::new(input, len, shown, rt.stderr())
 }
 
-/// The source of captures: the files of the computer, and standard input.
+/// The source of captures: the files of a computer, and standard input.
 #[derive(Drop)]
-struct Files<'a> {
+struct Files<'a, S> {
     rt: &'a HostRuntime,
+    system: &'a S,
     lines_on_terminal: bool,
 }
 
-impl<'a> Open for Files<'a> {
-    type Input = BufReader<Progress<Input>>;
+impl<'a, S: FileSystem> Open for Files<'a, S> {
+    type Input = BufReader<Progress<Input<S::File>>>;
 
     ghost use Rattle.std.specs.Io.Buffered.{reader_inner};
     ghost use Rattle.capture_report.specs.Inputs.{IsRequestedBy};
     ghost use Rattle.capture_report.specs.Progress.{inner_of};
 
-    ghost opens = { λ files name input. IsRequestedBy name (inner_of (reader_inner input)) };
+    ghost opens = { λ files name input. IsRequestedBy (S.opens files.system.now) name (inner_of (reader_inner input)) };
 
     ghost misses = { λ files name. Unit {0} };
 
     /// Opens a file, or standard input.
-    fn open(&self, name: &str) -> io::Result<BufReader<Progress<Input>>> {
-        let input = with_progress(self.rt, Input::open(self.rt, name)?, self.lines_on_terminal);
+    fn open(&self, name: &str) -> io::Result<BufReader<Progress<Input<S::File>>>> {
+        let input = open_input(self.system, name)?;
+        let input = with_progress(self.rt, self.system, input, self.lines_on_terminal);
         Ok(BufReader::with_capacity(self.rt.alloc(), BUFFER_LEN, input)?)
     }
 }

@@ -26,6 +26,7 @@ def check_files(tally):
         def run_in(*arguments, data=b""):
             return run(data, *arguments, cwd=room)
 
+        run_in.room = room
         frames, _ = every_kind(ETHERNET)
         everything = capture(ETHERNET, frames)
         right = capture(COOKED2, [frame(COOKED2, ipv4(17, udp(IPV4, bytes(4))))] * 2, ">", True)
@@ -81,13 +82,7 @@ def check_files(tally):
             tally.expect(f"{name}", (done.returncode, done.stdout.decode(), done.stderr.decode()), (3 if error else 0, wanted, line))
             files = [json.loads(line).get("file") for line in lines_of(run_in("right.pcap", name, "--packets", "--json").stdout)]
             tally.expect(f"{name} in JSON", [file for file in files if file], ["right.pcap", shown if error else name])
-        done = run_in("tcp", "port", "80", "--packets")
-        hint = "; filters are --host, --port and --protocol"
-        wanted = [f"capture_report: {name}: No such file or directory (os error 2){end}" for name, end in (("tcp", hint), ("port", hint), ("80", ""))]
-        tally.expect("a filter of tcpdump", (done.returncode, lines_of(done.stderr)), (3, wanted))
-        done = run_in("tcp port 80", "--packets")
-        tally.expect("a filter of tcpdump in quotes", (done.returncode, done.stderr.decode()),
-                     (3, f"capture_report: tcp port 80: No such file or directory (os error 2){hint}\n"))
+        check_filters(tally, run_in, right, its_lines[1], kept)
         check_count(tally, run_in, its_lines[0].splitlines(), its_lines[1].splitlines())
     terminal, its_end = pty.openpty()
     done = subprocess.run([PROGRAM.path], stdin=its_end, capture_output=True, timeout=60)
@@ -96,6 +91,39 @@ def check_files(tally):
     os.close(terminal)
     done = run(b"", "--version")
     tally.expect("--version", (done.returncode, done.stdout.decode()), (0, f"capture_report {version()}\n"))
+
+
+def check_filters(tally, run_in, right, its_lines, kept):
+    """A filter among the names has status 2 and a hint at the end of its message, and no capture is read. A file with such a name is read."""
+    hint = "; filters are --host, --port and --protocol"
+    for arguments, word in [
+        (("tcp", "port", "80", "--packets"), "tcp"), (("-r", "right.pcap", "port", "53"), "port"), (("right.pcap", "host", "10.0.0.1"), "host"),
+        (("right.pcap", "none.pcap", "udp"), "udp"), (("tcp port 80",), "tcp port 80"), (("-w", "-", "udp"), "udp"), (("--json", "right.pcap", "net"), "net"),
+        (("right.pcap", b"a\xff.pcap", "not"), "not"), (("-l", "right.pcap", "src"), "src"), (("host " + "x" * 300,), "host " + "x" * 300),
+    ]:
+        done = run_in(*arguments, data=right)
+        error = "File name too long (os error 36)" if len(word) > 255 else "No such file or directory (os error 2)"
+        tally.expect(f"{arguments}", (done.returncode, done.stdout, done.stderr.decode()), (2, b"", f"capture_report: {word}: {error}{hint}\n"))
+    with subprocess.Popen([PROGRAM.path, "port", "53"], stdin=subprocess.PIPE, stdout=subprocess.PIPE, stderr=subprocess.PIPE) as process:
+        # The pipe stays open, and nothing is read from it.
+        tally.expect("a filter, and a pipe as input", (process.wait(20), process.stdout.read(), process.stderr.read().decode().endswith(f"{hint}\n")), (2, b"", True))
+    done = run_in("--port", "x", "port", "53")
+    tally.expect("a wrong option before a filter", (done.returncode, done.stdout, done.stderr.decode().startswith("error: invalid value 'x' for '--port <N>'")), (2, b"", True))
+    done = run_in("-w", "a.pcap", "right.pcap", "udp")
+    tally.expect("-w and a filter", (done.returncode, done.stdout, done.stderr.decode().splitlines()[0]),
+                 (2, b"", f"error: '--write <FILE>' is used with more than one capture{hint}"))
+    for name in ("none.pcap", "tcpdump.pcap", "80"):
+        done = run_in(name, "right.pcap", "--packets")
+        tally.expect(f"{name} is no filter", (done.returncode, done.stderr.decode()), (3, f"capture_report: {name}: No such file or directory (os error 2)\n"))
+    for name in ("arp", "port 53"):
+        kept(name, right)
+        done = run_in(name, "--packets")
+        tally.expect(f"a file with the name {name}", (done.returncode, done.stdout.decode(), done.stderr), (0, its_lines, b""))
+    os.mkfifo(os.path.join(run_in.room, "net"))
+    with subprocess.Popen([PROGRAM.path, "--packets", "net"], stdout=subprocess.PIPE, cwd=run_in.room) as process:
+        with open(os.path.join(run_in.room, "net"), "wb") as pipe:
+            pipe.write(right)
+        tally.expect("a named pipe with the name of a filter", (process.stdout.read().decode(), process.wait(20)), (its_lines, 0))
 
 
 def check_count(tally, run_in, every, right):
