@@ -1,9 +1,10 @@
 use crate::expect::{expect_at, expect_equal, expect_ok, expect_some};
 use crate::summaries::{judge, new_summary, refuse};
-use capture_file::LinkType;
+use capture_file::pcapng::TimeResolution;
+use capture_file::{LinkType, PacketTime};
 use capture_summary::{
     CaptureInfo, ConversationCount, Count, Flow, FlowProtocol, FrameLen, MAX_CONVERSATIONS,
-    Protocol, RefusalKind, Summary, VerdictKind,
+    Protocol, RefusalKind, Summary, TimeSpan, VerdictKind,
 };
 use std::net::{IpAddr, Ipv4Addr, SocketAddr};
 use std::process::Abort;
@@ -40,11 +41,11 @@ fn flow_from(number: u32) -> Flow {
     flow(FlowProtocol::Udp, (number, 4660), SERVER)
 }
 
-/// What a capture of Ethernet states about a packet with this number of bytes, whose time is unknown.
-fn info_of(len: u64) -> CaptureInfo {
+/// What a capture of Ethernet states about a packet with this number of bytes and this time.
+fn info_at(len: u64, time: Option<PacketTime>) -> CaptureInfo {
     CaptureInfo {
         link_type: Some(Ok(LinkType::Ethernet)),
-        time: None,
+        time,
         len: Some(FrameLen {
             original: len,
             captured: len,
@@ -52,9 +53,13 @@ fn info_of(len: u64) -> CaptureInfo {
     }
 }
 
+/// What a capture of Ethernet states about a packet with this number of bytes, whose time is unknown.
+fn info_of(len: u64) -> CaptureInfo {
+    info_at(len, None)
+}
+
 /// Counts a packet of a flow, whose checksum is right.
-fn judge_flow(rt: &impl Abort, summary: &mut Summary, flow: Flow, len: u64) {
-    let info = info_of(len);
+fn judge_flow(rt: &impl Abort, summary: &mut Summary, flow: Flow, info: CaptureInfo) {
     judge(rt, summary, UDP, VerdictKind::Right, Some(flow), info);
 }
 
@@ -65,7 +70,7 @@ fn judge_many(rt: &impl Abort, summary: &mut Summary, number: u32, packets: u32,
     let back = there.reversed();
     for packet in 0..packets {
         let flow = if packet % 2 == 0 { there } else { back };
-        judge_flow(rt, summary, flow, len);
+        judge_flow(rt, summary, flow, info_of(len));
     }
 }
 
@@ -479,39 +484,67 @@ const CLIENT: End = (7, 4660);
 
 const HIGHEST: End = (0xFFFF_FFFF, 4660);
 
-/// Packets with their flows and their bytes. Another port or another protocol belongs to another conversation.
+/// Packets with their flows, their bytes and their times in seconds. Another port or another protocol belongs to another conversation.
+#[rattlefmt::skip]
 static DIRECTIONS: [DirectionRow; 13] = [
-    (OVER_UDP, CLIENT, SERVER, 100),
-    (OVER_UDP, SERVER, CLIENT, 40),
-    (OVER_TCP, SERVER, CLIENT, 7),
-    (OVER_UDP, HIGHEST, SERVER, 20),
-    (OVER_UDP, CLIENT, SERVER, 100),
-    (OVER_UDP, SERVER, HIGHEST, 30),
-    (OVER_UDP, (7, 4661), SERVER, 8),
-    (OVER_UDP, (7, 53), (0xC000_0201, 4660), 9),
-    (OVER_UDP, CLIENT, CLIENT, 10),
-    (OVER_TCP, CLIENT, SERVER, 11),
-    (OVER_UDP, CLIENT, CLIENT, 10),
-    (OVER_UDP, SERVER, CLIENT, 41),
-    (OVER_UDP, SERVER, CLIENT, 42),
+    (OVER_UDP, CLIENT, SERVER, 100, Some(50)),
+    (OVER_UDP, SERVER, CLIENT, 40, Some(51)),
+    (OVER_TCP, SERVER, CLIENT, 7, Some(60)),
+    (OVER_UDP, HIGHEST, SERVER, 20, None),
+    (OVER_UDP, CLIENT, SERVER, 100, Some(90)),
+    (OVER_UDP, SERVER, HIGHEST, 30, Some(5)),
+    (OVER_UDP, (7, 4661), SERVER, 8, None),
+    (OVER_UDP, (7, 53), (0xC000_0201, 4660), 9, Some(1)),
+    (OVER_UDP, CLIENT, CLIENT, 10, Some(99)),
+    (OVER_TCP, CLIENT, SERVER, 11, Some(59)),
+    (OVER_UDP, CLIENT, CLIENT, 10, Some(99)),
+    (OVER_UDP, SERVER, CLIENT, 41, Some(49)),
+    (OVER_UDP, SERVER, CLIENT, 42, None),
 ];
 
-/// The direction of a conversation that was seen first, and the packets and bytes of each direction.
-type BothWaysRow = (FlowProtocol, End, End, (u64, u64), (u64, u64));
+/// The direction of a conversation that was seen first, the packets and bytes of each direction, and the earliest and the latest time.
+type BothWaysRow = (
+    FlowProtocol,
+    End,
+    End,
+    (u64, u64),
+    (u64, u64),
+    Option<(u64, u64)>,
+);
 
 /// The conversations of these packets.
+#[rattlefmt::skip]
 static BOTH_WAYS: [BothWaysRow; 6] = [
-    (OVER_UDP, CLIENT, SERVER, (2, 200), (3, 123)),
-    (OVER_TCP, SERVER, CLIENT, (1, 7), (1, 11)),
-    (OVER_UDP, HIGHEST, SERVER, (1, 20), (1, 30)),
-    (OVER_UDP, (7, 4661), SERVER, (1, 8), (0, 0)),
-    (OVER_UDP, (7, 53), (0xC000_0201, 4660), (1, 9), (0, 0)),
-    (OVER_UDP, CLIENT, CLIENT, (2, 20), (0, 0)),
+    (OVER_UDP, CLIENT, SERVER, (2, 200), (3, 123), Some((49, 90))),
+    (OVER_TCP, SERVER, CLIENT, (1, 7), (1, 11), Some((59, 60))),
+    (OVER_UDP, HIGHEST, SERVER, (1, 20), (1, 30), Some((5, 5))),
+    (OVER_UDP, (7, 4661), SERVER, (1, 8), (0, 0), None),
+    (OVER_UDP, (7, 53), (0xC000_0201, 4660), (1, 9), (0, 0), Some((1, 1))),
+    (OVER_UDP, CLIENT, CLIENT, (2, 20), (0, 0), Some((99, 99))),
 ];
+
+/// The time this many seconds after the beginning of 1970.
+fn time(seconds: u64) -> PacketTime {
+    PacketTime {
+        seconds,
+        fraction: 0,
+        resolution: TimeResolution::PowerOfTen(6),
+        offset: 0,
+    }
+}
+
+/// The span from one second to another.
+fn span((first, last): (u64, u64)) -> TimeSpan {
+    TimeSpan {
+        earliest: time(first),
+        latest: time(last),
+    }
+}
 
 /// Stops the test unless this is the conversation of a row.
 fn expect_both_ways(rt: &impl Abort, count: &ConversationCount, row: &BothWaysRow) {
-    let (protocol, source, destination, forward, reverse) = *row;
+    let (protocol, source, destination, forward, reverse, times) = *row;
+    expect_equal(rt, &count.span, &times.map(span));
     expect_equal(rt, &count.flow, &flow(protocol, source, destination));
     expect_equal(rt, &count.forward, &count_of(forward));
     expect_equal(rt, &count.reverse, &count_of(reverse));
@@ -522,13 +555,14 @@ fn count_of((packets, bytes): (u64, u64)) -> Count {
     Count { packets, bytes }
 }
 
-/// A packet: its flow, and its bytes.
-type DirectionRow = (FlowProtocol, End, End, u64);
+/// A packet: its flow, its bytes and its time.
+type DirectionRow = (FlowProtocol, End, End, u64, Option<u64>);
 
 /// Counts the packet of a row.
 fn judge_direction(rt: &impl Abort, summary: &mut Summary, row: &DirectionRow) {
-    let (protocol, source, destination, len) = *row;
-    judge_flow(rt, summary, flow(protocol, source, destination), len);
+    let (protocol, source, destination, len, seconds) = *row;
+    let info = info_at(len, seconds.map(time));
+    judge_flow(rt, summary, flow(protocol, source, destination), info);
 }
 
 /// Stops the test unless these are the conversations of `BOTH_WAYS`.

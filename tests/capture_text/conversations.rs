@@ -1,6 +1,8 @@
 use crate::expect::{expect_ok, expect_some, expect_written};
 use crate::summaries::flow_of_ipv4;
-use capture_summary::{ConversationCount, Count, Flow, FlowProtocol};
+use capture_file::PacketTime;
+use capture_file::pcapng::TimeResolution;
+use capture_summary::{ConversationCount, Count, Flow, FlowProtocol, TimeSpan};
 use capture_text::write_conversations;
 use std::net::{IpAddr, SocketAddr};
 use std::process::Abort;
@@ -33,22 +35,22 @@ const MOST: Count = Count {
 };
 
 const WITHOUT_ROWS: &str = "
-busiest conversations       packets         bytes   packets >       bytes >   packets <       bytes <
+busiest conversations       packets         bytes   packets >       bytes >   packets <       bytes < first packet                duration         bits a second
 packets without ports             1            40
 packets of other flows    999999999 9999999999999
 ";
 
 const ONE_ROW: &str = "
-busiest conversations                 packets         bytes   packets >       bytes >   packets <       bytes <
-UDP 192.0.2.1:49152 <> 192.0.2.2:53        13          1540          12          1500           1            40
+busiest conversations                 packets         bytes   packets >       bytes >   packets <       bytes < first packet                duration         bits a second
+UDP 192.0.2.1:49152 <> 192.0.2.2:53        13          1540          12          1500           1            40 2023-11-14T22:13:20.000000Z 00:00:00.001500        8213333
 packets of other flows                      1            40
 ";
 
 const THREE_ROWS: &str = "
-busiest conversations                                                                                    packets         bytes   packets >       bytes >   packets <       bytes <
+busiest conversations                                                                                    packets         bytes   packets >       bytes >   packets <       bytes < first packet                duration         bits a second
 TCP [ffff:ffff:ffff:ffff:ffff:ffff:ffff:ffff]:65535 <> [fffe:fffe:fffe:fffe:fffe:fffe:fffe:fffe]:65535 999999999 9999999999999   999999999 9999999999999           0             0
-UDP 192.0.2.1:49152 <> 192.0.2.2:53                                                                           13          1540          12          1500           1            40
-UDP 192.0.2.1:49152 <> 192.0.2.2:53                                                                    18446744073709551615 18446744073709551615 18446744073709551615 18446744073709551615           1            40
+UDP 192.0.2.1:49152 <> 192.0.2.2:53                                                                           13          1540          12          1500           1            40 2023-11-14T22:13:20.000000Z 00:00:00.001500        8213333
+UDP 192.0.2.1:49152 <> 192.0.2.2:53                                                                    18446744073709551615 18446744073709551615 18446744073709551615 18446744073709551615           1            40 2023-11-14T22:13:20.000000007Z 00:00:00.000000000
 ";
 
 /// The rows from one number up to another, the count of packets without ports, the count of packets of conversations for which there was no
@@ -63,11 +65,23 @@ static TABLES: [TableRow; 4] = [
     (0, 3, NONE, NONE, THREE_ROWS),
 ];
 
-fn row(flow: Flow, forward: Count, reverse: Count) -> ConversationCount {
+/// A conversation with these counts, in this span of times.
+fn row(flow: Flow, forward: Count, reverse: Count, span: Option<TimeSpan>) -> ConversationCount {
     ConversationCount {
         flow,
         forward,
         reverse,
+        span,
+    }
+}
+
+/// The time this many units of ten to the power of minus `exponent` seconds after 2023-11-14 22:13:20 UTC.
+fn time(fraction: u64, exponent: u8) -> PacketTime {
+    PacketTime {
+        seconds: 1_700_000_000,
+        fraction,
+        resolution: TimeResolution::PowerOfTen(exponent),
+        offset: 0,
     }
 }
 
@@ -90,10 +104,19 @@ fn the_table_of_conversations(rt: HostRuntime) {
         source: SocketAddr::new(IpAddr::from([0xFFFFu16; 8]), 65535),
         destination: SocketAddr::new(IpAddr::from([0xFFFEu16; 8]), 65535),
     };
+    let several = TimeSpan {
+        earliest: time(0, 6),
+        latest: time(1500, 6),
+    };
+    // Equal times have no rate.
+    let one = TimeSpan {
+        earliest: time(7, 9),
+        latest: time(7, 9),
+    };
     let rows = [
-        row(ipv6, MANY, NONE),
-        row(ipv4, SEVERAL, ONE),
-        row(ipv4, MOST, ONE),
+        row(ipv6, MANY, NONE, None),
+        row(ipv4, SEVERAL, ONE, Some(several)),
+        row(ipv4, MOST, ONE, Some(one)),
     ];
     for table in &TABLES {
         expect_table(&rt, &rows, table);

@@ -37,18 +37,18 @@ refused                             2
 refused                       packets
 IP version                          2
 
-busiest conversations                 packets         bytes   packets >       bytes >   packets <       bytes <
-UDP 192.0.2.1:49152 <> 192.0.2.2:53         2          1044           1          1000           1            44
+busiest conversations                 packets         bytes   packets >       bytes >   packets <       bytes < first packet                duration         bits a second
+UDP 192.0.2.1:49152 <> 192.0.2.2:53         2          1044           1          1000           1            44 2023-11-14T22:13:20.000000Z 00:00:00.500000          16704
 packets without ports                       3           268
 ";
 
-/// What a capture states about a packet with this number of bytes, captured at this second.
-fn info_of(seconds: u64, len: u64) -> CaptureInfo {
+/// What a capture states about a packet with this number of bytes, captured at this second and this number of microseconds.
+fn info_of(seconds: u64, fraction: u64, len: u64) -> CaptureInfo {
     CaptureInfo {
         link_type: Some(Ok(LinkType::Ethernet)),
         time: Some(PacketTime {
             seconds,
-            fraction: 0,
+            fraction,
             resolution: TimeResolution::PowerOfTen(6),
             offset: 0,
         }),
@@ -62,8 +62,8 @@ fn info_of(seconds: u64, len: u64) -> CaptureInfo {
 /// Counts two packets of UDP, one in each direction.
 fn judge_both_ways(rt: &impl Abort, summary: &mut Summary) {
     let there = flow_of_ipv4();
-    for (flow, len) in [(there, 1000), (there.reversed(), 44)] {
-        let info = info_of(1_700_000_000, len);
+    for (flow, len, fraction) in [(there, 1000, 500_000), (there.reversed(), 44, 0)] {
+        let info = info_of(1_700_000_000, fraction, len);
         judge(
             rt,
             summary,
@@ -78,7 +78,7 @@ fn judge_both_ways(rt: &impl Abort, summary: &mut Summary) {
 /// Counts two refused packets of unknown protocols.
 fn refuse_two(rt: &impl Abort, summary: &mut Summary) {
     for _ in 0..2 {
-        let info = info_of(1_699_999_999, 34);
+        let info = info_of(1_699_999_999, 0, 34);
         refuse(rt, summary, Protocol::Unknown, RefusalKind::IpVersion, info);
     }
 }
@@ -96,7 +96,7 @@ fn the_tables_of_a_summary(rt: HostRuntime) {
     let mut summary = new_summary(&rt);
     expect_tables(&rt, &summary, OF_NO_PACKET);
     judge_both_ways(&rt, &mut summary);
-    let info = info_of(1_700_000_004, 200);
+    let info = info_of(1_700_000_004, 0, 200);
     let protocol = Protocol::Icmpv6;
     judge(&rt, &mut summary, protocol, VerdictKind::Wrong, None, info);
     refuse_two(&rt, &mut summary);

@@ -50,7 +50,7 @@ option_members = (
 
 -- ---- conversations
 
-conversation : compact_text (conversation_data (record { flow = request; forward = count 1 40; reverse = no_packets }))
+conversation : compact_text (conversation_data (record { flow = request; forward = count 1 40; reverse = no_packets; span = None }))
     ≡ codes "{\"protocol\":17,\"protocol_name\":\"UDP\",\"source\":\"192.0.2.1\",\"source_port\":49152,\"destination\":\"192.0.2.2\","
     ++ codes "\"destination_port\":53,\"packets\":1,\"bytes\":40,\"forward\":{\"packets\":1,\"bytes\":40},\"reverse\":{\"packets\":0,\"bytes\":0}}"
 unfolding digits escape_byte

@@ -44,6 +44,28 @@ counts_member row = (with_underscores row.0, object_of (count_members row.1))
 abbrev pub counts_data : List (List ℕ × Count) → Data
 counts_data rows = object_of (map counts_member rows)
 
+-- ---- times
+
+-- The numbers of packets and bits per second. They are left out if the earliest and the latest time are equal. A number of 2^64 or more
+-- becomes 2^64 - 1.
+abbrev pub rates_members : Option Rates → List Member
+rates_members None = []
+rates_members (Some rates) =
+    (codes "packets_per_second", whole_number (min rates.packets (2 ^ 64 - 1)))
+    ∷ (codes "bits_per_second", whole_number (min rates.bits (2 ^ 64 - 1))) ∷ []
+
+-- the times of the earliest and of the latest packet of a count and the time between them, as texts and as numbers, and the rates; no
+-- members if no time is known
+abbrev pub span_members : Count → Option TimeSpan → List Member
+span_members count None = []
+span_members count (Some span) =
+    (codes "first_packet", string (absolute_text span.earliest))
+    ∷ (instant_members (codes "first_packet_seconds") (codes "first_packet_nanoseconds") span.earliest
+    ++ (codes "last_packet", string (absolute_text span.latest))
+    ∷ (instant_members (codes "last_packet_seconds") (codes "last_packet_nanoseconds") span.latest
+    ++ (codes "duration", string (elapsed_text span.earliest span.latest))
+    ∷ (duration_members span.earliest span.latest ++ rates_members (rates_of count.packets count.bytes span))))
+
 -- ---- conversations
 
 -- a flow: its protocol, its source and its destination; the members of the protocol are the same as in the line of a packet
@@ -54,11 +76,13 @@ flow_members flow =
     ∷ (codes "source_port", whole_number (socket_port flow.source)) ∷ (codes "destination", string (ip_text (socket_ip flow.destination)))
     ∷ (codes "destination_port", whole_number (socket_port flow.destination)) ∷ []
 
--- a conversation: its flow in the direction that was seen first, the count of all its packets, and the count of each direction
+-- a conversation: its flow in the direction that was seen first, the count of all its packets, the count of each direction, and the times
+-- of its packets
 abbrev pub conversation_members : ConversationCount → List Member
 conversation_members row =
     flow_members row.flow ++ (count_members (both row)
-    ++ (codes "forward", object_of (count_members row.forward)) ∷ (codes "reverse", object_of (count_members row.reverse)) ∷ [])
+    ++ (codes "forward", object_of (count_members row.forward)) ∷ (codes "reverse", object_of (count_members row.reverse))
+    ∷ span_members (both row) row.span)
 
 -- a conversation, as an object
 abbrev pub conversation_data : ConversationCount → Data
@@ -76,26 +100,6 @@ uncounted_members without_ports without_room =
 
 -- ---- the summary
 
--- The numbers of packets and bits per second. They are left out if the earliest and the latest time are equal. A number of 2^64 or more
--- becomes 2^64 - 1.
-abbrev pub rates_members : Option Rates → List Member
-rates_members None = []
-rates_members (Some rates) =
-    (codes "packets_per_second", whole_number (min rates.packets (2 ^ 64 - 1)))
-    ∷ (codes "bits_per_second", whole_number (min rates.bits (2 ^ 64 - 1))) ∷ []
-
--- the times of the earliest and of the latest packet and the time between them, as texts and as numbers, and the rates; no members if no
--- time is known
-abbrev pub span_members : SummaryTables → Option TimeSpan → List Member
-span_members tables None = []
-span_members tables (Some span) =
-    (codes "first_packet", string (absolute_text span.earliest))
-    ∷ (instant_members (codes "first_packet_seconds") (codes "first_packet_nanoseconds") span.earliest
-    ++ (codes "last_packet", string (absolute_text span.latest))
-    ∷ (instant_members (codes "last_packet_seconds") (codes "last_packet_nanoseconds") span.latest
-    ++ (codes "duration", string (elapsed_text span.earliest span.latest))
-    ∷ (duration_members span.earliest span.latest ++ rates_members (rates_of tables.packets tables.bytes span))))
-
 -- the average number of bytes of a packet, if there are packets
 abbrev pub average_members : Option ℕ → List Member
 average_members None = []
@@ -106,7 +110,7 @@ abbrev pub totals_members : SummaryTables → List Member
 totals_members tables =
     (codes "packets", whole_number tables.packets) ∷ (codes "bytes", whole_number tables.bytes)
     ∷ (average_members (average_len tables.packets tables.bytes)
-    ++ (codes "conversations", whole_number (length tables.flows.rows)) ∷ span_members tables tables.span)
+    ++ (codes "conversations", whole_number (length tables.flows.rows)) ∷ span_members (record { packets = tables.packets; bytes = tables.bytes }) tables.span)
 
 -- the tables of link types, protocols, checksums and refusals
 abbrev pub rows_members : SummaryTables → List Member

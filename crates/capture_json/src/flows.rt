@@ -14,6 +14,7 @@ ghost use Rattle.capture_json.specs.JsonSummary.{conversation_data, conversation
 use crate::Line;
 use crate::protocol::put_ip_protocol;
 use crate::text::{put_written, write_bytes, write_part};
+use crate::totals::put_times;
 use capture_request::WriteError;
 use capture_summary::{ConversationCount, Count, Flow};
 use std::alloc::{AllocError, Global};
@@ -76,14 +77,16 @@ fn push_row(line: &mut Line, room: &mut Vec<u8>, row: &ConversationCount) -> io:
     Ok(line.end_object()?)
 }
 
-/// Writes a conversation: its flow in the direction that was seen first, the count of all its packets, and the count of each direction.
+/// Writes a conversation: its flow in the direction that was seen first, the count of all its packets, the count of each direction, and the
+/// times of its packets.
 fn put_conversation(line: &mut Line, room: &mut Vec<u8>, row: &ConversationCount) -> io::Result<()>
     ensures { OnOk result (tokens_in line.new ≡ with_members (conversation_members row.now) (tokens_in line.old)) }
 {
     put_flow(line, room, &row.flow)?;
     put_packets_and_bytes(line, row.both())?;
     put_count(line, "forward", row.forward)?;
-    Ok(put_count(line, "reverse", row.reverse)?)
+    put_count(line, "reverse", row.reverse)?;
+    put_times(line, room, row.both(), row.span)
 }
 
 /// Writes the protocol of a flow, its source and its destination.

@@ -13,7 +13,7 @@ use crate::Line;
 use crate::text::put_written;
 use crate::times::put_instant;
 use capture_file::{NANOSECONDS_PER_SECOND, PacketTime, nanoseconds_of};
-use capture_summary::{Rates, Summary, TimeSpan};
+use capture_summary::{Count, Rates, Summary, TimeSpan};
 use capture_words::{write_absolute, write_elapsed};
 use std::alloc::AllocError;
 use std::io;
@@ -23,11 +23,15 @@ use std::io;
 pub fn put_totals(line: &mut Line, room: &mut Vec<u8>, summary: &Summary) -> io::Result<()>
     ensures { OnOk result (tokens_in line.new ≡ with_members (totals_members summary.now) (tokens_in line.old)) }
 {
-    line.put_number("packets", summary.packets())?;
-    line.put_number("bytes", summary.bytes())?;
+    let all = Count {
+        packets: summary.packets(),
+        bytes: summary.bytes(),
+    };
+    line.put_number("packets", all.packets)?;
+    line.put_number("bytes", all.bytes)?;
     put_average(line, summary.average_len())?;
     line.put_number("conversations", summary.flows().counts().len() as u64)?;
-    put_times(line, room, summary, summary.span())
+    put_times(line, room, all, summary.span())
 }
 
 /// Writes the average number of bytes of a packet, if there are packets.
@@ -40,15 +44,15 @@ fn put_average(line: &mut Line, average: Option<u64>) -> Result<(), AllocError>
     }
 }
 
-/// Writes the times of the earliest and of the latest packet and the time between them, as texts and as numbers. Then writes the rates.
-/// Writes nothing if no time is known.
-fn put_times(
+/// Writes the times of the earliest and of the latest packet of a count and the time between them, as texts and as numbers. Then writes the
+/// rates. Writes nothing if no time is known.
+pub(crate) fn put_times(
     line: &mut Line,
     room: &mut Vec<u8>,
-    summary: &Summary,
+    count: Count,
     span: Option<TimeSpan>,
 ) -> io::Result<()>
-    ensures { OnOk result (tokens_in line.new ≡ with_members (span_members summary.now span) (tokens_in line.old)) }
+    ensures { OnOk result (tokens_in line.new ≡ with_members (span_members count span) (tokens_in line.old)) }
 {
     let Some(span) = span else {
         return Ok(());
@@ -68,7 +72,7 @@ fn put_times(
         span.latest,
     )?;
     put_duration(line, room, span)?;
-    let rates = Rates::of(summary.packets(), summary.bytes(), span);
+    let rates = Rates::of(count.packets, count.bytes, span);
     Ok(put_rates(line, rates)?)
 }
 

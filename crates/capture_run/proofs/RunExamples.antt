@@ -272,7 +272,7 @@ counted = record {
   verdicts = counted_at (verdict_place (verdict_kind packet.verdict)) empty_tables.verdicts;
   links = counted_at (link_place (link_kind (Some (Err 147)))) empty_tables.links;
   refusals = empty_tables.refusals;
-  flows = table_counted None 1 empty_tables.flows;
+  flows = table_counted None 1 (Some time) empty_tables.flows;
 }
 
 -- every packet is chosen

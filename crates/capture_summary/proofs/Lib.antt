@@ -8,3 +8,4 @@ mod RankingOrder
 mod RankingRows
 mod RankingSort
 pub mod SummaryExamples
+mod TimeSpanLemmas

@@ -1,5 +1,5 @@
 -- Worked examples of what a summary counts, so that a wrong definition fails before any code does.
-use Rattle.std.proofs.Common.{◌≡◌, ℕ, List, [], ◌∷◌, None, Some, Ok, arith, codes, inl, inr, pos, refl, replicate, suc, zero}
+use Rattle.std.proofs.Common.{◌≡◌, ℕ, [], ◌∷◌, None, Some, Ok, arith, codes, inl, inr, pos, refl, replicate, suc, zero}
 use Rattle.std.specs.declared.net.ip_addr.IpAddr.TheVariants as ip_addr
 use Rattle.std.specs.declared.net.socket_addr.SocketAddr.{SocketAddr}
 use Rattle.std.specs.declared.net.socket_addr.SocketAddr.TheVariants as socket_addr
@@ -44,10 +44,22 @@ response = record { protocol = Udp; source = ipv4_socket 192 0 2 2 53; destinati
 abbrev pub count : ℕ → ℕ → Count
 count packets bytes = record { packets = packets; bytes = bytes }
 
--- a request of 1,000 bytes, a response of 44 bytes, and a packet without ports: one conversation
-both_directions : table_of ((Some request, 1000) ∷ (Some response, 44) ∷ (None, 200) ∷ [])
+-- the time this number of microseconds after 1,600,000,000 seconds since 1970
+abbrev pub time : ℕ → PacketTime
+time microseconds = record { seconds = 1600000000; fraction = microseconds; resolution = PowerOfTen 6; offset = pos 0 }
+
+-- A request of 1,000 bytes, a response of 44 bytes that is older than it, a request without a time, and a packet without ports: one
+-- conversation, from the time of the response to the time of the first request.
+both_directions : table_of ((Some request, 1000, Some (time 20)) ∷ (Some response, 44, Some (time 7)) ∷ (Some request, 10, None)
+    ∷ (None, 200, Some (time 3)) ∷ [])
     ≡ record {
-      rows = record { flow = request; forward = count 1 1000; reverse = count 1 44 } ∷ [];
+      rows =
+          record {
+            flow = request;
+            forward = count 2 1010;
+            reverse = count 1 44;
+            span = Some (record { earliest = time 7; latest = time 20 });
+          } ∷ [];
       without_ports = count 1 200;
       without_room = no_packets;
     }
@@ -76,7 +88,7 @@ one_packet = record {
   links = 0 ∷ 1 ∷ replicate 21 0;
   refusals = replicate 12 0;
   flows = record {
-    rows = record { flow = request; forward = count 1 1000; reverse = no_packets } ∷ [];
+    rows = record { flow = request; forward = count 1 1000; reverse = no_packets; span = None } ∷ [];
     without_ports = no_packets;
     without_room = no_packets;
   };
@@ -100,10 +112,6 @@ counts_one = record {
 most_packets_first : by_packets ((codes "UDP", count 1 9) ∷ (codes "TCP", count 3 5) ∷ (codes "ICMPv4", count 3 7) ∷ [])
     ≡ (codes "TCP", count 3 5) ∷ (codes "ICMPv4", count 3 7) ∷ (codes "UDP", count 1 9) ∷ []
 most_packets_first = refl
-
--- the time this number of microseconds after 1,600,000,000 seconds since 1970
-abbrev time : ℕ → PacketTime
-time microseconds = record { seconds = 1600000000; fraction = microseconds; resolution = PowerOfTen 6; offset = pos 0 }
 
 -- 70 packets of 6,687 bytes in 6,900 microseconds, as in the stored capture of `capture_report`: 6687 / 70 = 95.5, 70 / 0.0069 = 10144.9,
 -- and 8 * 6687 / 0.0069 = 7753043.5

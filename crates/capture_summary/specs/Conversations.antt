@@ -1,7 +1,9 @@
 -- Conversations: the packets between two addresses with their ports, in both directions (the Biflow of RFC 5103, section 2).
-use Rattle.std.specs.Prelude.{◌≡◌, ◌⊎◌, ℕ, ◌+◌, ◌-◌, ◌^◌, min, Bool, ◌&&◌, ◌||◌, if◌then◌else◌}
+use Rattle.std.specs.Prelude.{◌≡◌, ◌⊎◌, ℕ, ◌+◌, ◌-◌, ◌^◌, min, Bool, ◌&&◌, ◌||◌, if◌then◌else◌, Option, None}
 use Rattle.std.specs.Ordering.{is_gt}
+use Rattle.capture_file.specs.declared.packet_time.PacketTime.{PacketTime}
 use Rattle.capture_summary.specs.Tables.{counted, no_packets}
+use Rattle.capture_summary.specs.TimeSpans.{with_time}
 use Rattle.capture_summary.specs.declared.count.Count.{Count}
 use Rattle.capture_summary.specs.declared.conversation_count.ConversationCount.{ConversationCount}
 use Rattle.capture_summary.specs.declared.flow.Flow.{Flow}
@@ -33,14 +35,15 @@ canonical flow = if is_gt ((address_ord.ghosts).cmp flow.source flow.destination
 
 -- the row of a conversation whose first packet has this flow, before the packet is counted
 abbrev pub new_row : Flow → ConversationCount
-new_row flow = record { flow = flow; forward = no_packets; reverse = no_packets }
+new_row flow = record { flow = flow; forward = no_packets; reverse = no_packets; span = None }
 
 -- A row after a packet of this flow is counted. If the packet has the flow of the row, `forward` counts it. Otherwise `reverse` counts it.
-abbrev pub row_counted : Flow → ℕ → ConversationCount → ConversationCount
-row_counted flow len row =
+-- `time` is the time of the packet, or `None` if it is unknown.
+abbrev pub row_counted : Flow → ℕ → Option PacketTime → ConversationCount → ConversationCount
+row_counted flow len time row =
     if is_same_flow flow row.flow
-    then record row { forward = counted len row.forward }
-    else record row { reverse = counted len row.reverse }
+    then record row { forward = counted len row.forward; span = with_time row.span time }
+    else record row { reverse = counted len row.reverse; span = with_time row.span time }
 
 -- the number of packets in a row
 abbrev pub row_packets : ConversationCount → ℕ

@@ -67,7 +67,7 @@ pub record CountsOne (before : SummaryTables) (protocol : Protocol) (verdict : V
   pub verdicts : after.verdicts ≡ counted_at (verdict_place verdict) before.verdicts
   pub links : after.links ≡ counted_at (link_place (link_kind info.link_type)) before.links
   pub refusals : after.refusals ≡ refusal_counted refusal before.refusals
-  pub flows : after.flows ≡ table_counted flow (counted_len info.len) before.flows
+  pub flows : after.flows ≡ table_counted flow (counted_len info.len) info.time before.flows
 
 -- whether a packet with a wrong checksum, or a refused packet, was counted
 abbrev pub has_fault : SummaryTables → Bool

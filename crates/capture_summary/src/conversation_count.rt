@@ -3,10 +3,11 @@ ghost use Rattle.std.specs.Ordering.{is_lt};
 ghost use Rattle.capture_summary.specs.Conversations.{both, row_counted, row_packets};
 ghost use Rattle.capture_summary.specs.Ranking.{is_busier};
 
-use crate::{Count, Flow};
+use crate::{Count, Flow, TimeSpan};
+use capture_file::PacketTime;
 use std::cmp::Ordering;
 
-/// The counts of the packets of a conversation: a count for each of its two directions.
+/// The counts of the packets of a conversation, one for each of its two directions, and the times of its packets.
 #[derive(Clone, Copy, Debug, PartialEq, Eq)]
 pub struct ConversationCount {
     /// The direction that was seen first.
@@ -15,6 +16,8 @@ pub struct ConversationCount {
     pub forward: Count,
     /// The count of the packets in the other direction.
     pub reverse: Count,
+    /// The earliest and the latest time of the packets of both directions, in any order of packets. `None` if no time is known.
+    pub span: Option<TimeSpan>,
 }
 
 impl ConversationCount {
@@ -50,13 +53,15 @@ impl ConversationCount {
         }
     }
 
-    /// Counts a packet of this flow and of this length in bytes. The flow is one of the two directions of the conversation.
-    pub(crate) fn add(&mut self, flow: &Flow, len: u64)
+    /// Counts a packet of this flow, of this length in bytes and of this time, if it is known. The flow is one of the two directions of
+    /// the conversation.
+    pub(crate) fn add(&mut self, flow: &Flow, len: u64, time: Option<PacketTime>)
         requires { row_packets self.old < 2 ^ 64 - 1 }
-        ensures counted { self.new ≡ row_counted flow.now len self.old }
+        ensures counted { self.new ≡ row_counted flow.now len time self.old }
         ensures flow { self.new.flow ≡ self.old.flow }
         ensures one { row_packets self.new ≡ row_packets self.old + 1 }
     {
+        self.span = TimeSpan::with_time(self.span, time);
         if flow.is_same(&self.flow) {
             self.forward.add(len);
         } else {

@@ -2,6 +2,7 @@ ghost use Rattle.std.specs.Prelude.{◌≡◌, ◌<◌, ◌-◌, ◌^◌, ◌+�
 ghost use Rattle.capture_summary.specs.FlowTable.{packets_counted, table_counted};
 
 use crate::{ConversationCount, Count, Flow, ranking};
+use capture_file::PacketTime;
 use std::alloc::{AllocError, Global};
 use std::collections::HashMap;
 use std::hash::RandomState;
@@ -59,15 +60,20 @@ impl Flows {
         }
     }
 
-    /// Counts a packet of this length in bytes. `flow` is its flow, or `None` if it has no ports or an unknown final destination. The
-    /// number that `packets` returns must be below `u64::MAX`.
+    /// Counts a packet of this length in bytes. `flow` is its flow, or `None` if it has no ports or an unknown final destination. `time` is
+    /// its capture time, or `None` if that is unknown. The number that `packets` returns must be below `u64::MAX`.
     ///
     /// # Errors
     ///
     /// `AllocError` if no memory is left, and for no other reason. After this error all counts are unchanged.
-    pub fn add(&mut self, flow: Option<Flow>, len: u64) -> Result<(), AllocError>
+    pub fn add(
+        &mut self,
+        flow: Option<Flow>,
+        len: u64,
+        time: Option<PacketTime>,
+    ) -> Result<(), AllocError>
         requires room { packets_counted self.old < 2 ^ 64 - 1 }
-        ensures ok { OnOk result (self.new ≡ table_counted flow len self.old) }
+        ensures ok { OnOk result (self.new ≡ table_counted flow len time self.old) }
         ensures counted { OnOk result (packets_counted self.new ≡ packets_counted self.old + 1) }
         ensures err { OnErr result (self.new ≡ self.old) }
     {
@@ -78,10 +84,10 @@ impl Flows {
         };
         if let Some(place) = self.places.get(&flow.canonical()) {
             let place = *place;
-            self.counts[place].add(&flow, len);
+            self.counts[place].add(&flow, len, time);
             self.packets += 1;
         } else if self.counts.len() < MAX_CONVERSATIONS {
-            self.add_row(flow, len)?;
+            self.add_row(flow, len, time)?;
         } else {
             self.without_room.add(len);
             self.packets += 1;
@@ -132,19 +138,20 @@ impl Flows {
     }
 
     /// Counts the first packet of a conversation.
-    fn add_row(&mut self, flow: Flow, len: u64) -> Result<(), AllocError>
+    fn add_row(&mut self, flow: Flow, len: u64, time: Option<PacketTime>) -> Result<(), AllocError>
         requires absent { place_of flow self.old.rows ≡ None }
         requires room { length self.old.rows < max_conversations }
         requires packets { packets_counted self.old < 2 ^ 64 - 1 }
-        ensures ok { OnOk result (self.new ≡ record self.old { rows = self.old.rows ++ row_counted flow len (new_row flow) ∷ [] }) }
+        ensures ok { OnOk result (self.new ≡ record self.old { rows = self.old.rows ++ row_counted flow len time (new_row flow) ∷ [] }) }
         ensures err { OnErr result (self.new ≡ self.old) }
     {
         let mut row = ConversationCount {
             flow,
             forward: Count::NONE,
             reverse: Count::NONE,
+            span: None,
         };
-        row.add(&flow, len);
+        row.add(&flow, len, time);
         self.counts.try_reserve(1)?;
         self.places.insert(flow.canonical(), self.counts.len())?;
         self.counts.push(row)?;

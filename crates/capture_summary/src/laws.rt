@@ -1,11 +1,13 @@
 //! Laws of the types. Each law is the contract of a function, so that it is checked together with the calls.
 
-ghost use Rattle.std.specs.Prelude.{◌≡◌, ◌↔◌, ℕ, IsTrue, List, Option, false};
+ghost use Rattle.std.specs.Prelude.{◌≡◌, ◌↔◌, IsTrue, List, false};
+ghost use Rattle.capture_file.specs.declared.packet_time.PacketTime.{PacketTime};
 ghost use Rattle.capture_summary.specs.declared.flow.Flow.{Flow};
 ghost use Rattle.capture_summary.specs.Conversations.{IsOneConversation, is_one_conversation, is_same_flow, reversed};
-ghost use Rattle.capture_summary.specs.CountedPackets.{AreConversationsOf, goes_back, goes_forward, table_of};
+ghost use Rattle.capture_summary.specs.CountedPackets.{AreConversationsOf, Seen, goes_back, goes_forward, table_of};
 ghost use Rattle.capture_summary.specs.FlowTable.{max_conversations};
 ghost use Rattle.capture_summary.specs.Ranking.{default_top};
+ghost use Rattle.capture_summary.specs.TimeSpans.{HasSpan, span_of};
 
 use crate::{BUSIEST, Flow, MAX_CONVERSATIONS};
 
@@ -25,10 +27,15 @@ pub fn one_conversation(a: &Flow, b: &Flow) -> bool
     equal_flow(a, b) || equal_flow(&a.reversed(), b)
 }
 
-/// For any packets, each row of the table counts the packets of its conversation, each in its direction. No two rows belong to the same
-/// conversation.
+/// For any packets, each row of the table counts the packets of its conversation, each in its direction, and contains the span of their
+/// times. No two rows belong to the same conversation.
 pub fn conversations_of()
-    ensures { (packets : List (Option Flow × ℕ)) → AreConversationsOf packets (table_of packets).rows }
+    ensures { (packets : List Seen) → AreConversationsOf packets (table_of packets).rows }
+{}
+
+/// For any times, the span that is computed time by time begins at the least time and ends at the greatest.
+pub fn span_of_times()
+    ensures { (times : List PacketTime) → HasSpan times (span_of times) }
 {}
 
 /// If source and destination of a packet are exchanged, the same row counts the packet in the other direction. If source and destination

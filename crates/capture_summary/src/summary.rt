@@ -99,7 +99,7 @@ impl Summary {
         ensures balanced { IsBalanced self.new }
     {
         let len = info.counted_len();
-        self.flows.add(flow, len)?;
+        self.flows.add(flow, len, info.time)?;
         self.bytes = self.bytes.saturating_add(len);
         self.span = TimeSpan::with_time(self.span, info.time);
         self.protocols[protocol.place()].add(len);

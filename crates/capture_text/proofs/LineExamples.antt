@@ -21,7 +21,8 @@ use Rattle.capture_words.proofs.TimeExamples.{time}
 use Rattle.capture_words.proofs.WordsExamples.{header_text, is_header_text, segment}
 use Rattle.capture_words.specs.declared.times.Times.TheVariants.{SinceFirst}
 use Rattle.capture_text.specs.PacketLine.{IsLine}
-use Rattle.capture_text.specs.SummaryText.{summary_text}
+use Rattle.capture_text.specs.SummaryText.{summary_text, times_cells}
+use Rattle.capture_words.specs.AbsoluteTime.{absolute_text}
 
 -- ---- lines
 
@@ -64,7 +65,7 @@ five_packets = record {
   links = 0 ∷ 5 ∷ replicate 21 0;
   refusals = 0 ∷ 0 ∷ 2 ∷ replicate 9 0;
   flows = record {
-    rows = record { flow = request; forward = count 1 1000; reverse = count 1 44 } ∷ [];
+    rows = record { flow = request; forward = count 1 1000; reverse = count 1 44; span = None } ∷ [];
     without_ports = count 3 268;
     without_room = no_packets;
   };
@@ -78,8 +79,21 @@ summary_of_five : summary_text 10 five_packets
     ++ codes "unknown                             2                68\nICMPv6                              1               200\n"
     ++ codes "\nchecksum                      packets\nright                               2\nwrong                               1\n"
     ++ codes "refused                             2\n\nrefused                       packets\nIP version                          2\n"
-    ++ codes "\nbusiest conversations                 packets         bytes   packets >       bytes >   packets <       bytes <\n"
+    ++ codes "\nbusiest conversations                 packets         bytes   packets >       bytes >   packets <       bytes <"
+    ++ codes " first packet                duration         bits a second\n"
     ++ codes "UDP 192.0.2.1:49152 <> 192.0.2.2:53         2          1044           1          1000           1            44\n"
     ++ codes "packets without ports                       3           268\n"
 unfolding char_count digits encode_utf8 padded padded_integral take_chars
 summary_of_five = refl
+
+-- 1,044 bytes in 6,900 microseconds: 8 * 1044 / 0.0069 = 1210434.8
+times_of_row : times_cells (count 2 1044) (Some (record { earliest = time 1600000000 0; latest = time 1600000000 6900 }))
+    ≡ codes " " ++ (absolute_text (time 1600000000 0) ++ codes " 00:00:00.006900        1210434")
+unfolding char_count digits encode_utf8 padded padded_integral take_chars
+times_of_row = refl
+
+-- one packet has a duration of 0, and no rate
+times_of_one : times_cells (count 1 60) (Some (record { earliest = time 1600000000 5; latest = time 1600000000 5 }))
+    ≡ codes " " ++ (absolute_text (time 1600000000 5) ++ codes " 00:00:00.000000")
+unfolding char_count digits encode_utf8 padded padded_integral take_chars
+times_of_one = refl

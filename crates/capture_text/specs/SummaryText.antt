@@ -1,5 +1,5 @@
 -- The tables of the summary.
-use Rattle.std.specs.Prelude.{ℕ, Bool, ◌-◌, ◌^◌, ◌==◌, ◌&&◌, false, if◌then◌else◌, List, [], ◌++◌, fold, length, max, slice_index, codes, decimal}
+use Rattle.std.specs.Prelude.{ℕ, Bool, ◌-◌, ◌^◌, ◌==◌, ◌&&◌, false, if◌then◌else◌, List, [], ◌++◌, fold, length, max, slice_index, codes, decimal, Option, Some, None}
 use Rattle.std.specs.Fmt.{format_spec, padded, padded_integral, styled_text}
 use Rattle.std.specs.List.{flat_map}
 use Rattle.std.specs.Net.Text.{socket_text}
@@ -7,11 +7,16 @@ use Rattle.capture_summary.specs.declared.verdict_kind.VerdictKind.TheVariants.{
 use Rattle.capture_summary.specs.Conversations.{both}
 use Rattle.capture_summary.specs.Kinds.{flow_protocol_word, link_rows, protocol_rows, refusal_rows, verdict_place, verdict_rows}
 use Rattle.capture_summary.specs.Ranking.{busiest_of, by_packets}
+use Rattle.capture_summary.specs.Rates.{rates_of}
 use Rattle.capture_summary.specs.SummaryTables.{SummaryTables}
 use Rattle.capture_text.specs.TotalsText.{totals_text}
 use Rattle.capture_summary.specs.declared.count.Count.{Count}
 use Rattle.capture_summary.specs.declared.flow.Flow.{Flow}
 use Rattle.capture_summary.specs.declared.conversation_count.ConversationCount.{ConversationCount}
+use Rattle.capture_summary.specs.declared.rates.Rates.{Rates}
+use Rattle.capture_summary.specs.declared.time_span.TimeSpan.{TimeSpan}
+use Rattle.capture_words.specs.AbsoluteTime.{absolute_text}
+use Rattle.capture_words.specs.Elapsed.{elapsed_text}
 
 -- ---- cells and rows: names are aligned to the left, numbers and their titles are aligned to the right
 
@@ -64,10 +69,12 @@ counts_table packets title rows = if packets == 0 then [] else codes "\n" ++ (co
 
 -- ---- conversations
 
--- the head of the table: columns for both directions together, for the direction that was seen first, and for the other direction
+-- The head of the table: columns for both directions together, for the direction that was seen first, and for the other direction. Then
+-- columns for the times of both directions together.
 abbrev pub conversations_head : ℕ → List ℕ → List ℕ
 conversations_head width title =
-    name_cell width title ++ codes "   packets         bytes   packets >       bytes >   packets <       bytes <\n"
+    name_cell width title
+    ++ (codes "   packets         bytes   packets >       bytes >   packets <       bytes <" ++ codes " first packet                duration         bits a second\n")
 
 -- the name of a conversation, from the flow of one of its directions
 abbrev pub conversation_name : Flow → List ℕ
@@ -78,13 +85,30 @@ conversation_name flow =
 abbrev pub conversation_width : List ConversationCount → ℕ
 conversation_width rows = fold (λ width row. max width (length (conversation_name row.flow))) name_width rows
 
--- the row of a conversation: the count of both directions, and the count of each direction
-abbrev pub conversation_row : ℕ → ConversationCount → List ℕ
-conversation_row width row =
+-- the average number of bits per second; the text is empty if there are no rates
+abbrev pub rate_cell : Option Rates → List ℕ
+rate_cell None = []
+rate_cell (Some rates) = codes " " ++ number_cell 14 rates.bits
+
+-- The times of the packets of a count: the date and time of the earliest, and the time from it to the latest. Then the bits per second in
+-- this time. The text is empty if no time is known.
+abbrev pub times_cells : Count → Option TimeSpan → List ℕ
+times_cells count None = []
+times_cells count (Some span) =
+    codes " " ++ (absolute_text span.earliest ++ (codes " " ++ (elapsed_text span.earliest span.latest
+    ++ rate_cell (rates_of count.packets count.bytes span))))
+
+-- the name of a conversation, the count of both directions, and the count of each direction
+abbrev pub conversation_counts : ℕ → ConversationCount → List ℕ
+conversation_counts width row =
     name_cell width (conversation_name row.flow) ++ (codes " " ++ (number_cell 9 (both row).packets ++ (codes " "
     ++ (number_cell 13 (both row).bytes ++ (codes " " ++ (number_cell 11 row.forward.packets ++ (codes " "
     ++ (number_cell 13 row.forward.bytes ++ (codes " " ++ (number_cell 11 row.reverse.packets ++ (codes " "
-    ++ (number_cell 13 row.reverse.bytes ++ codes "\n"))))))))))))
+    ++ number_cell 13 row.reverse.bytes)))))))))))
+
+-- the row of a conversation: its counts, and the times of its packets
+abbrev pub conversation_row : ℕ → ConversationCount → List ℕ
+conversation_row width row = conversation_counts width row ++ (times_cells (both row) row.span ++ codes "\n")
 
 -- A row for packets that are counted in no conversation: packets without ports, or packets of flows for which the summary had no room. If
 -- their number is 0, the row is left out.

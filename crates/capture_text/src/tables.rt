@@ -8,7 +8,8 @@ ghost use Rattle.capture_text.specs.SummaryText.{conversations_table, counts_tab
 
 use crate::totals::write_totals;
 use arrayvec::ArrayString;
-use capture_summary::{ConversationCount, Count, Flow, Summary, VerdictKind};
+use capture_summary::{ConversationCount, Count, Flow, Rates, Summary, TimeSpan, VerdictKind};
+use capture_words::{write_absolute, write_elapsed};
 use std::fmt::Write as _;
 use std::io;
 use std::io::{ErrorKind, Write};
@@ -180,11 +181,11 @@ fn write_conversations_head<W: Write>(output: &mut W, title: &str, width: usize)
 {
     writeln!(
         output,
-        "\n{title:<width$}   packets         bytes   packets >       bytes >   packets <       bytes <"
+        "\n{title:<width$}   packets         bytes   packets >       bytes >   packets <       bytes < first packet                duration         bits a second"
     )
 }
 
-/// Writes the row of a conversation: the count of both directions, and the count of each direction.
+/// Writes the row of a conversation: the count of both directions, the count of each direction, and the times of its packets.
 fn write_conversation<W: Write>(
     output: &mut W,
     conversation: &ConversationCount,
@@ -192,14 +193,52 @@ fn write_conversation<W: Write>(
 ) -> io::Result<()>
     ensures { OnOk result (Appends (W.contents output.old) (W.contents output.new) (specs.conversation_row width conversation.now)) }
 {
+    write_counts(output, conversation, width)?;
+    write_span(output, conversation.both(), conversation.span)?;
+    writeln!(output)
+}
+
+/// Writes the name of a conversation, the count of both directions, and the count of each direction.
+fn write_counts<W: Write>(
+    output: &mut W,
+    conversation: &ConversationCount,
+    width: usize,
+) -> io::Result<()>
+    ensures { OnOk result (Appends (W.contents output.old) (W.contents output.new) (specs.conversation_counts width conversation.now)) }
+{
     let name = conversation_name(&conversation.flow)?;
     let (name, both) = (name.as_str(), conversation.both());
     let (forward, reverse) = (conversation.forward, conversation.reverse);
-    writeln!(
+    write!(
         output,
         "{name:<width$} {:>9} {:>13} {:>11} {:>13} {:>11} {:>13}",
         both.packets, both.bytes, forward.packets, forward.bytes, reverse.packets, reverse.bytes
     )
+}
+
+/// Writes the time of the earliest packet of a count, the time from it to the latest packet, and the bits per second in this time. If no
+/// time is known, it writes nothing. If the duration is 0, it writes no rate.
+fn write_span<W: Write>(output: &mut W, count: Count, span: Option<TimeSpan>) -> io::Result<()>
+    ensures { OnOk result (Appends (W.contents output.old) (W.contents output.new) (specs.times_cells count span)) }
+{
+    let Some(span) = span else {
+        return Ok(());
+    };
+    write!(output, " ")?;
+    write_absolute(output, span.earliest)?;
+    write!(output, " ")?;
+    write_elapsed(output, span.earliest, span.latest)?;
+    write_rate(output, Rates::of(count.packets, count.bytes, span))
+}
+
+/// Writes the bits per second, unless the earliest and the latest time are equal.
+fn write_rate<W: Write>(output: &mut W, rates: Option<Rates>) -> io::Result<()>
+    ensures { OnOk result (Appends (W.contents output.old) (W.contents output.new) (specs.rate_cell rates)) }
+{
+    match rates {
+        Some(Rates { bits, .. }) => write!(output, " {bits:>14}"),
+        None => Ok(()),
+    }
 }
 
 /// Writes a row for packets that are counted in no conversation: packets without ports, or packets of flows for which the summary had no

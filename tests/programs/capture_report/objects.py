@@ -16,7 +16,18 @@ def row_of(conversation):
     ends = [(conversation[name], conversation[f"{name}_port"]) for name in ("source", "destination")]
     source, destination = (f"[{address}]:{port}" if ":" in address else f"{address}:{port}" for address, port in ends)
     counts = [count[name] for count in (conversation, conversation["forward"], conversation["reverse"]) for name in ("packets", "bytes")]
-    return " ".join((conversation["protocol_name"], source, "<>", destination, *map(str, counts)))
+    times = [conversation[name] for name in ("first_packet", "duration", "bits_per_second") if name in conversation]
+    return " ".join((conversation["protocol_name"], source, "<>", destination, *map(str, counts + times)))
+
+
+def times_as_numbers(counted):
+    """The numbers that belong to the texts of the times of the summary or of a conversation."""
+    hours, minutes, rest = counted["duration"].split(":")
+    seconds, fraction = rest.split(".")
+    texts = {name: counted[name] for name in ("first_packet", "last_packet")}
+    texts["duration"] = f"{int(hours) * 3600 + int(minutes) * 60 + int(seconds)}.{fraction}"
+    return {member: number for name, text in texts.items()
+            for member, number in numbers_of(text, (f"{name}_seconds", f"{name}_nanoseconds")).items()}
 
 
 def other_rows(report):
@@ -52,13 +63,8 @@ def check_json(tally):
         stated = (f"duration {summary['duration']}, packets a second {summary['packets_per_second']}, "
                   f"bits a second {summary['bits_per_second']}")
         tally.expect(f"link type {link}: duration", stated, duration)
-        for name in ("first_packet", "last_packet"):
-            wanted = numbers_of(summary[name], (f"{name}_seconds", f"{name}_nanoseconds"))
-            tally.expect(f"link type {link}: {name}", is_within(wanted, summary), True)
-        hours, minutes, rest = summary["duration"].split(":")
-        wanted = numbers_of(f"{int(hours) * 3600 + int(minutes) * 60 + int(rest.split('.')[0])}.{rest.split('.')[1]}",
-                            ("duration_seconds", "duration_nanoseconds"))
-        tally.expect(f"link type {link}: duration as numbers", is_within(wanted, summary), True)
+        for counted in (summary, *summary["busiest_conversations"]):
+            tally.expect(f"link type {link}: times as numbers", is_within(times_as_numbers(counted), counted), True)
         rows = [row_of(row) for row in summary["busiest_conversations"]]
         tally.expect(f"link type {link}: conversations", rows, rows_of_conversations(report)[0])
         check_other_rows(tally, f"link type {link}", report, summary)

@@ -5,7 +5,8 @@ import random
 import re
 import struct
 
-from ..build import ETHERNET, IPV4, IPV6, RAW, START, block, capture, frame, interface_description, ipv4, ipv6, section_header, tcp, udp
+from ..build import (ETHERNET, IPV4, IPV6, RAW, START, block, capture, frame, interface_description, ipv4, ipv6, packet_block, section_header,
+                     tcp, udp)
 from ..kinds import every_kind
 from .report import date_and_time, rows_of_conversations, run, table_of, totals_of
 
@@ -51,24 +52,33 @@ def end_text(end):
     return f"[{text}]:{port}" if len(address) == 16 else f"{text}:{port}"
 
 
+def times_text(times, length):
+    """The columns of times in a row: the least time, the time from it to the greatest, and the bits per second in this time. All times are
+    microseconds of one second."""
+    first, last = min(times), max(times)
+    rate = f" {length * 8 * 10 ** 6 // (last - first)}" if last > first else ""
+    return f"{date_and_time(START, f'{first:06}')} 00:00:00.{last - first:06}{rate}"
+
+
 def rows_of_packets(packets):
-    """The rows of the conversations of packets, each with its protocol, both ends and its length: by a dictionary whose keys are the
-    sets of both ends. Sorting keeps those that are as busy in the order in which they are first seen."""
+    """The rows of the conversations of packets, each with its protocol, both ends, its length and its time: by a dictionary whose keys are
+    the sets of both ends. Sorting keeps those that are as busy in the order in which they are first seen."""
     counts = {}
-    for protocol, source, destination, length in packets:
-        first, there, back = counts.setdefault((protocol, frozenset((source, destination))), ((source, destination), [0, 0], [0, 0]))
+    for protocol, source, destination, length, time in packets:
+        first, there, back, times = counts.setdefault((protocol, frozenset((source, destination))), ((source, destination), [0, 0], [0, 0], []))
         direction = there if (source, destination) == first else back
         direction[0] += 1
         direction[1] += length
+        times.append(time)
     rows = [(protocol, *row) for (protocol, _), row in counts.items()]
     rows.sort(key=lambda row: (-row[2][0] - row[3][0], -row[2][1] - row[3][1]))
     return [f"{protocol} {end_text(first[0])} <> {end_text(first[1])} {there[0] + back[0]} {there[1] + back[1]} {there[0]} {there[1]}"
-            f" {back[0]} {back[1]}" for protocol, first, there, back in rows]
+            f" {back[0]} {back[1]} {times_text(times, there[1] + back[1])}" for protocol, first, there, back, times in rows]
 
 
 def check_conversations(tally):
-    """Packets between a few ends, of both protocols: each is counted in its direction of the row of its conversation. Where source and
-    destination of all are exchanged, the same rows are named by the other direction."""
+    """Packets between a few ends, of both protocols, not in the order of their times: each is counted in its direction of the row of its
+    conversation. Where source and destination of all are exchanged, the same rows are named by the other direction."""
     numbers = random.Random(1)
     four = [(bytes([192, 0, 2, number]), port) for number in (1, 2, 10) for port in (53, 49152, 1)]
     six = [(IPV6[0][:15] + bytes([number]), port) for number in (1, 2, 255) for port in (53, 1)]
@@ -86,8 +96,10 @@ def check_conversations(tally):
 
     for name, sent in (("as sent", packets), ("exchanged", [(protocol, to, source, length) for protocol, source, to, length in packets])):
         frames = [frame_of(*packet) for packet in sent]
-        stated = rows_of_packets([(*packet[:3], len(data)) for packet, data in zip(sent, frames)])
-        rows, _ = rows_of_conversations(run(capture(ETHERNET, frames), "--summary", "--top", "1000").stdout)
+        times = [numbers.randrange(10 ** 6) for _ in sent]
+        stated = rows_of_packets([(*packet[:3], len(data), time) for packet, data, time in zip(sent, frames, times)])
+        blocks = b"".join(packet_block(0, START * 10 ** 6 + time, data, len(data)) for data, time in zip(frames, times))
+        rows, _ = rows_of_conversations(run(section_header() + interface_description(ETHERNET) + blocks, "--summary", "--top", "1000").stdout)
         tally.expect(f"conversations, {name}", rows, stated)
 
 

@@ -7,8 +7,6 @@ returns c =
     (simp (
       c.in_ok-put_rates.ensures,
       c.of-rates.ensures,
-      c.packets.ensures.packets,
-      c.bytes.ensures,
       c.in_ok-put_duration.ensures,
       c.in_ok-put_instant-2.ensures,
       c.in_ok-put_date-2.ensures,
