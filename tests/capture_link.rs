@@ -2,7 +2,7 @@
 
 use crate::expect::{bytes_to, expect_at, joined};
 use crate::packets::{IPV4_UDP, UDP_OVER_IPV4};
-use capture_link::{Frame, IpBytes, LinkHeaderCutOff, NetworkProtocol, network_packet};
+use capture_link::{Frame, LinkHeaderCutOff, NetworkBytes, NetworkProtocol, network_packet};
 use capture_texts::{ByteOrder, LinkType};
 use std::process::Abort;
 
@@ -41,10 +41,14 @@ fn expect_other(
 ) {
     let len = frame.len();
     let expected = match expected {
-        Ok(protocol) => Ok(Frame::Other(protocol)),
+        Ok(protocol) => Ok(Some(protocol)),
         Err(required_len) => Err(LinkHeaderCutOff { required_len, len }),
     };
-    let found = network_packet(link_type, ByteOrder::LittleEndian, frame);
+    let found = match network_packet(link_type, ByteOrder::LittleEndian, frame) {
+        Ok(Frame::Other(protocol, _)) => Ok(Some(protocol)),
+        Ok(Frame::Ip(_)) => Ok(None),
+        Err(error) => Err(error),
+    };
     expect_at(rt, &frame, &found, &expected);
 }
 
@@ -379,7 +383,7 @@ static LOGGED: [(u8, &[u8], usize, bool); 6] = [
 fn expect_logged(rt: &(impl Abort + AllocGlobal), row: &(u8, &[u8], usize, bool)) {
     let (len, after, packet_len, is_end_stated) = *row;
     let frame = joined(rt, &[&[2, 0, 0, 5, len, 0, 9, 0, 0x45, 0, 0, 4], after]);
-    let expected = IpBytes {
+    let expected = NetworkBytes {
         bytes: &frame[8..8 + packet_len],
         start: 8,
         is_end_stated,
@@ -392,5 +396,36 @@ fn expect_logged(rt: &(impl Abort + AllocGlobal), row: &(u8, &[u8], usize, bool)
 fn logged_packets_end_with_their_attribute(rt: HostRuntime) {
     for row in &LOGGED {
         expect_logged(&rt, row);
+    }
+}
+
+/// Frames with another protocol, the place of the bytes after the link header, their number, and whether their end is stated.
+#[rattlefmt::skip]
+static OTHERS: [(LinkType, &[u8], NetworkProtocol, usize, usize, bool); 4] = [
+    (LinkType::Ethernet, &[2, 0, 0, 0, 0, 2, 2, 0, 0, 0, 0, 1, 8, 6, 1, 2, 3], NetworkProtocol::EtherType(0x0806), 14, 3, false),
+    (LinkType::Ethernet, &[2, 0, 0, 0, 0, 2, 2, 0, 0, 0, 0, 1, 0x81, 0, 0, 1, 8, 6], NetworkProtocol::EtherType(0x0806), 18, 0, false),
+    (LinkType::PppOverEthernet, &[0x11, 0, 0, 1, 0, 3, 0xC0, 0x21, 7, 8, 9], NetworkProtocol::PppProtocol(0xC021), 8, 1, true),
+    (LinkType::BsdLoopback, &[0, 0, 0, 7, 1, 2, 3, 4], NetworkProtocol::AddressFamily(7), 4, 4, false),
+];
+
+/// Stops the test unless these bytes follow the link header of another protocol.
+fn expect_bytes_of_other(
+    rt: &impl Abort,
+    row: &(LinkType, &[u8], NetworkProtocol, usize, usize, bool),
+) {
+    let (link_type, frame, protocol, start, len, is_end_stated) = *row;
+    let bytes = NetworkBytes {
+        bytes: &frame[start..start + len],
+        start,
+        is_end_stated,
+    };
+    let found = network_packet(link_type, ByteOrder::BigEndian, frame);
+    expect_at(rt, row, &found, &Ok(Frame::Other(protocol, bytes)));
+}
+
+#[test]
+fn bytes_of_other_protocols(rt: HostRuntime) {
+    for row in &OTHERS {
+        expect_bytes_of_other(&rt, row);
     }
 }

@@ -1,5 +1,7 @@
 //! Tests of the crate `capture_packet`.
 
+mod arp;
+mod fragments;
 mod packet;
 mod pppoe;
 mod quoted_packet;

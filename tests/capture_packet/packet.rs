@@ -3,7 +3,7 @@ use crate::packets::{IPV4_UDP, UDP_OVER_IPV4};
 use capture_file::{ByteOrder, LinkType};
 use capture_link::LinkHeaderCutOff;
 use capture_packet::{
-    Content, HopLimit, NetworkProtocol, Packet, Refusal, Transport, Verdict, read_packet,
+    Arp, Content, HopLimit, NetworkProtocol, Packet, Refusal, Transport, Verdict, read_packet,
 };
 use etherparse_transport::err::tcp::{HeaderError, HeaderSliceError};
 use etherparse_transport::err::{Layer, LenError};
@@ -427,7 +427,8 @@ static NETWORKS: [NetworkRow; 65] = [
 fn expect_network(rt: &impl Abort, row: &NetworkRow) {
     let (link_type, order, frame, expected) = *row;
     let len = frame.len();
-    let expected = match expected {
+    let is_arp = expected == Ok(NetworkProtocol::EtherType(0x0806));
+    let mut expected = match expected {
         Ok(protocol) => Packet::in_no_tunnel(Content::NotIp(protocol), OTHER_PROTOCOL),
         Err(0) => Packet::in_no_tunnel(
             Content::Unread,
@@ -438,6 +439,9 @@ fn expect_network(rt: &impl Abort, row: &NetworkRow) {
             Verdict::Refused(Refusal::Link(LinkHeaderCutOff { required_len, len })),
         ),
     };
+    if is_arp {
+        expected.arp = Some(Arp::CutOff);
+    }
     let packet = read_packet(link_type, order, frame, false);
     expect_at(rt, row, &packet, &expected);
 }

@@ -20,7 +20,7 @@ use Rattle.capture_texts.specs.declared.link_type.LinkType.{LinkType}
 use Rattle.capture_texts.specs.declared.link_type.LinkType.TheVariants.{Avs, BsdLoopback, CiscoHdlc, Ethernet, FrameRelay, Ieee80211, InfiniBand, Ipnet, LinuxCooked, LinuxCooked2, Nflog, OpenBsdLoopback, Pflog, Pktap, Ppi, Ppp, PppHdlc, PppOverEthernet, Prism, Radiotap, RawIp}
 use Rattle.capture_link.specs.declared.link.Frame.{Frame}
 use Rattle.capture_link.specs.declared.link.Frame.TheVariants.{Ip, Other}
-use Rattle.capture_link.specs.declared.link.IpBytes.{IpBytes}
+use Rattle.capture_link.specs.declared.link.NetworkBytes.{NetworkBytes}
 use Rattle.capture_link.specs.declared.link.LinkHeaderCutOff.{LinkHeaderCutOff}
 use Rattle.capture_link.specs.declared.link.header.EtherHeader.{EtherHeader}
 use Rattle.capture_link.specs.declared.link.header.FirstHeader.{FirstHeader}
@@ -187,19 +187,19 @@ NeedsLinkHeader link_type order frame required_len = NeedsWhole frame required_l
 
 -- The bytes of a frame after a header of this length. They end at the place `end` if the header states an end, otherwise at the end of the
 -- frame.
-pub record AreBytesAfter (frame : List ℕ) (len : ℕ) (end : Option ℕ) (found : IpBytes) : Type 0 where
+pub record AreBytesAfter (frame : List ℕ) (len : ℕ) (end : Option ℕ) (found : NetworkBytes) : Type 0 where
   pub start : found.start ≡ len
   pub is_end_stated : found.is_end_stated ≡ is_some end
   pub ordered : len ≤ end_in frame end
   pub within : end_in frame end ≤ length frame
   pub bytes : found.bytes.now ≡ slice_range frame len (end_in frame end)
 
--- The content of a frame after a header of this length. If the next protocol is `None`, the bytes after the header contain an IP packet.
--- Otherwise another protocol follows.
+-- The content of a frame after a header of this length: the bytes after the header, which contain an IP packet if the next protocol is
+-- `None`. Otherwise another protocol follows.
 abbrev pub IsCutAfter : List ℕ → ℕ → Option NetworkProtocol → Option ℕ → Frame → Type 0
 IsCutAfter frame len None end (Ip found) = AreBytesAfter frame len end found
-IsCutAfter frame len (Some protocol) end (Other other) = other ≡ protocol
-IsCutAfter frame len None end (Other other) = ⊥
+IsCutAfter frame len (Some protocol) end (Other other found) = (other ≡ protocol) × AreBytesAfter frame len end found
+IsCutAfter frame len None end (Other other found) = ⊥
 IsCutAfter frame len (Some protocol) end (Ip found) = ⊥
 
 -- the content of a frame after a link header for which `HasHeader` holds

@@ -3,7 +3,7 @@
 //! ```
 //! match network_packet(link_type, order, frame) {
 //!     Ok(Frame::Ip(found)) => ..
-//!     Ok(Frame::Other(protocol)) => ..
+//!     Ok(Frame::Other(protocol, bytes)) => ..
 //!     Err(LinkHeaderCutOff { required_len, len }) => ..
 //! }
 //! ```
@@ -12,5 +12,5 @@
 pub mod link;
 mod network_protocol;
 
-pub use link::{Frame, IpBytes, LinkHeaderCutOff, network_packet};
+pub use link::{Frame, LinkHeaderCutOff, NetworkBytes, network_packet};
 pub use network_protocol::NetworkProtocol;

@@ -44,16 +44,16 @@ use capture_texts::{ByteOrder, LinkType};
 #[derive(Debug, PartialEq, Eq, Drop)]
 pub enum Frame<'a> {
     /// The frame contains an IPv4 or IPv6 packet, at the front of these bytes.
-    Ip(IpBytes<'a>),
-    /// The frame contains another network protocol.
-    Other(NetworkProtocol),
+    Ip(NetworkBytes<'a>),
+    /// The frame contains another network protocol, and these bytes after its link header.
+    Other(NetworkProtocol, NetworkBytes<'a>),
 }
 
 /// The bytes of a frame after its link header.
 #[derive(Debug, PartialEq, Eq, Drop)]
-pub struct IpBytes<'a> {
+pub struct NetworkBytes<'a> {
     /// The bytes after the link header, up to the end that the header states, or otherwise up to the end of the frame. They begin with the
-    /// IP packet. Padding may follow the packet.
+    /// packet of the network protocol. Padding may follow the packet.
     pub bytes: &'a [u8],
     /// The place of these bytes, in bytes from the start of the frame: the length of the link header.
     pub start: usize,
@@ -150,19 +150,20 @@ pub fn network_packet(
     ensures len { IfErr result (λ error. error.len ≡ length frame.now) }
 {
     let header = link_header(link_type, order, frame)?;
+    let bytes = bytes_after(header, frame);
     match header.next {
-        None => Ok(Frame::Ip(bytes_after(header, frame))),
-        Some(protocol) => Ok(Frame::Other(protocol)),
+        None => Ok(Frame::Ip(bytes)),
+        Some(protocol) => Ok(Frame::Other(protocol, bytes)),
     }
 }
 
 /// The bytes after a link header, up to the end that the header states, or otherwise up to the end of the frame.
-fn bytes_after(header: LinkHeader, frame: &[u8]) -> IpBytes<'_>
+fn bytes_after(header: LinkHeader, frame: &[u8]) -> NetworkBytes<'_>
     requires { IsHeaderWithin frame.now header }
     ensures { AreBytesAfter frame.now header.len header.end result }
 {
     let end = header.end.unwrap_or(frame.len());
-    IpBytes {
+    NetworkBytes {
         bytes: &frame[header.len..end],
         start: header.len,
         is_end_stated: header.end.is_some(),

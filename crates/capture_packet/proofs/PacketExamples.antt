@@ -52,6 +52,8 @@ packet = record {
   content = Ip addresses (record { 0 = 17 }) (Some protos.Udp) (Read (slices.Udp datagram)) 1;
   verdict = Checksum Right;
   hop_limit = Some (TimeToLive 64);
+  fragment = None;
+  arp = None;
 }
 
 -- the transport after the IP header
@@ -121,12 +123,13 @@ is_ip_packet : IsIpPacket false frame packet
 unfolding folded headers_to_transport options_within
 is_ip_packet = (
   refl,
+  refl,
   record {
     found = found;
     carries = is_carried;
     stated = refl;
     after = is_after_headers;
-    is_in = ((refl, (refl, (refl, ((refl, refl), refl)))), (λ none. absurd (omega (arith, none)), (omega arith, refl)));
+    is_in = ((refl, (refl, (refl, ((refl, refl), refl)))), ((λ none. absurd (omega (arith, none)), (omega arith, refl)), refl));
   },
 )
 
@@ -162,5 +165,5 @@ is_rejected = inl (record {
     has_header = (refl, refl, refl);
     is_cut = record { start = refl; is_end_stated = refl; ordered = omega arith; within = omega arith; bytes = refl };
   };
-  is_in = (refl, (refl, (refl, refl)));
+  is_in = (refl, (refl, refl, (refl, (refl, refl))));
 })

@@ -1,12 +1,14 @@
 -- The packet in a frame: its content, and the verdict on it.
-use Rattle.std.specs.Prelude.{◌≡◌, ◌⊎◌, ◌&&◌, ℕ, Bool, true, false, not, List, length, map, MatchOption}
+use Rattle.std.specs.Prelude.{◌≡◌, ◌⊎◌, ◌&&◌, ℕ, Bool, true, false, not, List, length, map, None, MatchOption}
 use Rattle.ip_part.specs.Ip.{Carries, IsAfterHeaders, lacks_len, lax_refusal, refusal}
 use Rattle.ip_part.specs.declared.ip_error.IpError.{IpError}
 use Rattle.ip_part.specs.declared.transport.TransportInIp.{TransportInIp}
 use Rattle.transport_part.specs.declared.checksum_verdict.Untested.TheVariants.{CutOff, OtherProtocol}
 use Rattle.capture_texts.specs.declared.byte_order.ByteOrder.{ByteOrder}
 use Rattle.capture_texts.specs.declared.link_type.LinkType.{LinkType}
+use Rattle.capture_packet.specs.ArpPackets.{arp_of}
 use Rattle.capture_packet.specs.Contents.{Shows, ShowsRefused}
+use Rattle.capture_packet.specs.FragmentFields.{fragment_fields}
 use Rattle.capture_link.specs.Link.{HasLinkHeader, IsFoundAfter, NeedsLinkHeader}
 use Rattle.capture_packet.specs.HopLimits.{hop_limit_of}
 use Rattle.capture_packet.specs.Packets.{in_no_tunnel}
@@ -16,6 +18,7 @@ use Rattle.capture_packet.specs.declared.content.Content.TheVariants.{NotIp, Unr
 use Rattle.capture_link.specs.declared.link.Frame.{Frame}
 use Rattle.capture_link.specs.declared.link.Frame.TheVariants.{Ip, Other}
 use Rattle.capture_link.specs.declared.link.LinkHeaderCutOff.{LinkHeaderCutOff}
+use Rattle.capture_link.specs.declared.network_protocol.NetworkProtocol.{NetworkProtocol}
 use Rattle.capture_packet.specs.declared.packet.Packet.{Packet}
 use Rattle.capture_packet.specs.declared.refusal.Refusal.TheVariants as refusals
 use Rattle.capture_packet.specs.declared.verdict.Verdict.{Verdict}
@@ -27,9 +30,11 @@ max_packet_len = 524288
 
 -- ---- IP packets
 
--- the content of the packet contains this transport, and the verdict on the packet is the verdict on this transport
+-- the content of the packet contains this transport, the verdict on the packet is the verdict on this transport, and the packet has the
+-- fields of its fragment if it is one
 abbrev pub IsInPacket : Bool → List ℕ → TransportInIp → Packet → Type 0
-IsInPacket is_cut bytes found packet = Shows bytes found packet.verdict packet.content × JudgesTransport is_cut found packet.verdict
+IsInPacket is_cut bytes found packet = Shows bytes found packet.verdict packet.content
+    × (JudgesTransport is_cut found packet.verdict × (packet.fragment ≡ fragment_fields bytes))
 
 -- the IP headers of the packet are accepted, and a transport follows them
 pub record IsCarried (is_cut : Bool) (bytes : List ℕ) (packet : Packet) : Type 0 where
@@ -41,11 +46,12 @@ pub record IsCarried (is_cut : Bool) (bytes : List ℕ) (packet : Packet) : Type
 
 -- the IP headers of the packet are refused with this error
 abbrev pub IsUnread : Bool → List ℕ → IpError → Packet → Type 0
-IsUnread is_cut_off bytes error packet = ShowsRefused bytes packet.content × (packet.verdict ≡ unread_verdict is_cut_off error)
+IsUnread is_cut_off bytes error packet =
+    ShowsRefused bytes packet.content × ((packet.verdict ≡ unread_verdict is_cut_off error) × (packet.fragment ≡ None))
 
 -- An IP packet. Its headers are accepted or refused. A packet that is cut off or states no length is not refused for that reason.
 abbrev pub IsIpPacket : Bool → List ℕ → Packet → Type 0
-IsIpPacket is_cut bytes packet = (packet.hop_limit ≡ hop_limit_of bytes)
+IsIpPacket is_cut bytes packet = (packet.hop_limit ≡ hop_limit_of bytes) × (packet.arp ≡ None)
     × MatchOption (lax_refusal bytes) (IsCarried is_cut bytes packet)
     (λ error. IsUnread (is_cut_off is_cut bytes (refusal bytes)) bytes error packet)
 
@@ -60,10 +66,14 @@ IsInTunnels nested packet = (map by_value packet.tunnels.items ≡ nested.outers
 abbrev pub are_bytes_cut : Bool → Bool → Bool
 are_bytes_cut is_cut is_end_stated = is_cut && not is_end_stated
 
+-- a packet of a protocol other than IP; these bytes follow the link header
+abbrev pub other_packet : NetworkProtocol → List ℕ → Packet
+other_packet protocol bytes = record (in_no_tunnel (NotIp protocol) (untested OtherProtocol)) { arp = arp_of protocol bytes }
+
 -- the packet in the frame: another protocol, or an IP packet, or the innermost IP packet if there are tunnels
 abbrev pub IsInFrame : Bool → Frame → Packet → Type 0
 IsInFrame is_cut (Ip found) packet = IsInTunnels (innermost (are_bytes_cut is_cut found.is_end_stated) found.bytes.now) packet
-IsInFrame is_cut (Other protocol) packet = packet ≡ in_no_tunnel (NotIp protocol) (untested OtherProtocol)
+IsInFrame is_cut (Other protocol found) packet = packet ≡ other_packet protocol found.bytes.now
 
 -- the packet in a frame that has a whole link header
 pub record IsAfterHeader (link_type : LinkType) (order : ByteOrder) (frame : List ℕ) (is_cut : Bool) (packet : Packet) : Type 0 where

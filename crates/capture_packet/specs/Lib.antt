@@ -1,5 +1,7 @@
 pub mod Addresses
+pub mod ArpPackets
 pub mod Contents
+pub mod FragmentFields
 pub mod Frames
 pub mod Gre
 pub mod HopLimits

@@ -15,8 +15,10 @@
 #![tactic(auto)]
 
 mod addresses;
+mod arp;
 mod content;
 mod fixed_header;
+mod fragment_fields;
 mod gre;
 mod hop_limit;
 mod packet;
@@ -29,8 +31,10 @@ mod tunnel;
 mod verdict;
 
 pub use addresses::{destination_of, source_of};
+pub use arp::{Arp, ArpAddresses};
 pub use capture_link::NetworkProtocol;
 pub use content::Content;
+pub use fragment_fields::{FragmentFields, Identification};
 pub use hop_limit::HopLimit;
 pub use packet::Packet;
 pub use quoted_packet::QuotedPacket;

@@ -3,17 +3,20 @@ ghost use Rattle.std.specs.Option.{option_map};
 ghost use Rattle.arrayvec.specs.ArrayVec.{array_vec_len};
 ghost use Rattle.ip_part.specs.Ip.{Carries, lacks_len, lax_refusal, refusal};
 ghost use Rattle.capture_packet.specs.Frames.{IsInPacket, IsInTunnels, IsRead, IsUnread, are_bytes_cut, link_verdict};
+ghost use Rattle.capture_packet.specs.Frames as frames;
 ghost use Rattle.capture_packet.specs.HopLimits as hop_limits;
 ghost use Rattle.capture_packet.specs.Tunnels.{innermost, max_tunnels, payload_packet};
 ghost use Rattle.capture_packet.specs.Verdicts as specs;
 
+use crate::arp::arp_of;
 use crate::fixed_header::{IPV6_LEN, addresses_in, hop_limit_in};
+use crate::fragment_fields::fragment_fields;
 use crate::payload::{counted_payload_len, payload_len};
 use crate::transport::{is_transport_cut_off, read_transport};
 use crate::tunnel::packet_in_payload;
 use crate::{Content, Packet, Refusal, Tunnel, Tunnels, Verdict};
 use arrayvec::ArrayVec;
-use capture_link::{Frame, LinkHeaderCutOff, network_packet};
+use capture_link::{Frame, LinkHeaderCutOff, NetworkProtocol, network_packet};
 use capture_texts::{ByteOrder, LinkType};
 use ip_part::{IpError, TransportInIp, fixed_header, transport_in_ip, transport_in_ip_lax};
 use transport_part::Untested;
@@ -59,12 +62,19 @@ pub fn read_packet<'a>(
             found.bytes,
             are_bytes_cut(is_cut, found.is_end_stated),
         ),
-        Ok(Frame::Other(protocol)) => Packet::in_no_tunnel(
-            Content::NotIp(protocol),
-            Verdict::untested(Untested::OtherProtocol),
-        ),
+        Ok(Frame::Other(protocol, found)) => other_packet(protocol, found.bytes),
         Err(error) => Packet::in_no_tunnel(Content::Unread, link_verdict(error, is_cut)),
     }
+}
+
+/// A packet of a protocol other than IP. `bytes` follow the link header.
+fn other_packet<'a>(protocol: NetworkProtocol, bytes: &'a [u8]) -> Packet<'a>
+    ensures { result ≡ frames.other_packet protocol bytes.now }
+{
+    let verdict = Verdict::untested(Untested::OtherProtocol);
+    let mut packet = Packet::in_no_tunnel(Content::NotIp(protocol), verdict);
+    packet.arp = arp_of(protocol, bytes);
+    packet
 }
 
 /// Whether the capture cut the bytes after a link header. If the link header states the end of these bytes, none of them was cut.
@@ -166,6 +176,7 @@ fn carried<'a>(
     ensures tunnels { result.tunnels ≡ tunnels.entry }
     ensures is { IsInPacket is_cut packet.now found.now result }
     ensures hop_limit { result.hop_limit ≡ hop_limits.hop_limit_of packet.now }
+    ensures arp { result.arp ≡ None }
 {
     let (transport, verdict) = read_transport(found, is_cut);
     let payload_len = payload_len(&transport, counted_payload_len(found));
@@ -180,6 +191,8 @@ fn carried<'a>(
         },
         verdict,
         hop_limit: Some(hop_limit_in(found.fixed_header)),
+        fragment: fragment_fields(packet),
+        arp: None,
     }
 }
 
@@ -193,6 +206,7 @@ fn unread<'a>(
     ensures tunnels { result.tunnels ≡ tunnels.entry }
     ensures is { IsUnread is_cut_off packet.now error result }
     ensures hop_limit { result.hop_limit ≡ hop_limits.hop_limit_of packet.now }
+    ensures arp { result.arp ≡ None }
 {
     let (content, hop_limit) = match fixed_header(packet) {
         Some(header) => (
@@ -206,6 +220,8 @@ fn unread<'a>(
         content,
         verdict: unread_verdict(error, is_cut_off),
         hop_limit,
+        fragment: None,
+        arp: None,
     }
 }
 

@@ -65,7 +65,7 @@ fn packet_place(
 {
     match network_packet(link_type, order, frame) {
         Ok(Frame::Ip(found)) => Ok((found.start, found.start + found.bytes.len())),
-        Ok(Frame::Other(_)) => Err(Reason::NotIp),
+        Ok(Frame::Other(_, _)) => Err(Reason::NotIp),
         Err(_) => Err(Reason::LinkHeader),
     }
 }

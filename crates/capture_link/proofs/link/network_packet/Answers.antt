@@ -7,7 +7,7 @@ returns-in-None-clause-found c = record {
   next = None;
   end = c.in_ok-header.header.end;
   has_header = rw c.in-None.is at c.in_ok-header.ensures.found;
-  is_cut = c.bytes_after.ensures;
+  is_cut = c.bytes_after-bytes.ensures;
 }
 
 pub returns-in-Some-clause-found : goal.returns-in-Some-clause-found
@@ -16,5 +16,5 @@ returns-in-Some-clause-found c = record {
   next = Some c.in-Some.protocol;
   end = c.in_ok-header.header.end;
   has_header = rw c.in-Some.is at c.in_ok-header.ensures.found;
-  is_cut = refl;
+  is_cut = (refl, c.bytes_after-bytes.ensures);
 }

@@ -13,7 +13,7 @@ returns-in-Err c =
     in_these _ outers c.loop-found.is_rest_cut c.loop-found.rest.now c.unread.result
     (c.loop-found.invariant.1 ∙ ap (around outers) (refused_is_alone _ _ _ _ refused))
     (ap (λ tunnels. map by_value tunnels.items) c.unread.ensures.tunnels)
-    (c.unread.ensures.hop_limit, rw refused (rw c.is_cut_off.ensures at c.unread.ensures.is))
+    (c.unread.ensures.hop_limit, c.unread.ensures.arp, rw refused (rw c.is_cut_off.ensures at c.unread.ensures.is))
 
 -- a packet with a transport, which contains no other packet, or is in as many tunnels as are read
 pub returns-in_default : goal.returns-in_default
@@ -28,6 +28,7 @@ returns-in_default c =
     ∙ ap (around outers) (stops _ _ _ (λ left. closed_is _ _ _ accepted c.in-Ok.ensures.found c.in-Ok.ensures.stated (closed left))))
     (ap (λ tunnels. map by_value tunnels.items) c.carried.ensures.tunnels) (
       c.carried.ensures.hop_limit,
+      c.carried.ensures.arp,
       rw accepted (record {
         found = c.in-Ok.found;
         carries = c.in-Ok.ensures.found;
