@@ -1,8 +1,10 @@
 pub mod AbsoluteTime
 pub mod Elapsed
 pub mod Flags
+pub mod HardwareAddress
 pub mod IcmpText
 pub mod Icmpv4Text
+pub mod Icmpv6Fields
 pub mod Icmpv6Text
 pub mod Numbers
 pub mod Refusals

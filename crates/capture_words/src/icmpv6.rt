@@ -1,22 +1,38 @@
-//! The messages of ICMPv6 (RFC 4443, RFC 4861).
+//! The messages of ICMPv6 (RFC 4443, RFC 4861), and those about multicast listeners (RFC 2710, RFC 3810).
 
 ghost use Rattle.std.specs.Prelude.{◌≡◌, OnOk};
 ghost use Rattle.std.specs.Io.KnownBytes.{Appends};
+ghost use Rattle.std.specs.Option.{option_map};
 ghost use Rattle.icmp_part.specs.declared.icmpv6_type.Icmpv6Type.TheVariants as types;
 ghost use Rattle.capture_words.specs.Icmpv6Text as specs;
 ghost use Rattle.capture_words.specs.Icmpv6Text.{message_text};
 
 use crate::flags::write_flags;
 use crate::icmp::{write_echo, write_field, write_named_message, write_unknown};
-use icmp_part::Icmpv6Type;
+use crate::icmpv6_fields::{
+    Icmpv6Fields, LISTENER_DONE, LISTENER_QUERY, LISTENER_REPORT, LISTENER_REPORT_2, write_fields,
+};
 use icmp_part::icmpv6::{
     DestUnreachableCode, NeighborAdvertisementHeader, ParameterProblemCode, ParameterProblemHeader,
     RouterAdvertisementHeader, TimeExceededCode,
 };
+use icmp_part::{Icmpv6Slice, Icmpv6Type};
 use std::io;
 use std::io::Write;
 
-/// Writes the name of a message, its code, and its fields.
+/// Writes a message with all its fields: its name, its code, the fields in its first eight bytes, and those after them.
+///
+/// # Errors
+///
+/// The error of the writer, if writing fails.
+pub fn write_packet<W: Write>(output: &mut W, message: &Icmpv6Slice) -> io::Result<()>
+    ensures { OnOk result (Appends (W.contents output.old) (W.contents output.new) (specs.packet_text message.now)) }
+{
+    write_message(output, &message.icmp_type())?;
+    write_fields(output, &Icmpv6Fields::of(message))
+}
+
+/// Writes the name of a message, its code, and the fields in its first eight bytes.
 ///
 /// # Errors
 ///
@@ -29,7 +45,7 @@ pub fn write_message<W: Write>(output: &mut W, message: &Icmpv6Type) -> io::Resu
             type_u8,
             code_u8,
             bytes5to8,
-        } => write_unknown(output, *type_u8, *code_u8, bytes5to8),
+        } => write_listener_or_unknown(output, *type_u8, *code_u8, bytes5to8),
         Icmpv6Type::DestinationUnreachable(code) => write_unreachable(output, *code),
         Icmpv6Type::PacketTooBig { mtu } => write!(output, "packet too big, code 0, MTU {mtu}"),
         Icmpv6Type::TimeExceeded(code) => write_time_exceeded(output, *code),
@@ -41,6 +57,67 @@ pub fn write_message<W: Write>(output: &mut W, message: &Icmpv6Type) -> io::Resu
         Icmpv6Type::NeighborSolicitation => write!(output, "neighbor solicitation, code 0"),
         Icmpv6Type::NeighborAdvertisement(neighbor) => write_neighbor(output, neighbor),
         Icmpv6Type::Redirect => write!(output, "redirect, code 0"),
+    }
+}
+
+/// Writes a message about multicast listeners, or a message that is not read.
+fn write_listener_or_unknown<W: Write>(
+    output: &mut W,
+    type_u8: u8,
+    code_u8: u8,
+    bytes5to8: &[u8; 4],
+) -> io::Result<()>
+    ensures { OnOk result (Appends (W.contents output.old) (W.contents output.new)
+        (message_text (types.Unknown type_u8 code_u8 bytes5to8.now))) }
+{
+    match listener_name(type_u8) {
+        Some(name) => write_listener(output, name, type_u8, code_u8, bytes5to8),
+        None => write_unknown(output, type_u8, code_u8, bytes5to8),
+    }
+}
+
+/// Writes a message about multicast listeners with this name.
+fn write_listener<W: Write>(
+    output: &mut W,
+    name: &str,
+    type_u8: u8,
+    code_u8: u8,
+    bytes5to8: &[u8; 4],
+) -> io::Result<()>
+    ensures { OnOk result (Appends (W.contents output.old) (W.contents output.new)
+        (specs.listener_text name.now type_u8 code_u8 bytes5to8.now)) }
+{
+    write!(output, "{name}, code {code_u8}")?;
+    write_listener_number(output, type_u8, bytes5to8)
+}
+
+/// The name of a message about multicast listeners. `None` for any other type.
+fn listener_name(type_u8: u8) -> Option<&'static str>
+    ensures { option_map (λ name. name.now) result ≡ specs.listener_name type_u8 }
+{
+    match type_u8 {
+        LISTENER_QUERY => Some("multicast listener query"),
+        LISTENER_REPORT => Some("multicast listener report"),
+        LISTENER_DONE => Some("multicast listener done"),
+        LISTENER_REPORT_2 => Some("version 2 multicast listener report"),
+        _ => None,
+    }
+}
+
+/// Writes the maximum response code of a query, or the number of records of a version 2 report.
+fn write_listener_number<W: Write>(
+    output: &mut W,
+    type_u8: u8,
+    bytes5to8: &[u8; 4],
+) -> io::Result<()>
+    ensures { OnOk result (Appends (W.contents output.old) (W.contents output.new) (specs.listener_number type_u8 bytes5to8.now)) }
+{
+    let first = u16::from_be_bytes([bytes5to8[0], bytes5to8[1]]);
+    let second = u16::from_be_bytes([bytes5to8[2], bytes5to8[3]]);
+    match type_u8 {
+        LISTENER_QUERY => write_field(output, "maximum response code", u32::from(first)),
+        LISTENER_REPORT_2 => write_field(output, "records", u32::from(second)),
+        _ => Ok(()),
     }
 }
 

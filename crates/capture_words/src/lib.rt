@@ -6,10 +6,12 @@
 
 mod absolute_time;
 mod flags;
+mod hardware_address;
 mod hex;
 mod icmp;
 pub mod icmpv4;
 pub mod icmpv6;
+mod icmpv6_fields;
 mod refusal;
 pub mod tcp;
 mod tcp_options;
@@ -17,6 +19,8 @@ mod time;
 mod times;
 
 pub use absolute_time::{nanoseconds_since_1970, write_absolute};
+pub use hardware_address::write_hardware_address;
+pub use icmpv6_fields::{Icmpv6Fields, LISTENER_QUERY, LISTENER_REPORT_2};
 pub use refusal::{write_refusal, write_zero_length};
 pub use tcp_options::{write_fault, write_option};
 pub use time::{write_elapsed, write_since, write_time};

@@ -1,0 +1,6 @@
+use Rattle.std.proofs.Common.{append_assoc}
+use Rattle.capture_words.proofs.WrittenLemmas.{written_2}
+use Rattle.capture_words.proofs.icmpv6.write_listener.Goals as goal
+
+pub returns : goal.returns
+returns g c = written_2 _ _ _ _ _ _ _ c.in_ok-write.ensures.bytes c.write_listener_number.ensures (simp append_assoc)
