@@ -18,39 +18,23 @@ const SENDER: [u8; 10] = [2, 0, 0, 0, 0, 7, 192, 0, 2, 7];
 
 const TARGET: [u8; 10] = [3, 4, 5, 6, 7, 8, 192, 0, 2, 1];
 
-/// The addresses that are read, with this operation.
-const fn with_addresses(operation: u16) -> Arp {
-    Arp::Addresses {
-        operation,
-        addresses: ADDRESSES,
-    }
-}
-
-/// Only this operation is read.
-const fn only(operation: u16, is_cut_off: bool) -> Arp {
-    Arp::Operation {
-        operation,
-        is_cut_off,
-    }
-}
-
 /// The parts of an ARP packet, and what is read of it.
 #[rattlefmt::skip]
 static PACKETS: [(&[&[u8]], Arp); 14] = [
-    (&[&[0, 1, 8, 0, 6, 4, 0, 1], &SENDER, &TARGET], with_addresses(1)),
-    (&[&[0, 1, 8, 0, 6, 4, 0, 2], &SENDER, &TARGET, &[0; 18]], with_addresses(2)),
-    (&[&[0, 1, 8, 0, 6, 4, 1, 9], &SENDER, &TARGET], with_addresses(265)),
-    (&[&[0, 1, 8, 0, 6, 4, 0, 1], &SENDER, &TARGET[..9]], only(1, true)),
-    (&[&[0, 1, 8, 0, 6, 4, 0, 1]], only(1, true)),
+    (&[&[0, 1, 8, 0, 6, 4, 0, 1], &SENDER, &TARGET], Arp::Addresses { operation: 1, addresses: ADDRESSES }),
+    (&[&[0, 1, 8, 0, 6, 4, 0, 2], &SENDER, &TARGET, &[0; 18]], Arp::Addresses { operation: 2, addresses: ADDRESSES }),
+    (&[&[0, 1, 8, 0, 6, 4, 1, 9], &SENDER, &TARGET], Arp::Addresses { operation: 265, addresses: ADDRESSES }),
+    (&[&[0, 1, 8, 0, 6, 4, 0, 1], &SENDER, &[3, 4, 5, 6, 7, 8, 192, 0, 2]], Arp::Operation { operation: 1, is_cut_off: true }),
+    (&[&[0, 1, 8, 0, 6, 4, 0, 1]], Arp::Operation { operation: 1, is_cut_off: true }),
     (&[&[0, 1, 8, 0, 6, 4, 0]], Arp::CutOff),
     (&[], Arp::CutOff),
-    (&[&[0, 6, 8, 0, 6, 4, 0, 1], &SENDER, &TARGET], only(1, false)),
-    (&[&[1, 1, 8, 0, 6, 4, 0, 1], &SENDER, &TARGET], only(1, false)),
-    (&[&[0, 1, 8, 1, 6, 4, 0, 1], &SENDER, &TARGET], only(1, false)),
-    (&[&[0, 1, 8, 0, 4, 6, 0, 1], &SENDER, &TARGET], only(1, false)),
-    (&[&[0, 1, 8, 0, 6, 3, 0, 1], &SENDER, &TARGET], only(1, false)),
-    (&[&[0, 1, 8, 0, 7, 4, 0, 3], &SENDER, &TARGET], only(3, true)),
-    (&[&[0, 0, 0, 0, 0, 0, 0, 0]], only(0, false)),
+    (&[&[0, 6, 8, 0, 6, 4, 0, 1], &SENDER, &TARGET], Arp::Operation { operation: 1, is_cut_off: false }),
+    (&[&[1, 1, 8, 0, 6, 4, 0, 1], &SENDER, &TARGET], Arp::Operation { operation: 1, is_cut_off: false }),
+    (&[&[0, 1, 8, 1, 6, 4, 0, 1], &SENDER, &TARGET], Arp::Operation { operation: 1, is_cut_off: false }),
+    (&[&[0, 1, 8, 0, 4, 6, 0, 1], &SENDER, &TARGET], Arp::Operation { operation: 1, is_cut_off: false }),
+    (&[&[0, 1, 8, 0, 6, 3, 0, 1], &SENDER, &TARGET], Arp::Operation { operation: 1, is_cut_off: false }),
+    (&[&[0, 1, 8, 0, 7, 4, 0, 3], &SENDER, &TARGET], Arp::Operation { operation: 3, is_cut_off: true }),
+    (&[&[0, 0, 0, 0, 0, 0, 0, 0]], Arp::Operation { operation: 0, is_cut_off: false }),
 ];
 
 /// Stops the test unless this is read of an ARP packet after this link header.
