@@ -1,3 +1,4 @@
+mod FieldExamples
 pub mod FrameLemmas
 pub mod PacketExamples
 mod TunnelExamples

@@ -1,5 +1,5 @@
 -- Laws of the search for a link-layer address in options.
-use Rattle.std.proofs.Common.{◌≡◌, ℕ, zero, suc, ◌*◌, ◌<◌, ◌≤◌, nat_lt, ◌==◌, Bool, true, false, if◌then◌else◌, List, length, length-drop, drop, slice_index, slice_range, Option, Some, None, refl, ◌∙◌, ap, arith}
+use Rattle.std.proofs.Common.{◌≡◌, ℕ, zero, suc, ◌*◌, ◌<◌, ◌≤◌, nat_lt, ◌==◌, true, false, if◌then◌else◌, List, length, length-drop, drop, slice_index, slice_range, Option, Some, None, refl, ◌∙◌, ap, arith}
 use Rattle.std.proofs.lemmas.Bool.Decides.{nat_tests}
 use Rattle.capture_words.specs.Icmpv6Fields.{is_link_layer_address, link_layer_address_from, link_layer_address_in}
 

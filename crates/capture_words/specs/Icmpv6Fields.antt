@@ -1,11 +1,11 @@
 -- The fields of an ICMPv6 message after its first eight bytes: of neighbor discovery (RFC 4861, section 4), and of the messages about
 -- multicast listeners (RFC 2710, section 3; RFC 3810, section 5).
-use Rattle.std.specs.Prelude.{ℕ, zero, suc, ◌+◌, ◌*◌, ◌==◌, ◌&&◌, ◌||◌, Bool, true, false, nat_le, nat_lt, if◌then◌else◌, List, [], ◌++◌, length, drop, slice_index, slice_range, codes, Option, Some, None}
+use Rattle.std.specs.Prelude.{ℕ, zero, suc, ◌+◌, ◌*◌, ◌==◌, ◌&&◌, ◌||◌, Bool, nat_le, nat_lt, if◌then◌else◌, List, [], ◌++◌, length, drop, slice_index, slice_range, codes, Option, Some, None}
 use Rattle.std.specs.Net.Addr.{segments_of}
 use Rattle.std.specs.Net.Text.{ipv6_text}
 use Rattle.icmp_part.specs.Icmpv6Format.{icmp_type_of}
 use Rattle.icmp_part.specs.declared.icmpv6_type.Icmpv6Type.{Icmpv6Type}
-use Rattle.icmp_part.specs.declared.icmpv6_type.Icmpv6Type.TheVariants.{Unknown, DestinationUnreachable, PacketTooBig, TimeExceeded, ParameterProblem, EchoRequest, EchoReply, RouterSolicitation, RouterAdvertisement, NeighborSolicitation, NeighborAdvertisement, Redirect}
+use Rattle.icmp_part.specs.declared.icmpv6_type.Icmpv6Type.TheVariants.{RouterSolicitation, RouterAdvertisement, NeighborSolicitation, NeighborAdvertisement, Redirect}
 use Rattle.capture_words.specs.HardwareAddress.{hardware_address_text}
 use Rattle.capture_words.specs.declared.icmpv6_fields.Icmpv6Fields.{Icmpv6Fields}
 
