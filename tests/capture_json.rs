@@ -7,7 +7,8 @@ use capture_file::pcapng::TimeResolution;
 use capture_file::{LinkType, PacketTime};
 use capture_json::{write_packet, write_summary};
 use capture_packet::{
-    Content, HopLimit, NetworkProtocol, Packet, Refusal, Transport, Tunnel, Verdict,
+    Arp, ArpAddresses, Content, FragmentFields, HopLimit, Identification, NetworkProtocol, Packet,
+    Refusal, Transport, Tunnel, Verdict,
 };
 use capture_summary::{CaptureInfo, FrameLen, Protocol, RefusalKind, Summary, VerdictKind};
 use capture_words::Times;
@@ -144,6 +145,68 @@ fn expect_hop_limit(rt: &(impl Abort + AllocGlobal), hop_limit: HopLimit, wanted
 fn hop_limits(rt: HostRuntime) {
     for (hop_limit, wanted) in &HOP_LIMITS {
         expect_hop_limit(&rt, *hop_limit, wanted);
+    }
+}
+
+/// Identifications of fragments, their offsets, whether more fragments follow, and the object of a packet with each.
+#[rattlefmt::skip]
+const FRAGMENTS: [(Identification, u16, bool, &str); 2] = [
+    (Identification::Ipv4(0x1A2B), 1480, true, r#"{"type":"packet","number":1,"time":null,"source":"192.0.2.1","destination":"192.0.2.2","fragment":{"identification":6699,"offset":1480,"more_fragments":true},"checksum":"not_looked_at","reason":"fragment"}"#),
+    (Identification::Ipv6(u32::MAX), 8, false, r#"{"type":"packet","number":1,"time":null,"source":"192.0.2.1","destination":"192.0.2.2","fragment":{"identification":4294967295,"offset":8,"more_fragments":false},"checksum":"not_looked_at","reason":"fragment"}"#),
+];
+
+/// Stops the test unless the fragment of a row has the object of the row.
+fn expect_fragment(rt: &(impl Abort + AllocGlobal), row: &(Identification, u16, bool, &str)) {
+    let (identification, offset, more_fragments, wanted) = *row;
+    let content = Content::IpHeader(OVER_IPV4);
+    let mut packet = Packet::in_no_tunnel(content, Verdict::untested(Untested::Fragment));
+    packet.fragment = Some(FragmentFields {
+        identification,
+        offset,
+        more_fragments,
+    });
+    expect_object_of(rt, &packet, [wanted, "", "", "", ""]);
+}
+
+#[test]
+fn fragments(rt: HostRuntime) {
+    for row in &FRAGMENTS {
+        expect_fragment(&rt, row);
+    }
+}
+
+/// The addresses of an ARP packet.
+const ARP_ADDRESSES: ArpAddresses = ArpAddresses {
+    sender_hardware: [2, 0, 0, 0, 0, 7],
+    sender: [192, 0, 2, 7],
+    target_hardware: [0, 0, 0, 0, 0, 0],
+    target: [192, 0, 2, 1],
+};
+
+/// ARP packets, and the member of each.
+#[rattlefmt::skip]
+const ARP_PACKETS: [(Arp, &str); 3] = [
+    (Arp::Addresses { operation: 1, addresses: ARP_ADDRESSES },
+     r#""arp":{"operation":1,"sender_hardware_address":"02:00:00:00:00:07","sender_address":"192.0.2.7","target_hardware_address":"00:00:00:00:00:00","target_address":"192.0.2.1"}"#),
+    (Arp::Operation { operation: 258, is_cut_off: false }, r#""arp":{"operation":258,"cut_off":false}"#),
+    (Arp::CutOff, r#""arp":{"cut_off":true}"#),
+];
+
+/// Stops the test unless the object of a packet with this ARP packet has this member.
+fn expect_arp(rt: &(impl Abort + AllocGlobal), arp: Arp, member: &str) {
+    let content = Content::NotIp(NetworkProtocol::EtherType(0x0806));
+    let mut packet = Packet::in_no_tunnel(content, Verdict::untested(Untested::OtherProtocol));
+    packet.arp = Some(arp);
+    let before =
+        r#"{"type":"packet","number":1,"time":null,"ether_type":2054,"protocol_name":"ARP","#;
+    let after = r#","checksum":"not_looked_at","reason":"another_protocol"}"#;
+    expect_object_of(rt, &packet, [before, member, after, "", ""]);
+}
+
+#[test]
+fn arp_packets(rt: HostRuntime) {
+    for (arp, member) in &ARP_PACKETS {
+        expect_arp(&rt, *arp, member);
     }
 }
 
@@ -335,34 +398,37 @@ const ICMPV6_FIELDS: [(&[u8], &str); 4] = [
     (&[133, 0, 9, 9, 0, 0, 0, 0], r#""type":133,"code":0,"message":"router solicitation, code 0""#),
 ];
 
+/// The end of the object of a packet with an ICMP message without a payload.
+const NO_PAYLOAD: &str = r#"},"payload_length":0,"checksum":"right"}"#;
+
 /// The beginning of the object of a packet with an ICMP message.
 const BEFORE_MESSAGE: &str =
     r#"{"type":"packet","number":1,"time":null,"source":"192.0.2.1","destination":"192.0.2.2","protocol":1,"protocol_name":"ICMPv4","#;
 
-/// Stops the test unless the object of a packet over IPv4 with this ICMP message has these members for it, after this text.
+/// Stops the test unless the object of a packet over IPv4 with this ICMP message has these members for it, between these texts.
 fn expect_message(
     rt: &(impl Abort + AllocGlobal),
     message: TransportSlice<'_>,
     before: &str,
     members: &str,
+    after: &str,
 ) {
     let content = Content::Ip {
         addresses: OVER_IPV4,
         protocol: ip_number::ICMP,
         proto: Some(Proto::Icmpv4),
-        payload_len: 0,
+        payload_len: message.payload().len(),
         transport: Transport::Read(message),
     };
     let verdict = Verdict::Checksum(ChecksumVerdict::Right);
     let packet = Packet::in_no_tunnel(content, verdict);
-    let after = r#"},"payload_length":0,"checksum":"right"}"#;
     expect_object_of(rt, &packet, [BEFORE_MESSAGE, before, members, after, ""]);
 }
 
 /// Stops the test unless the object of a packet with this ICMPv4 message has these members for it.
 fn expect_icmpv4(rt: &(impl Abort + AllocGlobal), bytes: &[u8], members: &str) {
     let message = TransportSlice::Icmpv4(expect_ok(rt, Icmpv4Slice::from_slice(bytes)));
-    expect_message(rt, message, r#""icmpv4":{"#, members);
+    expect_message(rt, message, r#""icmpv4":{"#, members, NO_PAYLOAD);
 }
 
 #[test]
@@ -375,13 +441,38 @@ fn objects_of_icmpv4_messages(rt: HostRuntime) {
 /// Stops the test unless the object of a packet with this ICMPv6 message has these members for it.
 fn expect_icmpv6(rt: &(impl Abort + AllocGlobal), bytes: &[u8], members: &str) {
     let message = TransportSlice::Icmpv6(expect_ok(rt, Icmpv6Slice::from_slice(bytes)));
-    expect_message(rt, message, r#""icmpv6":{"#, members);
+    expect_message(rt, message, r#""icmpv6":{"#, members, NO_PAYLOAD);
 }
 
 #[test]
 fn objects_of_icmpv6_messages(rt: HostRuntime) {
     for (bytes, members) in &ICMPV6_FIELDS {
         expect_icmpv6(&rt, bytes, members);
+    }
+}
+
+/// ICMPv6 messages with fields after their first eight bytes, and the members of each, up to the end of the object.
+#[rattlefmt::skip]
+const FURTHER_FIELDS: [(&[u8], &str); 4] = [
+    (&[137, 0, 9, 9, 0, 0, 0, 0, 0xFE, 0x80, 0, 0, 0, 0, 0, 0, 0, 0, 0, 0, 0, 0, 0, 1, 0x20, 1, 0x0D, 0xB8, 0, 0, 0, 0, 0, 0, 0, 0, 0, 0, 0, 9,
+       2, 1, 2, 0, 0, 0, 0, 10],
+     r#""type":137,"code":0,"message":"redirect, code 0, target fe80::1, destination 2001:db8::9, link-layer address 02:00:00:00:00:0a","target":"fe80::1","destination":"2001:db8::9","link_layer_address":"02:00:00:00:00:0a"},"payload_length":40,"checksum":"right"}"#),
+    (&[131, 0, 9, 9, 0, 0, 0, 1, 0xFF, 2, 0, 0, 0, 0, 0, 0, 0, 0, 0, 1, 0xFF, 0, 0, 1],
+     r#""type":131,"code":0,"message":"multicast listener report, code 0, group ff02::1:ff00:1","group":"ff02::1:ff00:1"},"payload_length":16,"checksum":"right"}"#),
+    (&[130, 0, 9, 9, 0x27, 0x10, 0, 1, 0, 0], r#""type":130,"code":0,"message":"multicast listener query, code 0, maximum response code 10000","maximum_response_code":10000},"payload_length":2,"checksum":"right"}"#),
+    (&[143, 0, 9, 9, 1, 2, 0, 3], r#""type":143,"code":0,"message":"version 2 multicast listener report, code 0, records 3","records":3},"payload_length":0,"checksum":"right"}"#),
+];
+
+/// Stops the test unless the object of a packet with this ICMPv6 message has these members for it and after it.
+fn expect_further_fields(rt: &(impl Abort + AllocGlobal), bytes: &[u8], members: &str) {
+    let message = TransportSlice::Icmpv6(expect_ok(rt, Icmpv6Slice::from_slice(bytes)));
+    expect_message(rt, message, r#""icmpv6":{"#, members, "");
+}
+
+#[test]
+fn further_fields_of_icmpv6_messages(rt: HostRuntime) {
+    for (bytes, members) in &FURTHER_FIELDS {
+        expect_further_fields(&rt, bytes, members);
     }
 }
 

@@ -65,7 +65,7 @@ fn messages_of_icmpv4(rt: HostRuntime) {
 }
 
 #[rattlefmt::skip]
-static ICMPV6_MESSAGES: [MessageRow; 22] = [
+static ICMPV6_MESSAGES: [MessageRow; 42] = [
     (&[1, 0, 9, 9, 0, 0, 0, 0], "destination unreachable, code 0 (no route), payload 0"),
     (&[1, 5, 9, 9, 0, 0, 0, 0], "destination unreachable, code 5 (source address failed the policy), payload 0"),
     (&[1, 7, 9, 9, 0, 0, 0, 1], "type 1, code 7, bytes 5 to 8 00000001, payload 0"),
@@ -86,6 +86,39 @@ static ICMPV6_MESSAGES: [MessageRow; 22] = [
     (&[136, 0, 9, 9, 0x40, 0, 0, 0], "neighbor advertisement, code 0, flags solicited, payload 0"),
     (&[136, 0, 9, 9, 0, 0, 0, 0], "neighbor advertisement, code 0, flags none, payload 0"),
     (&[137, 0, 9, 9, 0, 0, 0, 0], "redirect, code 0, payload 0"),
+    // Neighbor discovery: the target, the destination of a redirect, and the options.
+    (&[133, 0, 9, 9, 0, 0, 0, 0, 1, 1, 2, 0, 0, 0, 0, 10], "router solicitation, code 0, link-layer address 02:00:00:00:00:0a, payload 8"),
+    (&[133, 0, 9, 9, 0, 0, 0, 0, 1, 1, 2, 0, 0, 0, 0], "router solicitation, code 0, payload 7"),
+    (&[133, 0, 9, 9, 0, 0, 0, 0, 1, 0, 2, 0, 0, 0, 0, 10, 1, 1, 2, 0, 0, 0, 0, 10], "router solicitation, code 0, payload 16"),
+    (&[133, 0, 9, 9, 0, 0, 0, 0, 1, 2, 2, 0, 0, 0, 0, 10, 1, 1, 2, 0, 0, 0, 0, 10, 2, 1, 6, 5, 4, 3, 2, 1],
+     "router solicitation, code 0, link-layer address 06:05:04:03:02:01, payload 24"),
+    (&[133, 0, 9, 9, 0, 0, 0, 0, 14, 4, 2, 0, 0, 0, 0, 10, 1, 1, 2, 0, 0, 0, 0, 10], "router solicitation, code 0, payload 16"),
+    (&[134, 0, 9, 9, 0, 0, 0, 0, 1, 1, 0, 0, 1, 1, 0, 0, 3, 1, 0, 0, 0, 0, 0, 0, 1, 1, 0xAB, 0xCD, 0xEF, 1, 2, 3],
+     "router advertisement, code 0, current hop limit 0, flags none, router lifetime 0, link-layer address ab:cd:ef:01:02:03, payload 24"),
+    (&[135, 0, 9, 9, 0, 0, 0, 0, 0xFE, 0x80, 0, 0, 0, 0, 0, 0, 0, 0, 0, 0, 0, 0, 0, 1], "neighbor solicitation, code 0, target fe80::1, payload 16"),
+    (&[135, 0, 9, 9, 0, 0, 0, 0, 0xFE, 0x80, 0, 0, 0, 0, 0, 0, 0, 0, 0, 0, 0, 0, 0], "neighbor solicitation, code 0, payload 15"),
+    (&[135, 0, 9, 9, 0, 0, 0, 0, 0xFE, 0x80, 0, 0, 0, 0, 0, 0, 0, 0, 0, 0, 0, 0, 0, 1, 1, 1, 2, 0, 0, 0, 0, 1],
+     "neighbor solicitation, code 0, target fe80::1, link-layer address 02:00:00:00:00:01, payload 24"),
+    (&[136, 0, 9, 9, 0x60, 0, 0, 0, 0xFE, 0x80, 0, 0, 0, 0, 0, 0, 0, 0, 0, 0, 0, 0, 0, 1, 2, 1, 2, 0, 0, 0, 0, 1],
+     "neighbor advertisement, code 0, flags solicited override, target fe80::1, link-layer address 02:00:00:00:00:01, payload 24"),
+    (&[137, 0, 9, 9, 0, 0, 0, 0, 0xFE, 0x80, 0, 0, 0, 0, 0, 0, 0, 0, 0, 0, 0, 0, 0, 1, 0x20, 1, 0x0D, 0xB8, 0, 0, 0, 0, 0, 0, 0, 0, 0, 0, 0, 9,
+       2, 1, 2, 0, 0, 0, 0, 1],
+     "redirect, code 0, target fe80::1, destination 2001:db8::9, link-layer address 02:00:00:00:00:01, payload 40"),
+    (&[137, 0, 9, 9, 0, 0, 0, 0, 0xFE, 0x80, 0, 0, 0, 0, 0, 0, 0, 0, 0, 0, 0, 0, 0, 1, 0x20, 1, 0x0D, 0xB8, 0, 0, 0, 0, 0, 0, 0, 0, 0, 0, 0],
+     "redirect, code 0, target fe80::1, payload 31"),
+    (&[135, 1, 9, 9, 0, 0, 0, 0, 0xFE, 0x80, 0, 0, 0, 0, 0, 0, 0, 0, 0, 0, 0, 0, 0, 1], "type 135, code 1, bytes 5 to 8 00000000, payload 16"),
+    // Multicast listeners.
+    (&[130, 0, 9, 9, 0x27, 0x10, 0, 1, 0, 0, 0, 0, 0, 0, 0, 0, 0, 0, 0, 0, 0, 0, 0, 0],
+     "multicast listener query, code 0, maximum response code 10000, group ::, payload 16"),
+    (&[131, 0, 9, 9, 0, 0, 0, 1, 0xFF, 2, 0, 0, 0, 0, 0, 0, 0, 0, 0, 1, 0xFF, 0, 0, 1],
+     "multicast listener report, code 0, group ff02::1:ff00:1, payload 16"),
+    (&[132, 0, 9, 9, 0, 0, 0, 1, 0xFF, 2, 0, 0, 0, 0, 0, 0, 0, 0, 0, 1, 0xFF, 0, 0, 1],
+     "multicast listener done, code 0, group ff02::1:ff00:1, payload 16"),
+    (&[132, 7, 9, 9, 0, 0, 0, 1, 0xFF, 2, 0, 0], "multicast listener done, code 7, payload 4"),
+    (&[143, 0, 9, 9, 1, 2, 0, 3, 0xFF, 2, 0, 0, 0, 0, 0, 0, 0, 0, 0, 1, 0xFF, 0, 0, 1],
+     "version 2 multicast listener report, code 0, records 3, payload 16"),
+    (&[133, 0, 9, 9, 0, 0, 0, 0, 3, 1, 2, 0, 0, 0, 0, 10], "router solicitation, code 0, payload 8"),
+    (&[128, 0, 9, 9, 0, 1, 0, 2, 1, 1, 2, 0, 0, 0, 0, 10], "echo request, code 0, identifier 1, sequence number 2, payload 8"),
     // Errors that quote a packet.
     (&[3, 0, 9, 9, 0, 0, 0, 0, 0x60, 0, 0, 0, 0, 64, 0, 1, 0x20, 1, 0x0D, 0xB8, 0, 0, 0, 0, 0, 0, 0, 0, 0, 0, 0, 1,
        0x20, 1, 0x0D, 0xB8, 0, 0, 0, 0, 0, 0, 0, 0, 0, 0, 0, 2, 17, 0, 1, 4, 0, 0, 0, 0, 0xC0, 0, 0x82, 0x9A],

@@ -87,6 +87,11 @@ def gre(payload, bits=0, fields=b"", protocol_type=None):
 MAC = bytes.fromhex("020000000002020000000001")
 
 
+def arp(operation, hardware=1, protocol=0x0800, sizes=(6, 4)):
+    """An ARP packet from 192.0.2.1 about 192.0.2.2, with this hardware type, protocol type and these lengths of addresses."""
+    return struct.pack(">HHBBH", hardware, protocol, *sizes, operation) + MAC[6:] + IPV4[0] + bytes(6) + IPV4[1]
+
+
 def ether_type(packet):
     return 0x86DD if packet[:1] and packet[0] >> 4 == 6 else 0x0800
 

@@ -1,6 +1,6 @@
 -- Worked examples of JSON objects. A wrong definition fails here before its code is written. The texts also occur in tests of
 -- `capture_report` and `capture_json`.
-use Rattle.std.proofs.Common.{◌≡◌, ◌++◌, [], ◌∷◌, None, Some, arith, codes, inr, refl}
+use Rattle.std.proofs.Common.{◌≡◌, ◌++◌, [], ◌∷◌, None, Some, arith, codes, inr, refl, replicate, true}
 use Rattle.std.specs.Char.{encode_utf8}
 use Rattle.std.specs.Fmt.{char_count, digits, padded_integral}
 use Rattle.json.specs.Print.{escape_byte}
@@ -8,12 +8,15 @@ use Rattle.serde_json.specs.Written.{compact_text}
 use Rattle.tcp_part.specs.declared.tcp_raw_option_error.TcpRawOptionError.TheVariants.{LengthBeyondEnd}
 use Rattle.tcp_part.specs.declared.tcp_option_element.TcpOptionElement.TheVariants.{Noop}
 use Rattle.capture_packet.proofs.PacketExamples.{datagram, packet}
+use Rattle.capture_packet.specs.declared.arp.Arp.TheVariants.{Addresses}
+use Rattle.capture_packet.specs.declared.fragment_fields.Identification.TheVariants.{Ipv4}
 use Rattle.capture_summary.proofs.SummaryExamples.{count, request}
 use Rattle.capture_summary.specs.Tables.{no_packets}
 use Rattle.capture_words.proofs.TimeExamples.{time}
 use Rattle.capture_words.specs.declared.times.Times.TheVariants.{SinceFirst}
 use Rattle.capture_json.specs.JsonOptions.{AreOptionMembers, kind_object}
-use Rattle.capture_json.specs.JsonPacket.{IsJsonLine, udp_members}
+use Rattle.capture_json.specs.JsonArp.{arp_members}
+use Rattle.capture_json.specs.JsonPacket.{IsJsonLine, fragment_members, udp_members}
 use Rattle.capture_json.specs.JsonSummary.{conversation_data, uncounted_members}
 use Rattle.capture_json.specs.Members.{array_of, object_of}
 use Rattle.serde_json.specs.Data.{string}
@@ -28,6 +31,25 @@ udp_object : IsJsonLine SinceFirst 1 None (Some (time 5 7)) (Some (record { orig
     )
 unfolding char_count digits encode_utf8 escape_byte padded_integral
 udp_object = (_, (_, (udp_members datagram, refl, refl), refl), refl)
+
+-- ---- ARP packets and fragments
+
+-- a request of 192.0.2.7 for 192.0.2.1
+arp_object : compact_text (object_of (arp_members (Some (Addresses 1 (record {
+  sender_hardware = 2 ∷ 0 ∷ 0 ∷ 0 ∷ 0 ∷ 0xAB ∷ [];
+  sender = 192 ∷ 0 ∷ 2 ∷ 7 ∷ [];
+  target_hardware = replicate 6 0;
+  target = 192 ∷ 0 ∷ 2 ∷ 1 ∷ [];
+})))))
+    ≡ codes "{\"arp\":{\"operation\":1,\"sender_hardware_address\":\"02:00:00:00:00:ab\",\"sender_address\":\"192.0.2.7\","
+    ++ codes "\"target_hardware_address\":\"00:00:00:00:00:00\",\"target_address\":\"192.0.2.1\"}}"
+unfolding char_count digits escape_byte padded_integral
+arp_object = refl
+
+fragment_object : compact_text (object_of (fragment_members (Some (record { identification = Ipv4 0x1A2B; offset = 1480; more_fragments = true }))))
+    ≡ codes "{\"fragment\":{\"identification\":6699,\"offset\":1480,\"more_fragments\":true}}"
+unfolding digits escape_byte
+fragment_object = refl
 
 -- ---- TCP options
 

@@ -9,7 +9,7 @@ use Rattle.ip_part.specs.Addresses.{Addresses, Ipv4, Ipv6, by_value}
 use Rattle.ip_part.specs.declared.proto.Proto.{Proto}
 use Rattle.capture_json.specs.Members.{Member, array_of, object_of, texts_data, whole_number}
 use Rattle.net_base.specs.Bytes.{be_number}
-use Rattle.serde_json.specs.Data.{Data, null, string}
+use Rattle.serde_json.specs.Data.{Data, boolean, null, string}
 use Rattle.serde_json.specs.Written.{compact_text}
 use Rattle.tcp_part.specs.TcpFormat.{flag_of, options_of, urg_flag}
 use Rattle.transport_part.specs.declared.checksum_verdict.ChecksumVerdict.{ChecksumVerdict}
@@ -26,6 +26,9 @@ use Rattle.capture_packet.specs.declared.transport.Transport.TheVariants as tran
 use Rattle.capture_packet.specs.Payloads.{payload_in}
 use Rattle.capture_packet.specs.Quotes.{Quoted, quoted_in}
 use Rattle.capture_packet.specs.Verdicts.{refusal_if_untested}
+use Rattle.capture_packet.specs.declared.fragment_fields.FragmentFields.{FragmentFields}
+use Rattle.capture_packet.specs.declared.fragment_fields.Identification.{Identification}
+use Rattle.capture_packet.specs.declared.fragment_fields.Identification.TheVariants as identifications
 use Rattle.capture_packet.specs.declared.hop_limit.HopLimit.{HopLimit}
 use Rattle.capture_packet.specs.declared.hop_limit.HopLimit.TheVariants as limits
 use Rattle.capture_packet.specs.declared.packet.Packet.{Packet}
@@ -39,12 +42,14 @@ use Rattle.capture_summary.specs.Kinds.{untested_kind, verdict_word}
 use Rattle.capture_summary.specs.declared.capture_info.FrameLen.{FrameLen}
 use Rattle.capture_summary.specs.declared.verdict_kind.VerdictKind.{VerdictKind}
 use Rattle.capture_summary.specs.declared.verdict_kind.VerdictKind.TheVariants as kinds
-use Rattle.capture_json.specs.JsonIcmp.{icmpv4_fields, icmpv6_fields}
+use Rattle.capture_json.specs.JsonArp.{arp_members}
+use Rattle.capture_json.specs.JsonIcmp.{further_fields, icmpv4_fields, icmpv6_fields}
 use Rattle.capture_json.specs.JsonOptions.{AreOptionMembers}
 use Rattle.capture_json.specs.JsonTimes.{instant_members}
 use Rattle.capture_json.specs.Words.{with_underscores}
 use Rattle.capture_words.specs.Flags.{NamedFlag}
 use Rattle.capture_words.specs.Icmpv4Text as icmpv4_text
+use Rattle.capture_words.specs.Icmpv6Fields.{fields_of}
 use Rattle.capture_words.specs.Icmpv6Text as icmpv6_text
 use Rattle.capture_protocols.specs.Protocols.{ip_protocol_name, network_protocol_name}
 use Rattle.capture_words.specs.Refusals.{refusal_text}
@@ -156,8 +161,8 @@ icmpv4_members message = (codes "icmpv4", object_of (icmpv4_content message)) �
 -- the members of an ICMPv6 message; type and code are bytes 0 and 1
 abbrev pub icmpv6_content : List ℕ → List Member
 icmpv6_content message =
-    let fields = icmpv6.icmp_type_of message in
-    message_members (slice_index message 0) (slice_index message 1) (icmpv6_text.message_text fields) ++ icmpv6_fields fields
+    message_members (slice_index message 0) (slice_index message 1) (icmpv6_text.packet_text message)
+    ++ (icmpv6_fields (icmpv6.icmp_type_of message) ++ further_fields (fields_of message))
 
 -- an ICMPv6 message
 abbrev pub icmpv6_members : List ℕ → List Member
@@ -249,6 +254,22 @@ AreContentMembers (contents.Ip addresses protocol proto transport payload_len) m
     ++ (ip_protocol_members protocol.0 proto ++ (quoted_members (quoted_in transport)
     ++ (inner ++ payload_members payload_len (payload_in transport)))))
 
+-- the number of an identification
+abbrev pub identification_number : Identification → ℕ
+identification_number (identifications.Ipv4 number) = number
+identification_number (identifications.Ipv6 number) = number
+
+-- the identification and the offset of a fragment, in bytes, and whether more fragments follow
+abbrev pub fragment_content : FragmentFields → List Member
+fragment_content fragment =
+    (codes "identification", whole_number (identification_number fragment.identification))
+    ∷ (codes "offset", whole_number fragment.offset) ∷ (codes "more_fragments", boolean fragment.more_fragments) ∷ []
+
+-- the fields of a fragment, if there is one
+abbrev pub fragment_members : Option FragmentFields → List Member
+fragment_members None = []
+fragment_members (Some fragment) = (codes "fragment", object_of (fragment_content fragment)) ∷ []
+
 -- the hop limit of a packet, or its time to live, if its IP header was captured
 abbrev pub hop_limit_members : Option HopLimit → List Member
 hop_limit_members None = []
@@ -301,14 +322,15 @@ verdict_members (verdicts.Refused refusal) = refused_member refusal ∷ []
 abbrev pub type_member : List ℕ → Member
 type_member kind = (codes "type", string kind)
 
--- These are the members of a packet: its type, its number, its time, the length of its frame, its tunnels, its content, its hop limit, and
--- its verdict.
+-- These are the members of a packet: its type, its number, its time, the length of its frame, its tunnels, its content, its ARP packet, the
+-- fields of its fragment, its hop limit, and its verdict.
 abbrev pub ArePacketMembers : Times → ℕ → Option PacketTime → Option PacketTime → Option FrameLen → Packet → List Member → Type 0
 ArePacketMembers times number first time len packet members =
     (what : List Member) × AreContentMembers packet.content what
     × (members ≡ type_member (codes "packet") ∷ (codes "number", whole_number number) ∷ (time_members times first time
     ++ (frame_members len ++ (tunnel_members packet.tunnels.items
-    ++ (what ++ (hop_limit_members packet.hop_limit ++ verdict_members packet.verdict))))))
+    ++ (what ++ (arp_members packet.arp ++ (fragment_members packet.fragment
+    ++ (hop_limit_members packet.hop_limit ++ verdict_members packet.verdict))))))))
 
 -- an object on its own line
 abbrev pub json_line : List Member → List ℕ

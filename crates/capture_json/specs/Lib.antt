@@ -1,3 +1,4 @@
+pub mod JsonArp
 pub mod JsonFacts
 pub mod JsonIcmp
 pub mod JsonOptions

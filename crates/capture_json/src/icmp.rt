@@ -10,8 +10,9 @@ ghost use Rattle.capture_words.specs.Icmpv4Text.{mtu_of, pointer_of};
 ghost use Rattle.serde_json.specs.Data.{string};
 
 use crate::Line;
+use crate::icmpv6_fields::{put_further_fields, put_listener_fields};
 use crate::text::put_written;
-use capture_words::{icmpv4, icmpv6};
+use capture_words::{Icmpv6Fields, icmpv4, icmpv6};
 use icmp_part::icmpv4::{DestUnreachableHeader, ParameterProblemHeader, RedirectHeader};
 use icmp_part::{Icmpv4Slice, Icmpv4Type, Icmpv6Slice, Icmpv6Type};
 use std::alloc::AllocError;
@@ -52,11 +53,11 @@ pub fn put_icmpv6(line: &mut Line, room: &mut Vec<u8>, message: &Icmpv6Slice) ->
 fn put_icmpv6_content(line: &mut Line, room: &mut Vec<u8>, message: &Icmpv6Slice) -> io::Result<()>
     ensures { OnOk result (tokens_in line.new ≡ with_members (icmpv6_content message.now) (tokens_in line.old)) }
 {
-    let fields = message.icmp_type();
     room.clear();
-    icmpv6::write_message(room, &fields)?;
+    icmpv6::write_packet(room, message)?;
     put_message(line, message.type_u8(), message.code_u8(), room.as_slice())?;
-    Ok(put_icmpv6_fields(line, &fields)?)
+    put_icmpv6_fields(line, &message.icmp_type())?;
+    put_further_fields(line, room, &Icmpv6Fields::of(message))
 }
 
 /// Writes the type, the code and the text of a message.
@@ -85,11 +86,16 @@ fn put_icmpv4_fields(line: &mut Line, room: &mut Vec<u8>, message: &Icmpv4Type) 
     }
 }
 
-/// Writes the fields of an ICMPv6 message.
+/// Writes the fields in the first eight bytes of an ICMPv6 message.
 fn put_icmpv6_fields(line: &mut Line, message: &Icmpv6Type) -> Result<(), AllocError>
     ensures { OnOk result (tokens_in line.new ≡ with_members (specs.icmpv6_fields message.now) (tokens_in line.old)) }
 {
     match message {
+        Icmpv6Type::Unknown {
+            type_u8,
+            bytes5to8,
+            ..
+        } => put_listener_fields(line, *type_u8, bytes5to8),
         Icmpv6Type::PacketTooBig { mtu } => line.put_number("mtu", u64::from(*mtu)),
         Icmpv6Type::ParameterProblem(header) => {
             line.put_number("pointer", u64::from(header.pointer))

@@ -9,10 +9,13 @@
 #![tactic(auto)]
 
 mod addresses;
+mod arp;
 mod facts;
 mod file_name;
 mod flows;
+mod fragment;
 mod icmp;
+mod icmpv6_fields;
 #[doc(hidden)]
 pub mod laws;
 mod line;

@@ -22,7 +22,7 @@ impl Line {
     ghost use Rattle.json.specs.Token as token;
     ghost use Rattle.capture_json.specs.Members.{integer, whole_number};
     ghost use Rattle.capture_json.specs.Tokens.{array_begun, array_ended, object_begun, object_ended, push, put, tokens_in};
-    ghost use Rattle.serde_json.specs.Data.{null, string};
+    ghost use Rattle.serde_json.specs.Data.{boolean, null, string};
 
     /// Returns an empty line.
     ///
@@ -88,6 +88,19 @@ impl Line {
     {
         self.writer.key(name)?;
         self.writer.null()
+    }
+
+    /// Writes a member that is `true` or `false`.
+    ///
+    /// # Errors
+    ///
+    /// `AllocError` if no memory is left.
+    #[tactic(auto, unfolding(crate::specs::Tokens::put))]
+    pub fn put_boolean(&mut self, name: &str, value: bool) -> Result<(), AllocError>
+        ensures { OnOk result (tokens_in self.new ≡ put name.now (boolean value) (tokens_in self.old)) }
+    {
+        self.writer.key(name)?;
+        self.writer.boolean(value)
     }
 
     /// Writes the name and the opening brace of a member that is an object.

@@ -8,6 +8,8 @@ ghost use Rattle.capture_words.specs.Written.{AppendsOne};
 
 use crate::Line;
 use crate::addresses::{put_addresses, put_payload_len, put_ports};
+use crate::arp::put_arp;
+use crate::fragment::put_fragment;
 use crate::icmp::{put_icmpv4, put_icmpv6};
 use crate::network::put_network_protocol;
 use crate::protocol::put_ip_protocol;
@@ -32,7 +34,7 @@ use udp_part::UdpSlice;
 const TEXT_ROOM: usize = 64;
 
 /// Writes a packet as a JSON object of the type `packet`, on its own line. The object contains the number and the time of the packet, and
-/// the length of its frame. It also contains its tunnels, addresses, content, hop limit and verdict.
+/// the length of its frame. It also contains its tunnels, addresses, content, ARP packet, fragment fields, hop limit and verdict.
 ///
 /// # Errors
 ///
@@ -73,6 +75,8 @@ fn put_packet(
     put_frame_len(line, info.capture.len)?;
     put_tunnels(line, room, packet.tunnels.as_slice())?;
     put_content(line, room, &packet.content)?;
+    put_arp(line, room, packet.arp)?;
+    put_fragment(line, packet.fragment)?;
     put_hop_limit(line, packet.hop_limit)?;
     put_verdict(line, room, &packet.verdict)
 }

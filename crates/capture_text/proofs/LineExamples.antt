@@ -2,16 +2,18 @@
 use Rattle.std.proofs.Common.{◌≡◌, ◌++◌, ℕ, false, true, List, [], ◌∷◌, None, Some, codes, refl, replicate}
 use Rattle.std.specs.Char.{encode_utf8}
 use Rattle.std.specs.Fmt.{char_count, digits, padded, padded_integral, take_chars}
-use Rattle.ip_part.specs.declared.proto.Proto.TheVariants.{Tcp}
+use Rattle.ip_part.specs.declared.proto.Proto.TheVariants.{Tcp, Udp}
 use Rattle.transport_part.specs.declared.checksum_verdict.ChecksumVerdict.TheVariants.{Right}
-use Rattle.transport_part.specs.declared.checksum_verdict.Untested.TheVariants.{OtherProtocol}
+use Rattle.transport_part.specs.declared.checksum_verdict.Untested.TheVariants.{Fragment, OtherProtocol}
 use Rattle.transport_part.specs.declared.transport_slice.TransportSlice.TheVariants as slices
 use Rattle.capture_link.specs.declared.network_protocol.NetworkProtocol.TheVariants.{EtherType}
-use Rattle.capture_packet.proofs.PacketExamples.{addresses, packet}
+use Rattle.capture_packet.proofs.PacketExamples.{addresses, packet, reference_to}
 use Rattle.capture_packet.specs.Packets.{in_no_tunnel}
 use Rattle.capture_packet.specs.Verdicts.{untested}
+use Rattle.capture_packet.specs.declared.arp.Arp.TheVariants.{Addresses, Operation}
 use Rattle.capture_packet.specs.declared.content.Content.TheVariants.{Ip, NotIp}
-use Rattle.capture_packet.specs.declared.transport.Transport.TheVariants.{Read}
+use Rattle.capture_packet.specs.declared.fragment_fields.Identification.TheVariants.{Ipv4 as OverIpv4}
+use Rattle.capture_packet.specs.declared.transport.Transport.TheVariants.{Ports, Read}
 use Rattle.capture_packet.specs.declared.verdict.Verdict.TheVariants.{Checksum}
 use Rattle.capture_summary.proofs.SummaryExamples.{count, request}
 use Rattle.capture_summary.specs.SummaryTables.{SummaryTables}
@@ -47,9 +49,35 @@ tcp_line =
 
 -- packet 65 of the stored run of `capture_report`
 arp_line : IsLine SinceFirst false 65 (Some (time 1600000000 0)) (Some (time 1600000000 6400)) (Some (whole 42))
-    (in_no_tunnel (NotIp (EtherType 0x0806)) (untested OtherProtocol)) (codes "65 00:00:00.006400 length 42: ARP\n")
+    (record (in_no_tunnel (NotIp (EtherType 0x0806)) (untested OtherProtocol)) { arp = Some (Operation 0 false) })
+    (codes "65 00:00:00.006400 length 42: ARP, operation 0\n")
 unfolding char_count digits encode_utf8 padded_integral whole
 arp_line = (codes "ARP", refl, refl)
+
+-- an ARP reply in a frame without a known length
+reply_line : IsLine SinceFirst false 1 None None None
+    (record (in_no_tunnel (NotIp (EtherType 0x0806)) (untested OtherProtocol)) {
+      arp = Some (Addresses 2 (record {
+        sender_hardware = 2 ∷ 0 ∷ 0 ∷ 0 ∷ 0 ∷ 0xAB ∷ [];
+        sender = 192 ∷ 0 ∷ 2 ∷ 1 ∷ [];
+        target_hardware = replicate 6 0;
+        target = 192 ∷ 0 ∷ 2 ∷ 2 ∷ [];
+      }));
+    })
+    (codes "1 - length unknown: ARP, 192.0.2.1 is at 02:00:00:00:00:ab\n")
+unfolding char_count digits encode_utf8 padded_integral
+reply_line = (codes "ARP", refl, refl)
+
+-- packet 33 of the stored run of `capture_report`
+fragment_line : IsLine SinceFirst false 33 (Some (time 1600000000 0)) (Some (time 1600000000 3200)) (Some (whole 74))
+    (record (in_no_tunnel (Ip addresses (record { 0 = 17 }) (Some Udp) (Ports 49152 53 (reference_to (replicate 40 0))) 40) (untested Fragment))
+    { fragment = Some (record { identification = OverIpv4 1; offset = 0; more_fragments = true }) })
+    (codes "33 00:00:00.003200 length 74: 192.0.2.1:49152 > 192.0.2.2:53 UDP, payload 40, fragment, identification 0001, offset 0, more"
+    ++ codes "; checksum not looked at: a fragment\n")
+unfolding char_count digits encode_utf8 padded_integral whole
+fragment_line =
+    let transport = codes "192.0.2.1:49152 > 192.0.2.2:53 UDP" in
+    (transport ++ codes ", payload 40", (transport, refl, refl), refl)
 
 -- ---- a summary
 

@@ -1,4 +1,5 @@
 pub mod AddressText
+pub mod ArpText
 pub mod PacketLine
 pub mod SummaryText
 pub mod TotalsText

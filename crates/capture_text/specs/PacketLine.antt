@@ -2,7 +2,6 @@
 use Rattle.std.specs.Prelude.{◌≡◌, ℕ, ◌==◌, Bool, if◌then◌else◌, List, [], ◌++◌, length, codes, decimal, Option, Some, None}
 use Rattle.std.specs.List.{flat_map}
 use Rattle.icmp_part.specs.Icmpv4Format as icmpv4
-use Rattle.icmp_part.specs.Icmpv6Format as icmpv6
 use Rattle.ip_part.specs.Addresses.{Addresses, by_value}
 use Rattle.ip_part.specs.declared.proto.Proto.{Proto}
 use Rattle.net_base.specs.Bytes.{be_number}
@@ -13,6 +12,9 @@ use Rattle.capture_packet.specs.declared.content.Content.{Content}
 use Rattle.capture_packet.specs.declared.content.Content.TheVariants as contents
 use Rattle.capture_link.specs.declared.network_protocol.NetworkProtocol.{NetworkProtocol}
 use Rattle.capture_link.specs.declared.network_protocol.NetworkProtocol.TheVariants.{AddressFamily, EtherType, FrameRelay, Ieee80211, LinkType, Llc, Nlpid, PppProtocol, Radiotap, Snap}
+use Rattle.capture_packet.specs.declared.fragment_fields.FragmentFields.{FragmentFields}
+use Rattle.capture_packet.specs.declared.fragment_fields.Identification.{Identification}
+use Rattle.capture_packet.specs.declared.fragment_fields.Identification.TheVariants as identifications
 use Rattle.capture_packet.specs.declared.hop_limit.HopLimit.{HopLimit}
 use Rattle.capture_packet.specs.declared.hop_limit.HopLimit.TheVariants as limits
 use Rattle.capture_packet.specs.declared.packet.Packet.{Packet}
@@ -21,6 +23,7 @@ use Rattle.capture_packet.specs.declared.transport.Transport.TheVariants as tran
 use Rattle.capture_packet.specs.declared.tunnel.Tunnel.{Tunnel}
 use Rattle.capture_packet.specs.declared.verdict.Verdict.{Verdict}
 use Rattle.capture_file.specs.declared.packet_time.PacketTime.{PacketTime}
+use Rattle.capture_text.specs.ArpText.{arp_text}
 use Rattle.capture_text.specs.AddressText.{addresses_text, endpoints_text}
 use Rattle.capture_words.specs.Icmpv4Text as icmpv4_text
 use Rattle.capture_words.specs.Icmpv6Text as icmpv6_text
@@ -90,7 +93,7 @@ icmpv4_line addresses message quoted =
 -- the addresses of a packet, its ICMPv6 message, and the packet that the message quotes, if there is one
 abbrev pub icmpv6_line : Addresses → List ℕ → Option Quoted → List ℕ
 icmpv6_line addresses message quoted =
-    addresses_text addresses ++ (codes " ICMPv6 " ++ (icmpv6_text.message_text (icmpv6.icmp_type_of message) ++ quoted_text quoted))
+    addresses_text addresses ++ (codes " ICMPv6 " ++ (icmpv6_text.packet_text message ++ quoted_text quoted))
 
 -- an IP packet whose transport is not read: its addresses, its ports if they are known, and its protocol
 abbrev pub unread_text : Addresses → ℕ → Option Proto → Option (ℕ × ℕ) → List ℕ
@@ -137,6 +140,22 @@ IsContentText (contents.Ip addresses protocol proto transport payload_len) text 
     (what : List ℕ) × IsTransportText (by_value addresses) protocol.0 proto transport what
     × (text ≡ what ++ payload_text payload_len (payload_in transport))
 
+-- the identification of a packet that is sent in fragments: four hex digits over IPv4, and eight over IPv6
+abbrev pub identification_text : Identification → List ℕ
+identification_text (identifications.Ipv4 number) = hex_padded 4 number
+identification_text (identifications.Ipv6 number) = hex_padded 8 number
+
+-- more fragments follow; the text is empty if none follow
+abbrev pub more_text : Bool → List ℕ
+more_text more_fragments = if more_fragments then codes ", more" else []
+
+-- The fields of a fragment: its identification, its offset in bytes, and whether more fragments follow. The text is empty if there is no
+-- fragment.
+abbrev pub fragment_text : Option FragmentFields → List ℕ
+fragment_text None = []
+fragment_text (Some fragment) = codes ", fragment, identification " ++ (identification_text fragment.identification
+    ++ (codes ", offset " ++ (decimal fragment.offset ++ more_text fragment.more_fragments)))
+
 -- the hop limit of a packet, or its time to live, if its IP header was captured
 abbrev pub hop_limit_text : Option HopLimit → List ℕ
 hop_limit_text None = []
@@ -163,14 +182,15 @@ end_text (contents.Ip addresses protocol proto transport payload_len) verdict = 
 abbrev pub tunnel_text : Tunnel → List ℕ
 tunnel_text tunnel = unread_text (by_value tunnel.addresses) tunnel.protocol.0 None None ++ codes " | "
 
--- This is the line of a packet: its number, its time, the length of its frame, its tunnels, its content, its details if the line is
--- verbose, and its verdict.
+-- This is the line of a packet: its number, its time, the length of its frame, its tunnels, its content with an ARP packet, the fields of
+-- its fragment, its details if the line is verbose, and its verdict.
 abbrev pub IsLine : Times → Bool → ℕ → Option PacketTime → Option PacketTime → Option FrameLen → Packet → List ℕ → Type 0
 IsLine times verbose number first time len packet line =
     (what : List ℕ) × IsContentText packet.content what
     × (line ≡ decimal number ++ (codes " " ++ (time_text times first time ++ (frame_text len
     ++ (flat_map tunnel_text packet.tunnels.items
-    ++ (what ++ (details_text verbose packet ++ (end_text packet.content packet.verdict ++ codes "\n"))))))))
+    ++ (what ++ (arp_text packet.arp ++ (fragment_text packet.fragment
+    ++ (details_text verbose packet ++ (end_text packet.content packet.verdict ++ codes "\n"))))))))))
 
 -- The line of a packet depends only on the packet, its number, its time, the time of the first packet, its frame length, `times` and
 -- `verbose`.

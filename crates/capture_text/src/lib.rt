@@ -6,6 +6,8 @@
 #![tactic(auto)]
 
 mod addresses;
+mod arp;
+mod fragment;
 #[doc(hidden)]
 pub mod laws;
 mod packet_line;

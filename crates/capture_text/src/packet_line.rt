@@ -10,6 +10,8 @@ ghost use Rattle.capture_text.specs.PacketLine.{IsContentText, IsLine, IsTcpText
 ghost use Rattle.capture_words.specs.Written.{AppendsOne};
 
 use crate::addresses::{write_addresses, write_endpoints};
+use crate::arp::write_arp;
+use crate::fragment::write_fragment;
 use crate::verdict::{is_other_protocol, write_verdict};
 use capture_packet::{
     Content, HopLimit, NetworkProtocol, Packet, QuotedPacket, Transport, Tunnel, Verdict,
@@ -25,8 +27,9 @@ use tcp_part::TcpSlice;
 use transport_part::TransportSlice;
 use udp_part::UdpSlice;
 
-/// Writes the line of a packet: its number, its time, the length of its frame, its tunnels, its addresses, its content, and its verdict. A
-/// bar follows each tunnel. A verbose line also shows the hop limit or the time to live of the packet, if its IP header was captured.
+/// Writes the line of a packet: its number, its time, the length of its frame, its tunnels, its addresses, its content with an ARP packet,
+/// the fields of its fragment, and its verdict. A bar follows each tunnel. A verbose line also shows the hop limit or the time to live of the packet, if its
+/// IP header was captured.
 ///
 /// ```text
 /// 1 00:00:00.000000 length 74: 192.0.2.1:49152 > 192.0.2.2:53 UDP length 40, payload 32; checksum right
@@ -50,6 +53,8 @@ pub fn write_packet_line<W: Write>(
     write_frame_len(output, info.capture.len)?;
     write_tunnels(output, packet.tunnels.as_slice())?;
     write_content(output, &packet.content)?;
+    write_arp(output, packet.arp)?;
+    write_fragment(output, packet.fragment)?;
     write_details(output, verbose, packet)?;
     write_end(output, &packet.content, &packet.verdict)?;
     writeln!(output)
@@ -260,7 +265,7 @@ fn write_icmpv6<W: Write>(
 {
     write_addresses(output, addresses)?;
     write!(output, " ICMPv6 ")?;
-    icmpv6::write_message(output, &message.icmp_type())?;
+    icmpv6::write_packet(output, message)?;
     write_quoted(output, quoted)
 }
 

@@ -6,8 +6,8 @@ import re
 import struct
 
 from ..build import (
-    ETHERNET, FRAME_RELAY, IEEE80211, IPV4, IPV6, LINKS, LOOPBACK, OTHER_LINK, PPP, RADIOTAP, RAW, START, block, frame, icmpv4,
-    interface_description, ipv4, ipv6, ones_complement_sum, packet_block, pseudo_header, section_header, tcp, udp
+    ETHERNET, FRAME_RELAY, IEEE80211, IPV4, IPV6, LINKS, LOOPBACK, OTHER_LINK, PPP, RADIOTAP, RAW, START, arp, block, frame, icmpv4,
+    icmpv6, interface_description, ipv4, ipv6, ones_complement_sum, packet_block, pseudo_header, section_header, tcp, udp
 )
 from ..kinds import every_kind, packets_in_tunnels, without_length
 from ..program import TOP
@@ -35,6 +35,7 @@ def unread_frames():
     yield FRAME_RELAY, bytes.fromhex("18411300")
     yield FRAME_RELAY, bytes.fromhex("18410308")
     yield OTHER_LINK, bytes(20)
+    yield from ((ETHERNET, frame(ETHERNET, packet, number=0x0806)) for packet in (arp(1), arp(2), arp(3)[:20]))
 
 
 def further_packets():
@@ -55,6 +56,9 @@ def further_packets():
     yield ipv6(0, jumbo_payload(70000, 44) + bytes.fromhex("1100000100000001") + udp(IPV6, data), length=0)
     yield from (ipv4(17, udp(IPV4, data, source=number)) for number in range(1000, 1012))
     yield from (packet for _, packet in without_length())
+    yield ipv6(58, icmpv6(135, 0, bytes(4), IPV6[1] + bytes.fromhex("0101020000000001")))
+    yield ipv6(58, icmpv6(130, 0, bytes.fromhex("27100000"), bytes(16)))
+    yield ipv6(58, icmpv6(143, 0, bytes.fromhex("00000001"), bytes.fromhex("04000000FF0200000000000000000001FF000002")))
 
 
 def with_partial_sum(segment):

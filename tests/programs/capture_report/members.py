@@ -6,7 +6,7 @@ import re
 import struct
 
 from .names import ETHER_TYPES, NLPIDS, NUMBERS, PPP_NAMES
-from .report import HOP_LIMIT, ends_of, lines_of, parts_of, quoted_ends_of, run, with_underscores
+from .report import FRAGMENT, HOP_LIMIT, ends_of, lines_of, parts_of, quoted_ends_of, run, with_underscores
 
 
 def protocol_of(text):
@@ -17,8 +17,20 @@ def protocol_of(text):
     return {"protocol": NUMBERS[name], "protocol_name": name}
 
 
+def arp_of(text):
+    """What a line says of an ARP packet after its name, as a member. Of addresses the line shows a part."""
+    if found := re.fullmatch(r", who has (\S+), asked by (\S+)", text):
+        return {"arp": {"operation": 1, "sender_address": found.group(2), "target_address": found.group(1)}}
+    if found := re.fullmatch(r", (\S+) is at (\S+)", text):
+        return {"arp": {"operation": 2, "sender_address": found.group(1), "sender_hardware_address": found.group(2)}}
+    operation, cut_off = re.fullmatch(r"(?:, operation (\d+))?(, cut off)?", text).groups()
+    return {"arp": ({"operation": int(operation)} if operation else {}) | {"cut_off": bool(cut_off)}}
+
+
 def network_of(text):
     """What a line says of a frame without an IP packet, as members."""
+    if text.startswith("ARP"):
+        return {"ether_type": 0x0806, "protocol_name": "ARP"} | arp_of(text[len("ARP"):])
     if text == "STP":
         return {"llc_dsap": 0x42, "llc_ssap": 0x42, "protocol_name": text}
     for member, names in (("ether_type", ETHER_TYPES), ("ppp_protocol", PPP_NAMES), ("nlpid", NLPIDS)):
@@ -84,13 +96,16 @@ def members_of(line):
     """What a line with -v says of a packet, as the members of its object, without the time in numbers; of a message without type and code,
     and its options as one text."""
     limit = {with_underscores(name): int(value) for name, value in HOP_LIMIT.findall(line)}
-    number, time, length, rest = parts_of(HOP_LIMIT.sub("", line))
+    fragments = [{"identification": int(identification, 16), "offset": int(offset), "more_fragments": bool(more)}
+                 for identification, offset, more in FRAGMENT.findall(line)]
+    number, time, length, rest = parts_of(FRAGMENT.sub("", HOP_LIMIT.sub("", line)))
     *outer, rest = rest.split(" | ")
     line = f"{number} {time} {length}{rest}"
     what, _, verdict = rest.rpartition("; ")
     if not what and not verdict.startswith(("checksum ", "refused: ")):
         what, verdict = rest, "checksum not looked at: another protocol"
     members = {"type": "packet", "number": int(number), "time": None if time == "-" else time} | limit
+    members |= {"fragment": fragments[0]} if fragments else {}
     members |= {"tunnels": [tunnel_of(text) for text in outer]} if outer else {}
     if lengths := re.findall(r"\d+", length):
         members |= {"length": int(lengths[0]), "captured_length": int(lengths[-1])}
@@ -125,7 +140,9 @@ def option_text(option):
 
 def field_texts(message):
     """What a line says of the fields of an ICMP message, from its members."""
-    words = {"identifier": "identifier", "sequence": "sequence number", "mtu": "MTU", "pointer": "pointer", "gateway": "gateway"}
+    words = {"identifier": "identifier", "sequence": "sequence number", "mtu": "MTU", "pointer": "pointer", "gateway": "gateway",
+             "target": "target", "destination": "destination", "group": "group", "link_layer_address": "link-layer address",
+             "maximum_response_code": "maximum response code", "records": "records"}
     return [f"{words[name]} {value}" for name, value in message.items() if name in words]
 
 
@@ -136,6 +153,12 @@ def without_details(packet):
         if name in packet:
             missing = [text for text in field_texts(packet[name]) if text not in packet[name]["message"]]
             packet[name] = {"message": packet[name]["message"]} | ({"missing": missing} if missing else {})
+    if packet.get("arp", {}).get("operation") in (1, 2) and "target_address" in packet["arp"]:
+        # The line of a request has the two addresses, and the line of a reply the sender's.
+        names = ("sender_address", "target_address") if packet["arp"]["operation"] == 1 else ("sender_address", "sender_hardware_address")
+        packet["arp"] = {name: value for name, value in packet["arp"].items() if name in ("operation", *names)}
+    elif "target_address" in packet.get("arp", {}):
+        packet["arp"] = {"operation": packet["arp"]["operation"], "cut_off": False}
     if "tcp" in packet:
         fault = [packet["tcp"].pop("options_fault")] if "options_fault" in packet["tcp"] else []
         packet["tcp"]["options"] = ", ".join([option_text(option) for option in packet["tcp"]["options"]] + fault)

@@ -4,13 +4,13 @@ import json
 import struct
 
 from ..build import (
-    CISCO_HDLC, COOKED, COOKED2, ETHERNET, IPV4, IPV6, LINKS, NFLOG, OPENBSD, OTHER_LINK, PPP_OVER_ETHERNET, RAW, capture, frame, gre, icmpv6,
+    CISCO_HDLC, COOKED, COOKED2, ETHERNET, IPV4, IPV6, LINKS, NFLOG, OPENBSD, OTHER_LINK, PPP_OVER_ETHERNET, RAW, arp, capture, frame, gre, icmpv6,
     ipv4, ipv6, pcapng, tcp, udp
 )
 from ..kinds import TCP_OPTIONS, every_kind, further_headers, packets_in_tunnels
-from .members import tunnel_of
+from .members import check_objects, tunnel_of
 from .names import ETHER_TYPES, NUMBERS
-from .report import HOP_LIMIT, ends_of, length_text, lines_of, parts_of, run, verdict_of, with_underscores, without_facts
+from .report import HOP_LIMIT, ends_of, fragment_text, length_text, lines_of, parts_of, run, verdict_of, with_underscores, without_facts
 
 
 def check_every_kind(tally):
@@ -83,7 +83,8 @@ def check_tunnels(tally):
     ]:
         found = parts_of(*lines_of(run(capture(RAW, [ipv4(protocol, payload, **others)]), "--packets").stdout))[3]
         word = {4: "IPv4", 41: "IPv6", 47: "GRE"}[protocol]
-        tally.expect(name, found, f"192.0.2.1 > 192.0.2.2 {word}, payload {len(payload)}")
+        wanted = f"192.0.2.1 > 192.0.2.2 {word}, payload {len(payload)}{fragment_text(others.get('flags', 0))}"
+        tally.expect(name, found, wanted)
     whole = ipv4(4, packet)
     found = [parts_of(line)[3] for line in lines_of(run(capture(RAW, [(whole[:len(whole) - cut], len(whole)) for cut in range(52)]),
                                                             "--packets").stdout)]
@@ -94,7 +95,7 @@ def check_tunnels(tally):
                                   ("that is cut off", {"total": 100}, "80, 3 captured"), ("without a length", {"total": 0}, "3")]:
         data = capture(RAW, [ipv4(89, b"abc", **others)])
         line = parts_of(*lines_of(run(data, "--packets").stdout))[3]
-        tally.expect(f"OSPF {name}", line, f"192.0.2.1 > 192.0.2.2 OSPF, payload {payload}")
+        tally.expect(f"OSPF {name}", line, f"192.0.2.1 > 192.0.2.2 OSPF, payload {payload}{fragment_text(others.get('flags', 0))}")
         reason = json.loads(run(data, "--packets", "--json").stdout)["reason"]
         tally.expect(f"OSPF {name}, in JSON", reason, "another_protocol")
 
@@ -158,7 +159,74 @@ def check_names(tally):
         data = capture(ETHERNET, [frame(ETHERNET, bytes.fromhex("0000110000000000"), number=number)])
         line, found = run(data, "--packets").stdout.decode(), json.loads(run(data, "--packets", "--json").stdout)
         found = (parts_of(line.rstrip())[3], found["ether_type"], found["protocol_name"])
-        tally.expect(f"ether type {number:04X}", found, (name, number, name))
+        # The packet of ARP has no hardware type, and addresses of no bytes.
+        tally.expect(f"ether type {number:04X}", found, ("ARP, operation 0" if name == "ARP" else name, number, name))
     for number in (1, 3, 138, 255):
         found = json.loads(run(capture(RAW, [ipv6(number, bytes(4))]), "--packets", "--json").stdout)
         tally.expect(f"protocol {number} without a name", (found["protocol"], "protocol_name" in found), (number, False))
+
+
+def check_fragments(tally):
+    """Fragments have their identification, their offset in bytes, and whether more of them follow."""
+    data = bytes(range(32))
+    for name, packet, wanted in [
+        ("the last over IPv4", ipv4(17, data, flags=0x00B9), "0001, offset 1480"),
+        ("one of the middle over IPv4", ipv4(17, data, flags=0x20B9), "0001, offset 1480, more"),
+        ("the first over IPv6", ipv6(44, bytes.fromhex("11000001A1B2C3D4") + udp(IPV6, data)), "A1B2C3D4, offset 0, more"),
+        ("the last over IPv6", ipv6(44, bytes.fromhex("1100FFF8A1B2C3D4") + data), "A1B2C3D4, offset 65528"),
+        ("one in a tunnel", ipv4(4, ipv4(17, data, flags=0x3FFF)), "0001, offset 65528, more"),
+        ("an atomic one over IPv6", ipv6(44, bytes.fromhex("11000000A1B2C3D4") + udp(IPV6, data)), None),
+        ("one that must not be", ipv4(17, udp(IPV4, data), flags=0x4000), None),
+        ("refused headers", ipv4(17, data, words=4, flags=0x20B9), None),
+    ]:
+        for entry in (packet, (packet[:-1], len(packet))):
+            capture_of = capture(RAW, [entry])
+            line = run(capture_of, "--packets").stdout.decode().rstrip()
+            found = line.partition(", fragment, identification ")[2].partition(";")[0]
+            tally.expect(f"fragment, {name}", found, wanted or "")
+            check_objects(tally, f"fragment, {name}", capture_of)
+
+
+def check_arp(tally):
+    """ARP packets: what is asked and answered, other operations, and packets that are cut off or of another form."""
+    for packet, wanted in [
+        (arp(1), ", who has 192.0.2.2, asked by 192.0.2.1"), (arp(2), ", 192.0.2.1 is at 02:00:00:00:00:01"),
+        (arp(1) + bytes(18), ", who has 192.0.2.2, asked by 192.0.2.1"), (arp(3), ", operation 3"), (arp(0x0102), ", operation 258"),
+        (arp(1)[:27], ", operation 1, cut off"), (arp(2)[:8], ", operation 2, cut off"), (arp(2)[:7], ", cut off"), (b"", ", cut off"),
+        (arp(1, hardware=32, sizes=(6, 4)), ", operation 1"), (arp(2, protocol=0x86DD), ", operation 2"),
+        (arp(2, sizes=(4, 6)), ", operation 2"), (arp(2, sizes=(7, 4)), ", operation 2, cut off"),
+    ]:
+        for link in (ETHERNET, COOKED, COOKED2, CISCO_HDLC):
+            data = capture(link, [frame(link, packet, number=0x0806)])
+            line = parts_of(*lines_of(run(data, "--packets").stdout))[3]
+            tally.expect(f"ARP of {packet.hex()}, link type {link}", line, "ARP" + wanted)
+            check_objects(tally, f"ARP of {packet.hex()}, link type {link}", data)
+    found = json.loads(run(capture(ETHERNET, [frame(ETHERNET, arp(2), number=0x0806)]), "--packets", "--json").stdout)["arp"]
+    wanted = {"operation": 2, "sender_hardware_address": "02:00:00:00:00:01", "sender_address": "192.0.2.1",
+              "target_hardware_address": "00:00:00:00:00:00", "target_address": "192.0.2.2"}
+    tally.expect("addresses of ARP in JSON", found, wanted)
+
+
+def check_neighbors(tally):
+    """Messages of neighbor discovery and about multicast listeners: addresses, the first link-layer address, and its place after others."""
+    target, group = ipaddress.IPv6Address("fe80::1").packed, ipaddress.IPv6Address("ff02::1:ff00:2").packed
+    source, other, nonce = (bytes.fromhex(text) for text in ("01010200000000AB", "0301000000000000", "0E010102030405FF"))
+    for kind, rest, payload, wanted in [
+        (133, bytes(4), source, "router solicitation, code 0, link-layer address 02:00:00:00:00:ab"),
+        (133, bytes(4), nonce, "router solicitation, code 0"),
+        (135, bytes(4), target + nonce + source, "neighbor solicitation, code 0, target fe80::1, link-layer address 02:00:00:00:00:ab"),
+        (135, bytes(4), target[:15], "neighbor solicitation, code 0"),
+        (135, bytes(4), target + b"\0" * 8 + source, "neighbor solicitation, code 0, target fe80::1"),
+        (136, b"\x60\0\0\0", target + b"\x02" + source[1:],
+         "neighbor advertisement, code 0, flags solicited override, target fe80::1, link-layer address 02:00:00:00:00:ab"),
+        (137, bytes(4), target + IPV6[1] + other + source,
+         "redirect, code 0, target fe80::1, destination 2001:db8::2, link-layer address 02:00:00:00:00:ab"),
+        (130, bytes.fromhex("27100000"), bytes(16), "multicast listener query, code 0, maximum response code 10000, group ::"),
+        (131, bytes(4), group, "multicast listener report, code 0, group ff02::1:ff00:2"),
+        (132, bytes(4), group, "multicast listener done, code 0, group ff02::1:ff00:2"),
+        (143, bytes.fromhex("00000002"), bytes(40), "version 2 multicast listener report, code 0, records 2"),
+    ]:
+        data = capture(RAW, [ipv6(58, icmpv6(kind, 0, rest, payload))])
+        line = parts_of(*lines_of(run(data, "--packets").stdout))[3]
+        tally.expect(f"type {kind}", line, f"2001:db8::1 > 2001:db8::2 ICMPv6 {wanted}, payload {len(payload)}; checksum right")
+        check_objects(tally, f"type {kind}, {wanted}", data)

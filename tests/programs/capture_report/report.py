@@ -36,6 +36,16 @@ LENGTH = r"length (?:\d+(?:, \d+ captured)?|unknown): "
 HOP_LIMIT = re.compile(r", (time to live|hop limit) (\d+)(?=; |$)")
 
 
+# The fields of a fragment in a line.
+FRAGMENT = re.compile(r", fragment, identification ([0-9A-F]{4}|[0-9A-F]{8}), offset (\d+)(, more)?(?=; |, time to live |, hop limit |$)")
+
+
+def fragment_text(flags):
+    """What a line says of a fragment over IPv4 that is built with these flags and this offset."""
+    more = ", more" if flags & 0x2000 else ""
+    return f", fragment, identification 0001, offset {(flags & 0x1FFF) * 8}{more}" if flags & 0x3FFF else ""
+
+
 def parts_of(line):
     """The number of a line, its time, the length of its frame, and the rest."""
     return re.fullmatch(rf"(\d+) (\S+) ({LENGTH})(.*)", line).groups()
