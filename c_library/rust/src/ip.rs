@@ -572,7 +572,8 @@ pub fn lower_hop_limit(packet: &mut [u8]) -> Result<(), Error> {
 pub fn lower_maximum_segment_size(packet: &mut [u8], most: u16) -> Result<u16, Error> {
     let (mut size, mut error) = (0, sys::Error::default());
     // SAFETY: as above.
-    let status = unsafe { sys::etherparse_maximum_segment_size_lower(packet.as_mut_ptr(), packet.len(), most, &mut size, &mut error) };
+    let status =
+        unsafe { sys::etherparse_maximum_segment_size_lower(packet.as_mut_ptr(), packet.len(), most, &mut size, &mut error) };
     answer(status, (), error).map(|()| size)
 }
 
