@@ -6,8 +6,8 @@ use Rattle.capture_json.proofs.TokensLemmas.{nested_by}
 use Rattle.capture_json.proofs.fragment.put_fragment.Goals as goal
 
 -- the object of the fragment
-pub returns-in-Some : goal.returns-in-Some
-returns-in-Some c =
+pub returns-in_ok-put_fragment_content-in-Some : goal.returns-in_ok-put_fragment_content-in-Some
+returns-in_ok-put_fragment_content-in-Some c =
     rw c.in-Some.is
     (on_ok_weaker c.end_object.result
     (λ ended. nested_by (codes "fragment") (fragment_content c.in-Some.fragment) (tokens_in c.args.line.now) _ _ _
