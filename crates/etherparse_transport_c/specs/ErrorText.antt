@@ -197,8 +197,24 @@ text_or other text (Some error) = text error
 abbrev pub untested_text_at : ℕ → List ℕ
 untested_text_at number = text_or (codes "Unknown error.") untested_text (untested_at number)
 
--- The text of an error that exists only in C, or whose numbers no call returns. It is also the text of each status above 43: these statuses
--- were added later, and the ranges in `text_of` do not include them.
+-- The text of each status above 43. These statuses were added later, and the ranges in `text_of` do not include them.
+unfoldable pub later_text : EtherparseError → List ℕ
+later_text error =
+    if error.status == numbers.status_echo_no_reply then codes "Echo Error: the packet is not the reply to the request."
+    else if error.status == numbers.status_translate_source_route then translate_text translate.SourceRoute
+    else if error.status == numbers.status_checksum_untested then untested_text_at error.actual
+    else if error.status == numbers.status_hop_limit_expired then lower_hop_limit_text (lower.Expired error.actual)
+    else if error.status == numbers.status_icmp_error_later_fragment then error_about_text about.LaterFragment
+    else if error.status == numbers.status_icmp_error_about_error then error_about_text about.IcmpError
+    else if error.status == numbers.status_icmp_error_about_group then error_about_text about.GroupDestination
+    else if error.status == numbers.status_icmp_error_packet_source then error_about_text about.PacketSource
+    else if error.status == numbers.status_icmp_error_source then error_about_text about.ErrorSource
+    else if error.status == numbers.status_segment_size_later_fragment then lower_maximum_segment_size_text segment_size.LaterFragment
+    else if error.status == numbers.status_segment_size_no_syn then lower_maximum_segment_size_text segment_size.NoSyn
+    else if error.status == numbers.status_segment_size_no_option then lower_maximum_segment_size_text segment_size.NoOption
+    else codes "Unknown error."
+
+-- the text of an error that exists only in C, or whose status is above 43, or whose numbers no call returns
 abbrev pub own_text : EtherparseError → List ℕ
 own_text error =
     if error.status == numbers.status_ok then codes "No error."
@@ -215,19 +231,7 @@ own_text error =
     else if error.status == numbers.status_option_values then concat (
     codes "Option Error: no option of kind " ∷ decimal error.option_kind ∷ codes " has these values." ∷ [])
     else if error.status == numbers.status_no_icmp_error then codes "ICMP Error: the message is no error."
-    else if error.status == numbers.status_echo_no_reply then codes "Echo Error: the packet is not the reply to the request."
-    else if error.status == numbers.status_translate_source_route then translate_text translate.SourceRoute
-    else if error.status == numbers.status_checksum_untested then untested_text_at error.actual
-    else if error.status == numbers.status_hop_limit_expired then lower_hop_limit_text (lower.Expired error.actual)
-    else if error.status == numbers.status_icmp_error_later_fragment then error_about_text about.LaterFragment
-    else if error.status == numbers.status_icmp_error_about_error then error_about_text about.IcmpError
-    else if error.status == numbers.status_icmp_error_about_group then error_about_text about.GroupDestination
-    else if error.status == numbers.status_icmp_error_packet_source then error_about_text about.PacketSource
-    else if error.status == numbers.status_icmp_error_source then error_about_text about.ErrorSource
-    else if error.status == numbers.status_segment_size_later_fragment then lower_maximum_segment_size_text segment_size.LaterFragment
-    else if error.status == numbers.status_segment_size_no_syn then lower_maximum_segment_size_text segment_size.NoSyn
-    else if error.status == numbers.status_segment_size_no_option then lower_maximum_segment_size_text segment_size.NoOption
-    else codes "Unknown error."
+    else later_text error
 
 -- The text for a value that is too big. In the library in Rattle, the payload length of a written packet is not a `ValueType`. So the text
 -- for this length is the text of a `BuildSliceWriteError`.

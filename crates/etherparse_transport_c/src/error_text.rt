@@ -234,9 +234,37 @@ fn untested_text(number: usize) -> ErrorText
     }
 }
 
+/// Returns the text of an error whose status is above 43. These statuses were added later, and the ranges in `text` do not include them.
+#[tactic(auto, unfolding(crate::specs::ErrorText::later_text))]
+fn later_text(error: &EtherparseError) -> ErrorText
+    ensures { reads_as result ≡ specs.later_text error.now }
+{
+    match error.status {
+        status::ECHO_NO_REPLY => ErrorText::from_words(
+            "Echo Error: the packet is not the reply to the request.",
+        ),
+        status::TRANSLATE_SOURCE_ROUTE => TranslateError::SourceRoute.text(),
+        status::CHECKSUM_UNTESTED => untested_text(error.actual),
+        status::HOP_LIMIT_EXPIRED => ErrorText::from_parts(&[
+            Words("Hop Limit Error: the hop limit is "),
+            Number(error.actual),
+            Words("."),
+        ]),
+        status::ICMP_ERROR_LATER_FRAGMENT => ErrorAboutError::LaterFragment.text(),
+        status::ICMP_ERROR_ABOUT_ERROR => ErrorAboutError::IcmpError.text(),
+        status::ICMP_ERROR_ABOUT_GROUP => ErrorAboutError::GroupDestination.text(),
+        status::ICMP_ERROR_PACKET_SOURCE => ErrorAboutError::PacketSource.text(),
+        status::ICMP_ERROR_SOURCE => ErrorAboutError::ErrorSource.text(),
+        status::SEGMENT_SIZE_LATER_FRAGMENT => LowerMaximumSegmentSizeError::LaterFragment.text(),
+        status::SEGMENT_SIZE_NO_SYN => LowerMaximumSegmentSizeError::NoSyn.text(),
+        status::SEGMENT_SIZE_NO_OPTION => LowerMaximumSegmentSizeError::NoOption.text(),
+        _ => ErrorText::from_words("Unknown error."),
+    }
+}
+
 /// Returns the text of an error in each of these cases:
 /// - The error exists only in the library for C.
-/// - The status is above 43. These statuses were added later, and the ranges in `text` do not include them.
+/// - The status is above 43.
 /// - No call returns an error with this status and these numbers.
 fn own_text(error: &EtherparseError) -> ErrorText
     ensures { reads_as result ≡ specs.own_text error.now }
@@ -281,25 +309,7 @@ fn own_text(error: &EtherparseError) -> ErrorText
             Words(" has these values."),
         ]),
         status::NO_ICMP_ERROR => ErrorText::from_words("ICMP Error: the message is no error."),
-        status::ECHO_NO_REPLY => ErrorText::from_words(
-            "Echo Error: the packet is not the reply to the request.",
-        ),
-        status::TRANSLATE_SOURCE_ROUTE => TranslateError::SourceRoute.text(),
-        status::CHECKSUM_UNTESTED => untested_text(error.actual),
-        status::HOP_LIMIT_EXPIRED => ErrorText::from_parts(&[
-            Words("Hop Limit Error: the hop limit is "),
-            Number(error.actual),
-            Words("."),
-        ]),
-        status::ICMP_ERROR_LATER_FRAGMENT => ErrorAboutError::LaterFragment.text(),
-        status::ICMP_ERROR_ABOUT_ERROR => ErrorAboutError::IcmpError.text(),
-        status::ICMP_ERROR_ABOUT_GROUP => ErrorAboutError::GroupDestination.text(),
-        status::ICMP_ERROR_PACKET_SOURCE => ErrorAboutError::PacketSource.text(),
-        status::ICMP_ERROR_SOURCE => ErrorAboutError::ErrorSource.text(),
-        status::SEGMENT_SIZE_LATER_FRAGMENT => LowerMaximumSegmentSizeError::LaterFragment.text(),
-        status::SEGMENT_SIZE_NO_SYN => LowerMaximumSegmentSizeError::NoSyn.text(),
-        status::SEGMENT_SIZE_NO_OPTION => LowerMaximumSegmentSizeError::NoOption.text(),
-        _ => ErrorText::from_words("Unknown error."),
+        _ => later_text(error),
     }
 }
 
