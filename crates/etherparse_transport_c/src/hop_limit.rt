@@ -45,6 +45,7 @@ pub extern "C" fn etherparse_hop_limit_lower(packet: &mut [u8], error: ErrorPlac
 }
 
 /// Returns the error for a packet whose hop limit is not lowered.
+#[tactic(auto, unfolding(crate::specs::ErrorText::later_text))]
 fn of_lower_hop_limit(error: &LowerHopLimitError) -> EtherparseError
     ensures numbers { result ≡ specs.of_lower_hop_limit error.now }
     ensures text { text_of result ≡ lower_hop_limit_text error.now }

@@ -121,6 +121,7 @@ pub extern "C" fn etherparse_icmpv6_error_about(
 }
 
 /// Returns the error of a call that writes no ICMP error. `other_version` is the IP version that the call does not accept.
+#[tactic(auto, unfolding(crate::specs::ErrorText::later_text))]
 fn of_error_about(error: &ErrorAboutError, other_version: u8) -> EtherparseError
     ensures numbers { result ≡ specs.of_error_about other_version error.now }
     ensures text { text_of result ≡ error_about_text_in_c other_version error.now }
