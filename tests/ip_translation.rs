@@ -651,7 +651,12 @@ static POINTERS_BACK: [(u32, Option<u8>); 14] = [
 #[test]
 fn pointers(rt: HostRuntime) {
     for pointer in 0..21 {
-        expect_at(&rt, &pointer, &icmpv6_pointer(pointer), &POINTERS[usize::from(pointer)]);
+        expect_at(
+            &rt,
+            &pointer,
+            &icmpv6_pointer(pointer),
+            &POINTERS[usize::from(pointer)],
+        );
     }
     for (pointer, place) in &POINTERS_BACK {
         expect_at(&rt, pointer, &icmpv4_pointer(*pointer), place);
@@ -885,7 +890,10 @@ fn icmp_errors_are_refused(rt: HostRuntime) {
     }
     let mut buffer = [0xEE; 98];
     let outcome = ipv4_to_ipv6(ERROR_PACKETS[0].0, &PREFIXES, &mut buffer);
-    let error = PacketTranslationError::Space { required_len: 99, len: 98 };
+    let error = PacketTranslationError::Space {
+        required_len: 99,
+        len: 98,
+    };
     expect_equal(&rt, &outcome, &Err(error));
 }
 
@@ -915,7 +923,10 @@ fn icmp_errors_are_refused_back(rt: HostRuntime) {
     }
     let mut buffer = [0xEE; 58];
     let outcome = ipv6_to_ipv4(ERROR_PACKETS_BACK[0].0, &PREFIXES, 0, &mut buffer);
-    let error = PacketTranslationError::Space { required_len: 59, len: 58 };
+    let error = PacketTranslationError::Space {
+        required_len: 59,
+        len: 58,
+    };
     expect_equal(&rt, &outcome, &Err(error));
 }
 
