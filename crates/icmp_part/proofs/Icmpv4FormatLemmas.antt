@@ -57,7 +57,14 @@ with_next_hop_mtu_lawful =
     (λ bytes fits.
     let high : be_number bytes 6 2 / 256 % 256 ≡ slice_index bytes 6 = omega (arith, fits 6, fits 7) in
     let low : be_number bytes 6 2 % 256 ≡ slice_index bytes 7 = omega (arith, fits 6, fits 7) in
-    rw (and_zero_r (slice_index bytes 4), and_zero_r (slice_index bytes 5), bit_and-all (slice_index bytes 6) (fits 6), bit_and-all (slice_index bytes 7) (fits 7), high, low) refl)
+    rw (
+      and_zero_r (slice_index bytes 4),
+      and_zero_r (slice_index bytes 5),
+      bit_and-all (slice_index bytes 6) (fits 6),
+      bit_and-all (slice_index bytes 7) (fits 7),
+      high,
+      low,
+    ) refl)
     (λ bytes other fits other_fits same.
     let high = masked_alike_at (used 4 ++ (cleared 2 ++ used 2)) bytes other 6 fits other_fits refl same in
     let low = masked_alike_at (used 4 ++ (cleared 2 ++ used 2)) bytes other 7 fits other_fits refl same in
@@ -67,7 +74,12 @@ with_next_hop_mtu_lawful =
 with_pointer_lawful : IsLawfulIcmpv4 12 0 (inside ParameterProblem with_pointer)
 with_pointer_lawful =
     eight_lawful written IsLen 12 0 255 0 0 0 (λ bytes. ParameterProblem (problem.PointerIndicatesError (slice_index bytes 4))) (inl refl)
-    (λ bytes fits. rw (and_zero_r (slice_index bytes 5), and_zero_r (slice_index bytes 6), and_zero_r (slice_index bytes 7), bit_and-all (slice_index bytes 4) (fits 4)) refl)
+    (λ bytes fits. rw (
+      and_zero_r (slice_index bytes 5),
+      and_zero_r (slice_index bytes 6),
+      and_zero_r (slice_index bytes 7),
+      bit_and-all (slice_index bytes 4) (fits 4),
+    ) refl)
     (λ bytes other fits other_fits same.
     ap (λ at. ParameterProblem (problem.PointerIndicatesError at))
     (masked_alike_at (used 4 ++ (used 1 ++ cleared 3)) bytes other 4 fits other_fits refl same))

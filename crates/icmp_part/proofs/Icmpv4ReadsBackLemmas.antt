@@ -127,7 +127,8 @@ redirect_len redirected.RedirectForNetwork = refl
 redirect_len other = refl
 
 redirect_back : (code : RedirectCode) (address : List ℕ) (checksum : ℕ) (payload : List ℕ) → checksum < 2 ^ 16 → length address ≡ 4
-    → IsReadAs (wire (record { icmp_type = Redirect (record { code = code; gateway_internet_address = address }); checksum = checksum }) ++ payload)
+    → IsReadAs (wire (record { icmp_type = Redirect (record { code = code; gateway_internet_address = address }); checksum = checksum })
+    ++ payload)
     (reads_back (Redirect (record { code = code; gateway_internet_address = address })) checksum payload)
 redirect_back code (a ∷ (b ∷ (c ∷ (d ∷ [])))) checksum payload small four =
     eight_back (Redirect (record { code = code; gateway_internet_address = a ∷ (b ∷ (c ∷ (d ∷ []))) })) checksum 5
@@ -221,7 +222,8 @@ raw_listed type code x y a b c d payload other =
 
 raw_back : (type code checksum a b c d : ℕ) (payload : List ℕ) → checksum < 2 ^ 16 → ((type ≡ 13) ⊎ (type ≡ 14) → code ≢ 0)
     → DecodesAs (wire (icmpv4_header (Unknown type code (a ∷ (b ∷ (c ∷ (d ∷ []))))) checksum) ++ payload)
-    (icmpv4_header (unwrap_or (listed_kind type code (a ∷ (b ∷ (c ∷ (d ∷ []))))) (Unknown type code (a ∷ (b ∷ (c ∷ (d ∷ [])))))) checksum) payload
+    (icmpv4_header (unwrap_or (listed_kind type code (a ∷ (b ∷ (c ∷ (d ∷ []))))) (Unknown type code (a ∷ (b ∷ (c ∷ (d ∷ [])))))) checksum)
+    payload
 raw_back type code checksum a b c d payload small other =
     let bytes = type ∷ (code ∷ (checksum / 256 % 256 ∷ (checksum % 256 ∷ (a ∷ (b ∷ (c ∷ (d ∷ payload))))))) in
     let fields = a ∷ (b ∷ (c ∷ (d ∷ []))) in
@@ -282,7 +284,11 @@ raw_reads_back : (type code checksum a b c d : ℕ) (payload : List ℕ) (is_req
     → IsReadAs (wire (icmpv4_header (Unknown type code (a ∷ (b ∷ (c ∷ (d ∷ []))))) checksum) ++ payload)
     (if is_request then raw_timestamp_reads_back TimestampRequest layers.Icmpv4Timestamp (a ∷ (b ∷ (c ∷ (d ∷ [])))) checksum payload
     else if is_reply then raw_timestamp_reads_back TimestampReply layers.Icmpv4TimestampReply (a ∷ (b ∷ (c ∷ (d ∷ [])))) checksum payload
-    else Ok (icmpv4_header (unwrap_or (listed_kind type code (a ∷ (b ∷ (c ∷ (d ∷ []))))) (Unknown type code (a ∷ (b ∷ (c ∷ (d ∷ [])))))) checksum, payload))
+    else Ok (
+      icmpv4_header (unwrap_or (listed_kind type code (a ∷ (b ∷ (c ∷ (d ∷ []))))) (Unknown type code (a ∷ (b ∷ (c ∷ (d ∷ []))))))
+          checksum,
+      payload,
+    ))
 raw_reads_back type code checksum a b c d payload true is_reply small request reply =
     let is_type : type ≡ 13 = grind (arith, nat_tests) in
     let is_code : code ≡ 0 = grind (arith, nat_tests) in

@@ -167,7 +167,12 @@ neighbor_advertisement_lawful : IsLawfulIcmpv6 136 0 neighbor_advertisement
 neighbor_advertisement_lawful =
     eight_lawful written IsLen 136 0 0xe0 0 0 0 (λ bytes. NeighborAdvertisement (neighbor_advertisement_of bytes 4)) refl
     (λ bytes fits.
-    rw (and_zero_r (slice_index bytes 5), and_zero_r (slice_index bytes 6), and_zero_r (slice_index bytes 7), three_flags (slice_index bytes 4) (fits 4)) refl)
+    rw (
+      and_zero_r (slice_index bytes 5),
+      and_zero_r (slice_index bytes 6),
+      and_zero_r (slice_index bytes 7),
+      three_flags (slice_index bytes 4) (fits 4),
+    ) refl)
     (λ bytes other fits other_fits same.
     let masks = used 4 ++ neighbor_advertisement_masks in
     ap NeighborAdvertisement (flags_same _ _ _ (neighbor_advertisement_of other 4)
@@ -184,7 +189,14 @@ router_advertisement_lawful =
     (λ bytes fits.
     let high : be_number bytes 6 2 / 256 % 256 ≡ slice_index bytes 6 = omega (arith, fits 6, fits 7) in
     let low : be_number bytes 6 2 % 256 ≡ slice_index bytes 7 = omega (arith, fits 6, fits 7) in
-    rw (bit_and-all (slice_index bytes 4) (fits 4), two_flags (slice_index bytes 5) (fits 5), bit_and-all (slice_index bytes 6) (fits 6), bit_and-all (slice_index bytes 7) (fits 7), high, low) refl)
+    rw (
+      bit_and-all (slice_index bytes 4) (fits 4),
+      two_flags (slice_index bytes 5) (fits 5),
+      bit_and-all (slice_index bytes 6) (fits 6),
+      bit_and-all (slice_index bytes 7) (fits 7),
+      high,
+      low,
+    ) refl)
     (λ bytes other fits other_fits same.
     let masks = used 4 ++ router_advertisement_masks in
     let high = masked_alike_at masks bytes other 6 fits other_fits refl same in

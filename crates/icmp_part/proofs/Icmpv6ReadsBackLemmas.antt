@@ -95,7 +95,8 @@ unknown_back : (type code : ℕ) (bytes5to8 : List ℕ) (checksum : ℕ) (payloa
     (icmpv6_header (unwrap_or (listed_kind type code bytes5to8) (Unknown type code bytes5to8)) checksum) payload
 unknown_back type code (a ∷ (b ∷ (c ∷ (d ∷ [])))) checksum payload small within four =
     let as_it_was = Unknown type code (a ∷ (b ∷ (c ∷ (d ∷ [])))) in
-    eight_back as_it_was (unwrap_or (listed_kind type code (a ∷ (b ∷ (c ∷ (d ∷ []))))) as_it_was) checksum type code a b c d payload small within refl
+    eight_back as_it_was (unwrap_or (listed_kind type code (a ∷ (b ∷ (c ∷ (d ∷ []))))) as_it_was) checksum type code a b c d payload small
+    within refl
     (λ x y.
     icmp_type_of_listed (type ∷ (code ∷ (x ∷ (y ∷ (a ∷ (b ∷ (c ∷ (d ∷ payload))))))))
     ∙ ap (λ kind. unwrap_or kind as_it_was) (raw_listed type code x y a b c d payload))
@@ -149,7 +150,8 @@ within_back (ParameterProblem header) checksum payload small within fit =
     (pointer / 16777216 % 256) (pointer / 65536 % 256) (pointer / 256 % 256) (pointer % 256) payload small within refl
     (λ x y.
     let bytes =
-    4 ∷ (parameter_problem_code header.code ∷ (x ∷ (y ∷ (pointer / 16777216 % 256 ∷ (pointer / 65536 % 256 ∷ (pointer / 256 % 256 ∷ (pointer % 256 ∷ payload))))))) in
+    4 ∷ (parameter_problem_code header.code
+    ∷ (x ∷ (y ∷ (pointer / 16777216 % 256 ∷ (pointer / 65536 % 256 ∷ (pointer / 256 % 256 ∷ (pointer % 256 ∷ payload))))))) in
     let same : be_number bytes 4 4 ≡ pointer = omega (arith, fit) in
     parameter_problem_read header.code bytes ∙ ap (problem_at header.code) same)
 within_back (EchoRequest echo) checksum payload small within fit =

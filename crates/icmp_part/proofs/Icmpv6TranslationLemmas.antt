@@ -44,7 +44,11 @@ echo_id_replaced source destination message changed old id payload found replace
 pub source_replaced : (old new destination : List ℕ) (message : Icmpv6Type) (payload : List ℕ) → length old % 2 ≡ length new % 2
     → message_sum new destination message payload + total old ≡ message_sum old destination message payload + total new
 source_replaced old new destination message payload alike =
-    omega (arith, total_replaced [] old new (destination ++ (to_be_bytes w32 (packet_len message payload) ++ (0 ∷ 0 ∷ 0 ∷ 58 ∷ []))) refl alike)
+    omega (
+      arith,
+      total_replaced [] old new (destination ++ (to_be_bytes w32 (packet_len message payload) ++ (0 ∷ 0 ∷ 0 ∷ 58 ∷ []))) refl
+          alike,
+    )
 
 pub destination_replaced : (source old new : List ℕ) (message : Icmpv6Type) (payload : List ℕ) → length source % 2 ≡ 0
     → length old % 2 ≡ length new % 2
@@ -56,4 +60,8 @@ destination_replaced source old new message payload even alike =
 pub some_sum : (source destination : List ℕ) (message : Icmpv6Type) (payload : List ℕ) → length source % 2 ≡ 0 → length destination % 2 ≡ 0
     → message_sum source destination message payload ≢ 0
 some_sum source destination message payload even even_too none =
-    omega (arith, total-append_twice source destination (to_be_bytes w32 (packet_len message payload) ++ (0 ∷ 0 ∷ 0 ∷ 58 ∷ [])) even even_too)
+    omega (
+      arith,
+      total-append_twice source destination
+          (to_be_bytes w32 (packet_len message payload) ++ (0 ∷ 0 ∷ 0 ∷ 58 ∷ [])) even even_too,
+    )

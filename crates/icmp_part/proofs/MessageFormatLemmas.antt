@@ -180,7 +180,8 @@ pub format_in-lawful : {Message : Type 0} (write : Message → Written) (IsLen :
 format_in-lawful {Message} write IsLen formats unknown all unknown_lawful type code =
     let e : 0 + code ≡ code = omega arith in
     let P : ℕ → Type 0 = λ c. IsLawful Message write IsLen type c (unwrap_or (slice_get (codes_of formats type) code) unknown) in
-    subst P e (unwrap_lawful write IsLen unknown unknown_lawful type 0 (codes_of formats type) code (codes_lawful write IsLen formats type all))
+    subst P e (unwrap_lawful write IsLen unknown unknown_lawful type 0 (codes_of formats type) code
+    (codes_lawful write IsLen formats type all))
 
 -- if bytes are equal under the masks of a format, the format reads them alike
 reads_alike : {Message : Type 0} (write : Message → Written) (IsLen : ℕ → ℕ → ℕ → Type 0) (format : MessageFormat Message)

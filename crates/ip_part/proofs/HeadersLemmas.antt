@@ -7,7 +7,8 @@ use Rattle.ip_part.specs.declared.ip_error.IpError.{IpError}
 -- the headers after another extension header is read
 extended : (more : ℕ) (headers : Headers) (bytes : List ℕ) → is_extended headers ≡ true
     → headers_to_transport (suc more) headers bytes
-    ≡ unless_refused (extension_refusal headers (drop headers.len bytes)) (headers_to_transport more (headers_after headers (extension_header headers (drop headers.len bytes))) bytes)
+    ≡ unless_refused (extension_refusal headers (drop headers.len bytes))
+    (headers_to_transport more (headers_after headers (extension_header headers (drop headers.len bytes))) bytes)
 unfolding headers_to_transport
 extended more headers bytes is = rw is refl
 
@@ -41,7 +42,8 @@ reached_next_in (suc more) first headers bytes header within room same is none k
       within = omega (arith, within, there, length-drop headers.len bytes);
       room = omega (arith, room, shortest);
       same = same ∙ extended more headers bytes is
-          ∙ ap (λ refusal. unless_refused refusal (headers_to_transport more (headers_after headers (extension_header headers (drop headers.len bytes))) bytes)) none
+          ∙ ap (λ refusal. unless_refused refusal
+          (headers_to_transport more (headers_after headers (extension_header headers (drop headers.len bytes))) bytes)) none
           ∙ ap (λ header. headers_to_transport more (headers_after headers header) bytes) (sym kept);
     }
 
@@ -53,7 +55,8 @@ reached_next first headers bytes rest header left reached is none kept shortest 
     let P : List ℕ → Type 0 = λ rest. extension_refusal headers rest ≡ None → header ≡ extension_header headers rest
     → length header ≤ length rest → IsReached first (headers_after headers header) bytes in
     subst P (sym left)
-    (λ none kept there. reached_next_in reached.more first headers bytes header reached.within reached.room reached.same is none kept shortest there)
+    (λ none kept there. reached_next_in reached.more first headers bytes header reached.within reached.room reached.same is none kept
+    shortest there)
     none kept there
 
 refused_in : (more : ℕ) (first headers : Headers) (bytes : List ℕ) (error : IpError)
@@ -64,7 +67,8 @@ refused_in : (more : ℕ) (first headers : Headers) (bytes : List ℕ) (error : 
 refused_in zero first headers bytes error within room same is refuses = absurd (omega (arith, within, room))
 refused_in (suc more) first headers bytes error within room same is refuses =
     same ∙ extended more headers bytes is
-    ∙ ap (λ refusal. unless_refused refusal (headers_to_transport more (headers_after headers (extension_header headers (drop headers.len bytes))) bytes)) refuses
+    ∙ ap (λ refusal. unless_refused refusal
+    (headers_to_transport more (headers_after headers (extension_header headers (drop headers.len bytes))) bytes)) refuses
 
 pub refused_at : (first headers : Headers) (bytes rest : List ℕ) (error : IpError) → rest ≡ drop headers.len bytes
     → IsReached first headers bytes → is_extended headers ≡ true → extension_refusal headers rest ≡ Some error

@@ -44,7 +44,8 @@ stated_by false total payload next (Some jumbo) len is = cc is
 stated_by false total payload next None len is = some_unless (payload == 0 && not (next == 59)) (40 + payload) len is
 
 pub stated_is_counted : (packet : List ℕ) (len : ℕ) → stated_len packet ≡ Some len → len ≡ counted_len false packet
-stated_is_counted packet len is = stated_by (version packet == 4) (total_len packet) (payload_len packet) (next_header packet) (jumbo_len packet) len is
+stated_is_counted packet len is =
+    stated_by (version packet == 4) (total_len packet) (payload_len packet) (next_header packet) (jumbo_len packet) len is
 
 -- a header that may state no length, and states none, counts its own bytes
 own_by : (is_four : Bool) (four six : Headers) (source destination : List ℕ) (total payload next : ℕ) (jumbo : Option ℕ)
@@ -53,16 +54,22 @@ own_by : (is_four : Bool) (four six : Headers) (source destination : List ℕ) (
     → missing_len_refusal (if is_four then four else six) ≡ None
     → (if is_four then four else six).len ≡ (if is_four then total else 40 + unwrap_or jumbo payload)
 own_by true four six source destination total payload next jumbo is len none accepted =
-    absurd (some_is_none (TotalLength 0 four.len) (ap (λ addresses. own_len_refusal addresses four.protocol.0 four.len) (sym is) ∙ accepted))
+    absurd (some_is_none (TotalLength 0 four.len)
+    (ap (λ addresses. own_len_refusal addresses four.protocol.0 four.len) (sym is) ∙ accepted))
 own_by false four six source destination total payload next (Some jumbo) is len none accepted =
     absurd (some_is_none (40 + jumbo) none)
 own_by false four six source destination total payload next None is len none accepted =
-    len ∙ omega (arith, zero_by payload (first_true (payload == 0) (not (next == 59)) (none_unless (payload == 0 && not (next == 59)) (40 + payload) none)))
+    len ∙ omega (
+      arith,
+      zero_by payload (first_true (payload == 0) (not (next == 59))
+          (none_unless (payload == 0 && not (next == 59)) (40 + payload) none)),
+    )
 
 pub own_is_counted : (packet : List ℕ) → stated_len packet ≡ None → missing_len_refusal (first_headers packet) ≡ None
     → (first_headers packet).len ≡ counted_len false packet
 own_is_counted packet none accepted =
-    own_by (version packet == 4) (ipv4_headers (ipv4_header_len packet) (ipv4_header packet)) (ipv6_headers (is_jumbogram packet) (ipv6_header packet))
+    own_by (version packet == 4) (ipv4_headers (ipv4_header_len packet) (ipv4_header packet))
+    (ipv6_headers (is_jumbogram packet) (ipv6_header packet))
     _ _ (total_len packet) (payload_len packet) (next_header packet) (jumbo_len packet) refl refl none accepted
 
 -- if the length may be missing, the stated length or all bytes are counted
@@ -130,7 +137,8 @@ accepted_by true packet is accepted whole none =
 pub accepted_too : (packet : List ℕ) → refusal packet ≡ None
     → (is_cut_off (lacks_len packet) packet ≡ false) × (error_of (headers_of (lacks_len packet) packet) ≡ None)
 accepted_too packet none =
-    let parts = all_none (strict_header_refusal packet) (refused_if (is_cut_off false packet) (PacketCutOff (counted_len false packet) (length packet)))
+    let parts = all_none (strict_header_refusal packet)
+    (refused_if (is_cut_off false packet) (PacketCutOff (counted_len false packet) (length packet)))
     (error_of (headers_of false packet)) none in
     accepted_by (lacks_len packet) packet refl (both_none (header_refusal packet) _ parts.0).1
     (none_if (is_cut_off false packet) (PacketCutOff (counted_len false packet) (length packet)) parts.1) parts.2
@@ -149,13 +157,15 @@ after_none : (error : Option IpError) → first_of (None ∷ error ∷ []) ≡ e
 after_none None = refl
 after_none (Some error) = refl
 
-pub lax_answer : (packet : List ℕ) (result : Result Headers IpError) → header_refusal packet ≡ None → headers_of (lacks_len packet) packet ≡ result
+pub lax_answer : (packet : List ℕ) (result : Result Headers IpError) → header_refusal packet ≡ None
+    → headers_of (lacks_len packet) packet ≡ result
     → lax_refusal packet ≡ error_of result
 lax_answer packet result none is =
     ap (λ header. first_of (header ∷ error_of (headers_of (lacks_len packet) packet) ∷ [])) none
     ∙ after_none (error_of (headers_of (lacks_len packet) packet)) ∙ ap error_of is
 
-pub lax_bytes : (packet : List ℕ) (counts len : ℕ) → counts ≡ unwrap_or (stated_len packet) (length packet) → len ≡ min counts (length packet)
+pub lax_bytes : (packet : List ℕ) (counts len : ℕ) → counts ≡ unwrap_or (stated_len packet) (length packet)
+    → len ≡ min counts (length packet)
     → take len packet ≡ counted (lacks_len packet) packet
 lax_bytes packet counts len is least =
     ap (λ n. take n packet) least ∙ take_min counts packet ∙ ap (λ n. take n packet) (is ∙ lax_is_counted packet)

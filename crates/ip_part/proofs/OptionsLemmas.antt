@@ -10,9 +10,11 @@ use Rattle.ip_part.specs.Options.{AreOptions, home_address_or, ipv4_option, ipv6
 option_more : (front : List ℕ → Option (List ℕ)) (more : ℕ) (bytes option : List ℕ) → front bytes ≡ Some option
     → options_within front (suc more) bytes ≡ option ∷ options_within front more (drop (length option) bytes)
 unfolding options_within
-option_more front more bytes option is = ap (λ first. with_first first (λ option. options_within front more (drop (length option) bytes))) is
+option_more front more bytes option is =
+    ap (λ first. with_first first (λ option. options_within front more (drop (length option) bytes))) is
 
-option_none : (front : List ℕ → Option (List ℕ)) (more : ℕ) (bytes : List ℕ) → front bytes ≡ None → options_within front (suc more) bytes ≡ []
+option_none : (front : List ℕ → Option (List ℕ)) (more : ℕ) (bytes : List ℕ) → front bytes ≡ None
+    → options_within front (suc more) bytes ≡ []
 unfolding options_within
 option_none front more bytes is = ap (λ first. with_first first (λ option. options_within front more (drop (length option) bytes))) is
 
@@ -37,11 +39,13 @@ sought_next_in test front (suc more) bytes rest option room same is fails shorte
       ∙ ap (λ b. cond b (Some option) (find test (options_within front more (drop (length option) rest)))) fails;
 }
 
-pub sought_next : (test : List ℕ → Bool) (front : List ℕ → Option (List ℕ)) (bytes rest option next : List ℕ) → IsSought test front bytes rest
+pub sought_next : (test : List ℕ → Bool) (front : List ℕ → Option (List ℕ)) (bytes rest option next : List ℕ)
+    → IsSought test front bytes rest
     → front rest ≡ Some option → test option ≡ false → 1 ≤ length option → length option ≤ length rest
     → next ≡ drop (length option) rest → IsSought test front bytes next
 sought_next test front bytes rest option next sought is fails shortest within left =
-    subst (IsSought test front bytes) (sym left) (sought_next_in test front sought.more bytes rest option sought.room sought.same is fails shortest within)
+    subst (IsSought test front bytes) (sym left)
+    (sought_next_in test front sought.more bytes rest option sought.room sought.same is fails shortest within)
 
 found_in : (test : List ℕ → Bool) (front : List ℕ → Option (List ℕ)) (more : ℕ) (bytes rest option : List ℕ) → length rest < more
     → find test (options_of front bytes) ≡ find test (options_within front more rest)
@@ -98,7 +102,8 @@ two_at_least a b count is =
 ipv4_front : (bytes option : List ℕ) → ipv4_option bytes ≡ Some option → IsFront bytes option
 ipv4_front bytes option =
     front_by (length bytes == 0 || slice_index bytes 0 == 0) (slice_index bytes 0 == 1)
-    (nat_lt (length bytes) 2 || (nat_lt (slice_index bytes 1) 2 || nat_lt (length bytes) (slice_index bytes 1))) (slice_index bytes 1) bytes option
+    (nat_lt (length bytes) 2 || (nat_lt (slice_index bytes 1) 2 || nat_lt (length bytes) (slice_index bytes 1)))
+    (slice_index bytes 1) bytes option
     (λ is. some_byte bytes (or_parts _ _ is).0)
     (λ is. two_at_least (nat_lt (length bytes) 2) (nat_lt (length bytes) (slice_index bytes 1)) (slice_index bytes 1) is)
 
@@ -176,7 +181,8 @@ pub record IsFolded (front : List ℕ → Option (List ℕ)) (after : List ℕ �
   pub room : length rest < more
   pub same : fold after first (options_of front bytes) ≡ fold after source (options_within front more rest)
 
-pub folded_first : (front : List ℕ → Option (List ℕ)) (after : List ℕ → List ℕ → List ℕ) (first bytes : List ℕ) → IsFolded front after first first bytes bytes
+pub folded_first : (front : List ℕ → Option (List ℕ)) (after : List ℕ → List ℕ → List ℕ) (first bytes : List ℕ)
+    → IsFolded front after first first bytes bytes
 folded_first front after first bytes = record { more = suc (length bytes); room = omega arith; same = refl }
 
 folded_next_in : (front : List ℕ → Option (List ℕ)) (after : List ℕ → List ℕ → List ℕ) (more : ℕ) (first source bytes rest option : List ℕ)
@@ -201,11 +207,13 @@ folded_none_in : (front : List ℕ → Option (List ℕ)) (after : List ℕ → 
     → length rest < more → fold after first (options_of front bytes) ≡ fold after source (options_within front more rest)
     → front rest ≡ None → source ≡ fold after first (options_of front bytes)
 folded_none_in front after zero first source bytes rest room same is = absurd (omega (arith, room))
-folded_none_in front after (suc more) first source bytes rest room same is = sym (same ∙ ap (fold after source) (option_none front more rest is))
+folded_none_in front after (suc more) first source bytes rest room same is =
+    sym (same ∙ ap (fold after source) (option_none front more rest is))
 
 pub folded_none : (front : List ℕ → Option (List ℕ)) (after : List ℕ → List ℕ → List ℕ) (first source bytes rest : List ℕ)
     → IsFolded front after first source bytes rest → front rest ≡ None → source ≡ fold after first (options_of front bytes)
-folded_none front after first source bytes rest folded is = folded_none_in front after folded.more first source bytes rest folded.room folded.same is
+folded_none front after first source bytes rest folded is =
+    folded_none_in front after folded.more first source bytes rest folded.room folded.same is
 
 -- bytes that are too short for a home address don't change the source
 short_stays : (more : ℕ) (source rest : List ℕ) (first : Option (List ℕ)) → length rest < 18 → ipv6_option rest ≡ first
@@ -216,14 +224,17 @@ short_stays more source rest (Some option) short is others =
     let at = ipv6_front rest option is in
     let within : length option ≤ length rest = omega (arith, ap length at.front, length-take at.count rest) in
     let left : length (drop (length option) rest) < 18 = omega (arith, short, length-drop (length option) rest) in
-    ap (λ b. fold home_address_or (if b then slice_range option 2 18 else source) (options_within ipv6_option more (drop (length option) rest)))
+    ap (λ b. fold home_address_or (if b then slice_range option 2 18 else source)
+    (options_within ipv6_option more (drop (length option) rest)))
     (other_len 0xC9 16 option (omega (arith, short, within)))
     ∙ others (drop (length option) rest) left
 
-stays_within : (more : ℕ) (source rest : List ℕ) → length rest < 18 → fold home_address_or source (options_within ipv6_option more rest) ≡ source
+stays_within : (more : ℕ) (source rest : List ℕ) → length rest < 18
+    → fold home_address_or source (options_within ipv6_option more rest) ≡ source
 unfolding options_within
 stays_within zero source rest short = refl
-stays_within (suc more) source rest short = short_stays more source rest (ipv6_option rest) short refl (λ after left. stays_within more source after left)
+stays_within (suc more) source rest short =
+    short_stays more source rest (ipv6_option rest) short refl (λ after left. stays_within more source after left)
 
 pub folded_short : (first source bytes rest : List ℕ) → IsFolded ipv6_option home_address_or first source bytes rest → length rest < 18
     → source ≡ fold home_address_or first (options_of ipv6_option bytes)

@@ -41,7 +41,8 @@ same_fronts : (front rest front' rest' : List ℕ) → front ++ rest ≡ front' 
     → (front ≡ front') × (rest ≡ rest')
 same_fronts front rest front' rest' whole len =
     let fronts : front ≡ front' =
-    sym (take-append_seam front rest) ∙ ap (take (length front)) whole ∙ ap (λ n. take n (front' ++ rest')) len ∙ take-append_seam front' rest' in
+    sym (take-append_seam front rest) ∙ ap (take (length front)) whole ∙ ap (λ n. take n (front' ++ rest')) len
+    ∙ take-append_seam front' rest' in
     (fronts, append_cancel_left front' rest rest' (ap (λ bytes. bytes ++ rest) (sym fronts) ∙ whole))
 
 -- no extension header comes if none may come
@@ -73,7 +74,8 @@ one_chain six may number (header ∷ headers) (next ∷ others) protocol other p
     let is : next ≡ header = sym (same_header header next numbers same.0) in
     let rest : IsChain six (six && not (is_later_fragment header.number header.bytes)) (next_number header.bytes) others other =
     subst (λ h. IsChain six (six && not (is_later_fragment h.number h.bytes)) (next_number h.bytes) others other) is again.3 in
-    let tail = one_chain six (six && not (is_later_fragment header.number header.bytes)) (next_number header.bytes) headers others protocol other payload left chain.3 rest same.1 in
+    let tail = one_chain six (six && not (is_later_fragment header.number header.bytes))
+    (next_number header.bytes) headers others protocol other payload left chain.3 rest same.1 in
     (cc (is, tail.0), tail.1, tail.2)
 
 -- a packet has one reading
@@ -87,7 +89,8 @@ one_reading missing packet headers others protocol other payload left reads agai
     append_cancel_right (bytes_of headers ++ payload) (bytes_of others ++ left) (padding missing packet)
     (append_assoc (bytes_of headers) payload (padding missing packet) ∙ after
     ∙ sym (append_assoc (bytes_of others) left (padding missing packet))) in
-    one_chain (not (version packet == 4)) (may_be_extended packet) (first_number packet) headers others protocol other payload left reads.chain again.chain front
+    one_chain (not (version packet == 4)) (may_be_extended packet)
+    (first_number packet) headers others protocol other payload left reads.chain again.chain front
 
 -- ---- the headers that are found form a reading
 
@@ -141,7 +144,8 @@ pub same_version : (addresses : Addresses) (number : ℕ) (bytes : List ℕ) →
 same_version (Ipv4 source destination) number bytes = refl
 same_version (Ipv6 source destination) number bytes = refl
 
-pub both_whole : (short cut : Bool) (a b : IpError) (other : Option IpError) → first_of (refused_if short a ∷ refused_if cut b ∷ other ∷ []) ≡ None
+pub both_whole : (short cut : Bool) (a b : IpError) (other : Option IpError)
+    → first_of (refused_if short a ∷ refused_if cut b ∷ other ∷ []) ≡ None
     → (short ≡ false) × (cut ≡ false)
 both_whole true cut a b other none = absurd (cc none)
 both_whole false true a b other none = absurd (cc none)
@@ -161,7 +165,8 @@ whole_front number rest long there known =
     let len : length front ≡ extension_len number rest = omega (arith, there, length-take (extension_len number rest) rest) in
     let eight : 8 ≤ length front = omega (arith, len, at_least_eight (number == 44) (number == 51) (slice_index rest 1)) in
     let words : slice_index rest 1 ≡ slice_index front 1 =
-    ap (λ bytes. slice_index bytes 1) (sym (take-append-drop (extension_len number rest) rest)) ∙ second_byte front (drop (extension_len number rest) rest) eight in
+    ap (λ bytes. slice_index bytes 1) (sym (take-append-drop (extension_len number rest) rest))
+    ∙ second_byte front (drop (extension_len number rest) rest) eight in
     record { known = known; shortest = eight; len = len ∙ ap (len_by number) words }
 
 pub and_parts : (a b : Bool) → (a && b) ≡ true → (a ≡ true) × (b ≡ true)
@@ -185,16 +190,19 @@ found_more headers last bytes is none found =
         known.0,
         refl,
         whole,
-        subst (λ six. IsChain six (is_ipv6 headers.addresses && not (is_later_fragment header.number header.bytes)) (next_number header.bytes) found.extensions last.protocol.0)
+        subst (λ six. IsChain six (is_ipv6 headers.addresses && not (is_later_fragment header.number header.bytes))
+            (next_number header.bytes) found.extensions last.protocol.0)
             (same_version headers.addresses header.number header.bytes) found.chain,
       );
       whole = sym (take-append-drop count rest)
-          ∙ ap (λ after. header.bytes ++ after) (ap (λ n. drop n rest) (sym len) ∙ drop-drop (length header.bytes) headers.len bytes ∙ found.whole)
+          ∙ ap (λ after. header.bytes ++ after) (ap (λ n. drop n rest) (sym len) ∙ drop-drop (length header.bytes) headers.len bytes
+          ∙ found.whole)
           ∙ sym (append_assoc header.bytes (bytes_of found.extensions) (drop last.len bytes));
       len = omega (arith, found.len, length-append header.bytes (bytes_of found.extensions));
       addresses = found.addresses
           ∙ with_one_more headers.addresses header found.extensions;
-      is_fragment = found.is_fragment ∙ or_assoc headers.is_fragment (is_one_of_fragments header.number header.bytes) (is_fragment_by found.extensions);
+      is_fragment = found.is_fragment ∙ or_assoc headers.is_fragment (is_one_of_fragments header.number header.bytes)
+          (is_fragment_by found.extensions);
       is_later_fragment = found.is_later_fragment
           ∙ or_assoc headers.is_later_fragment (is_later_fragment header.number header.bytes) (is_later_fragment_by found.extensions);
     }
@@ -203,7 +211,9 @@ found_if : (is : Bool) (refusal : Option IpError) (more : ℕ) (headers last : H
     → is_extended headers ≡ is → extension_refusal headers (drop headers.len bytes) ≡ refusal → is_extended last ≡ false
     → (headers_to_transport more (headers_after headers (extension_header headers (drop headers.len bytes))) bytes ≡ Ok last
     → IsFound (headers_after headers (extension_header headers (drop headers.len bytes))) last bytes)
-    → (if is then unless_refused refusal (headers_to_transport more (headers_after headers (extension_header headers (drop headers.len bytes))) bytes) else Ok headers) ≡ Ok last
+    → (if is then unless_refused refusal
+    (headers_to_transport more (headers_after headers (extension_header headers (drop headers.len bytes))) bytes) else Ok headers)
+    ≡ Ok last
     → IsFound headers last bytes
 found_if true (Some error) more headers last bytes is refuses ended others read = absurd (cc read)
 found_if true None more headers last bytes is refuses ended others read = found_more headers last bytes is refuses (others read)
@@ -230,7 +240,8 @@ first_front true packet len four six same same_too = ap (λ n. take n packet) (s
 first_front false packet len four six same same_too = ap (λ n. take n packet) (sym same_too)
 
 same_chain : (six six' may may' : Bool) (number number' : ℕ) (extensions : List ExtensionHeader) (protocol : ℕ)
-    → six ≡ six' → may ≡ may' → number ≡ number' → IsChain six may number extensions protocol → IsChain six' may' number' extensions protocol
+    → six ≡ six' → may ≡ may' → number ≡ number' → IsChain six may number extensions protocol
+    → IsChain six' may' number' extensions protocol
 same_chain six six' may may' number number' extensions protocol same_version same_may is chain =
     subst (λ six. IsChain six may' number' extensions protocol) same_version
     (subst (λ may. IsChain six may number' extensions protocol) same_may
@@ -242,8 +253,10 @@ first_chain : (is_four : Bool) (four six : Headers) (number number_too : ℕ) (m
     → IsChain (is_ipv6 (if is_four then four else six).addresses) (if is_four then four else six).may_be_extended
     (if is_four then four else six).protocol.0 extensions protocol
     → IsChain (not is_four) (if is_four then may else true) (if is_four then number else number_too) extensions protocol
-first_chain true four six number number_too may extensions protocol v v_too m m_too is is_too chain = same_chain _ _ _ _ _ _ extensions protocol v m is chain
-first_chain false four six number number_too may extensions protocol v v_too m m_too is is_too chain = same_chain _ _ _ _ _ _ extensions protocol v_too m_too is_too chain
+first_chain true four six number number_too may extensions protocol v v_too m m_too is is_too chain =
+    same_chain _ _ _ _ _ _ extensions protocol v m is chain
+first_chain false four six number number_too may extensions protocol v v_too m m_too is is_too chain =
+    same_chain _ _ _ _ _ _ extensions protocol v_too m_too is_too chain
 
 first_addresses : (is_four : Bool) (four six : Headers) (extensions : List ExtensionHeader) (source destination source_too : List ℕ)
     (destination_too : Option (List ℕ)) → four.addresses ≡ Ipv4 source destination → six.addresses ≡ Ipv6 source_too destination_too
@@ -251,7 +264,8 @@ first_addresses : (is_four : Bool) (four six : Headers) (extensions : List Exten
     ≡ (if is_four then Ipv4 source destination else Ipv6 (source_by source_too extensions) (destination_by destination_too extensions))
 unfolding with_extensions
 first_addresses true four six extensions source destination source_too destination_too is is_too = ap (λ a. with_extensions a extensions) is
-first_addresses false four six extensions source destination source_too destination_too is is_too = ap (λ a. with_extensions a extensions) is_too
+first_addresses false four six extensions source destination source_too destination_too is is_too =
+    ap (λ a. with_extensions a extensions) is_too
 
 -- an authentication header is no fragment header
 no_fragment : (header : ExtensionHeader) → header.number ≡ 51 → is_one_of_fragments header.number header.bytes ≡ false
@@ -269,11 +283,14 @@ no_fragment_over_ipv4 may number (header ∷ []) protocol is chain =
 no_fragment_over_ipv4 may number (header ∷ (next ∷ headers)) protocol is chain = absurd (cc (chain.3.0))
 
 first_fragment : (is_four : Bool) (four six : Headers) (may : Bool) (extensions : List ExtensionHeader) (is : Bool) (protocol number : ℕ)
-    → four.is_fragment ≡ is → six.is_fragment ≡ false → (is_four ≡ true → may ≡ true → number ≡ 51) → IsChain (not is_four) may number extensions protocol
+    → four.is_fragment ≡ is → six.is_fragment ≡ false → (is_four ≡ true → may ≡ true → number ≡ 51)
+    → IsChain (not is_four) may number extensions protocol
     → ((if is_four then four else six).is_fragment || is_fragment_by extensions) ≡ (if is_four then is else is_fragment_by extensions)
 first_fragment true four six may extensions is protocol number same same_too known chain =
-    ap (λ b. four.is_fragment || b) (no_fragment_over_ipv4 may number extensions protocol (known refl) chain) ∙ or-false four.is_fragment ∙ same
-first_fragment false four six may extensions is protocol number same same_too known chain = ap (λ b. b || is_fragment_by extensions) same_too
+    ap (λ b. four.is_fragment || b) (no_fragment_over_ipv4 may number extensions protocol (known refl) chain) ∙ or-false four.is_fragment
+    ∙ same
+first_fragment false four six may extensions is protocol number same same_too known chain =
+    ap (λ b. b || is_fragment_by extensions) same_too
 
 -- an authentication header is not the fragment header of a later fragment
 not_later : (header : ExtensionHeader) → header.number ≡ 51 → is_later_fragment header.number header.bytes ≡ false
@@ -289,10 +306,13 @@ none_later_over_ipv4 may number (header ∷ (next ∷ headers)) protocol is chai
 first_later : (is_four : Bool) (four six : Headers) (may : Bool) (extensions : List ExtensionHeader) (is : Bool) (protocol number : ℕ)
     → four.is_later_fragment ≡ is → six.is_later_fragment ≡ false → (is_four ≡ true → may ≡ true → number ≡ 51)
     → IsChain (not is_four) may number extensions protocol
-    → ((if is_four then four else six).is_later_fragment || is_later_fragment_by extensions) ≡ (if is_four then is else is_later_fragment_by extensions)
+    → ((if is_four then four else six).is_later_fragment || is_later_fragment_by extensions)
+    ≡ (if is_four then is else is_later_fragment_by extensions)
 first_later true four six may extensions is protocol number same same_too known chain =
-    ap (λ b. four.is_later_fragment || b) (none_later_over_ipv4 may number extensions protocol (known refl) chain) ∙ or-false four.is_later_fragment ∙ same
-first_later false four six may extensions is protocol number same same_too known chain = ap (λ b. b || is_later_fragment_by extensions) same_too
+    ap (λ b. four.is_later_fragment || b) (none_later_over_ipv4 may number extensions protocol (known refl) chain)
+    ∙ or-false four.is_later_fragment ∙ same
+first_later false four six may extensions is protocol number same same_too known chain =
+    ap (λ b. b || is_later_fragment_by extensions) same_too
 
 -- over IPv4 only an authentication header may come next
 only_authentication : (is_four : Bool) (number number_too : ℕ) (whole : Bool) → is_four ≡ true
@@ -314,20 +334,25 @@ after_headers packet transport carries =
     let protocol : last.protocol.0 ≡ transport.protocol.0 = ap (λ p. p.0) (sym carries.protocol) in
     let chain : IsChain (not is_four) (may_be_extended packet) (first_number packet) found.extensions transport.protocol.0 =
     subst (IsChain (not is_four) (may_be_extended packet) (first_number packet) found.extensions) protocol
-    (first_chain is_four four six (slice_index (ipv4_header packet) 9) (next_header packet) (has_authentication (ipv4_header packet)) found.extensions last.protocol.0
+    (first_chain is_four four six (slice_index (ipv4_header packet) 9) (next_header packet)
+    (has_authentication (ipv4_header packet)) found.extensions last.protocol.0
     refl refl refl refl refl refl found.chain) in
-    let small : first.len ≤ counted_len missing packet = omega (arith, found.len, carries.within, length-take (counted_len missing packet) packet) in
+    let small : first.len ≤ counted_len missing packet =
+    omega (arith, found.len, carries.within, length-take (counted_len missing packet) packet) in
     let there : first.len ≤ length bytes = omega (arith, found.len, carries.within) in
     let front : ip_header packet ≡ take first.len bytes =
-    first_front is_four packet (ipv4_header_len packet) four six refl refl ∙ sym (take-take first.len (counted_len missing packet) packet small) in
+    first_front is_four packet (ipv4_header_len packet) four six refl refl
+    ∙ sym (take-take first.len (counted_len missing packet) packet small) in
     let whole : packet ≡ ip_header packet ++ (bytes_of found.extensions ++ (transport.payload.now ++ padding missing packet)) =
     sym (take-append-drop (counted_len missing packet) packet)
     ∙ ap (λ bytes. bytes ++ padding missing packet) (sym (take-append-drop first.len bytes))
     ∙ append_assoc (take first.len bytes) (drop first.len bytes) (padding missing packet)
     ∙ ap (λ front. front ++ (drop first.len bytes ++ padding missing packet)) (sym front)
-    ∙ ap (λ after. ip_header packet ++ (after ++ padding missing packet)) (found.whole ∙ ap (λ payload. bytes_of found.extensions ++ payload) (sym carries.payload))
+    ∙ ap (λ after. ip_header packet ++ (after ++ padding missing packet))
+    (found.whole ∙ ap (λ payload. bytes_of found.extensions ++ payload) (sym carries.payload))
     ∙ ap (λ after. ip_header packet ++ after) (append_assoc (bytes_of found.extensions) transport.payload.now (padding missing packet)) in
-    let reads : Reads missing packet found.extensions transport.protocol.0 transport.payload.now = record { whole = whole; chain = chain } in
+    let reads : Reads missing packet found.extensions transport.protocol.0 transport.payload.now =
+    record { whole = whole; chain = chain } in
     let front_len : length (ip_header packet) ≡ first.len =
     ap length front ∙ omega (arith, there, length-take first.len bytes) in
     record {
@@ -337,13 +362,18 @@ after_headers packet transport carries =
       options = λ header. are_ipv6_options (drop 2 header);
       addresses = carries.addresses ∙ found.addresses ∙ first_addresses is_four four six found.extensions _ _ _ _ refl refl;
       is_fragment = carries.is_fragment ∙ found.is_fragment
-          ∙ first_fragment is_four four six (may_be_extended packet) found.extensions (ipv4_is_fragment (ipv4_header packet)) transport.protocol.0 (first_number packet) refl refl
-          (only_authentication is_four (slice_index (ipv4_header packet) 9) (next_header packet) (ipv4_fragment_offset (ipv4_header packet) == 0)) chain;
+          ∙ first_fragment is_four four six (may_be_extended packet) found.extensions
+          (ipv4_is_fragment (ipv4_header packet)) transport.protocol.0 (first_number packet) refl refl
+          (only_authentication is_four (slice_index (ipv4_header packet) 9) (next_header packet)
+          (ipv4_fragment_offset (ipv4_header packet) == 0)) chain;
       is_later_fragment = carries.is_later_fragment ∙ found.is_later_fragment
-          ∙ first_later is_four four six (may_be_extended packet) found.extensions (not (ipv4_fragment_offset (ipv4_header packet) == 0)) transport.protocol.0
+          ∙ first_later is_four four six (may_be_extended packet) found.extensions
+          (not (ipv4_fragment_offset (ipv4_header packet) == 0)) transport.protocol.0
           (first_number packet) refl refl
-          (only_authentication is_four (slice_index (ipv4_header packet) 9) (next_header packet) (ipv4_fragment_offset (ipv4_header packet) == 0)) chain;
-      alone = λ others other left. one_reading missing packet found.extensions others transport.protocol.0 other transport.payload.now left reads;
+          (only_authentication is_four (slice_index (ipv4_header packet) 9) (next_header packet)
+          (ipv4_fragment_offset (ipv4_header packet) == 0)) chain;
+      alone = λ others other left. one_reading missing packet found.extensions others transport.protocol.0 other transport.payload.now left
+          reads;
     }
 
 -- ---- an authentication header over IPv4

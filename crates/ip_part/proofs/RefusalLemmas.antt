@@ -30,10 +30,12 @@ same_error a b is = cc is
 
 -- the refusals by the rules of RFC 2675
 jumbogram_by : (unexpected fragments : Bool) (headers : Headers) (rest : List ℕ) (error : IpError)
-    → (not (headers.payload_len == 0) && (is_first_options headers && is_some (jumbo_payload_len (extension_header headers rest)))) ≡ unexpected
+    → (not (headers.payload_len == 0) && (is_first_options headers && is_some (jumbo_payload_len (extension_header headers rest))))
+    ≡ unexpected
     → (headers.is_jumbogram && headers.protocol.0 == 44) ≡ fragments
     → 8 ≤ length rest → extension_len headers.protocol.0 rest ≤ length rest → is_extension headers.protocol.0 ≡ true
-    → first_of (refused_if unexpected (JumboPayloadUnexpected headers.payload_len) ∷ refused_if fragments (JumboPayloadFragment headers.len) ∷ []) ≡ Some error
+    → first_of (refused_if unexpected (JumboPayloadUnexpected headers.payload_len) ∷ refused_if fragments (JumboPayloadFragment headers.len)
+    ∷ []) ≡ Some error
     → RefusesNext headers.payload_len headers.is_jumbogram headers.len headers.protocol.0 rest error
 jumbogram_by true fragments headers rest error is is_too long there known refuses =
     let parts = and_parts (not (headers.payload_len == 0)) _ is in
@@ -59,7 +61,8 @@ after_none None = refl
 after_none (Some error) = refl
 
 refused_by : (short cut : Bool) (headers : Headers) (rest : List ℕ) (error : IpError)
-    → nat_lt (length rest) 8 ≡ short → nat_lt (length rest) (extension_len headers.protocol.0 rest) ≡ cut → is_extension headers.protocol.0 ≡ true
+    → nat_lt (length rest) 8 ≡ short → nat_lt (length rest) (extension_len headers.protocol.0 rest) ≡ cut
+    → is_extension headers.protocol.0 ≡ true
     → first_of (
     refused_if short (ExtensionHeaderCutOff headers.protocol headers.len 8 (length rest))
     ∷ refused_if cut (ExtensionHeaderCutOff headers.protocol headers.len (extension_len headers.protocol.0 rest) (length rest))
@@ -75,7 +78,8 @@ refused_by false true headers rest error is is_too known refuses =
     (same_error (ExtensionHeaderCutOff headers.protocol headers.len (extension_len headers.protocol.0 rest) (length rest)) error refuses)
     (refl, refl, refl, inr (ltb-false (length rest) 8 is, is_below (length rest) (extension_len headers.protocol.0 rest) is_too, refl))
 refused_by false false headers rest error is is_too known refuses =
-    jumbogram_by _ _ headers rest error refl refl (ltb-false (length rest) 8 is) (ltb-false (length rest) (extension_len headers.protocol.0 rest) is_too) known
+    jumbogram_by _ _ headers rest error refl refl (ltb-false (length rest) 8 is)
+    (ltb-false (length rest) (extension_len headers.protocol.0 rest) is_too) known
     (sym (after_none (jumbogram_refusal headers (extension_header headers rest))) ∙ refuses)
 
 -- ---- the extension headers before it
@@ -124,7 +128,8 @@ neither true fragments a b none = absurd (cc none)
 neither false true a b none = absurd (cc none)
 neither false false a b none = (refl, refl)
 
-last_rule : (short cut : Bool) (a b : IpError) (other : Option IpError) → first_of (refused_if short a ∷ refused_if cut b ∷ other ∷ []) ≡ None → other ≡ None
+last_rule : (short cut : Bool) (a b : IpError) (other : Option IpError)
+    → first_of (refused_if short a ∷ refused_if cut b ∷ other ∷ []) ≡ None → other ≡ None
 last_rule true cut a b other none = absurd (cc none)
 last_rule false true a b other none = absurd (cc none)
 last_rule false false a b other none = sym (after_none other) ∙ none
@@ -157,17 +162,21 @@ refused_later headers bytes error is none refused =
       number = refused.number;
       rest = refused.rest;
       whole = sym (take-append-drop count rest)
-          ∙ ap (λ after. header.bytes ++ after) (ap (λ n. drop n rest) (sym len) ∙ drop-drop (length header.bytes) headers.len bytes ∙ refused.whole)
+          ∙ ap (λ after. header.bytes ++ after) (ap (λ n. drop n rest) (sym len) ∙ drop-drop (length header.bytes) headers.len bytes
+          ∙ refused.whole)
           ∙ sym (append_assoc header.bytes (bytes_of refused.extensions) refused.rest);
       chain = (
         known.0,
         refl,
         whole,
-        subst (λ six. LeadsTo six (is_ipv6 headers.addresses && not (is_later_fragment header.number header.bytes)) (next_number header.bytes) refused.extensions refused.number)
+        subst (λ six. LeadsTo six (is_ipv6 headers.addresses && not (is_later_fragment header.number header.bytes))
+            (next_number header.bytes) refused.extensions refused.number)
             (same_version headers.addresses header.number header.bytes) refused.chain,
       );
-      no_jumbo_payload = regrouped (not (headers.payload_len == 0)) (headers.len == 40) (headers.protocol.0 == 0) (is_some (jumbo_payload_len header.bytes)) rules.0;
-      no_fragment = neither_fragment headers.is_jumbogram (headers.protocol.0 == 44) (has_fragment_header refused.extensions) rules.1 refused.no_fragment;
+      no_jumbo_payload = regrouped (not (headers.payload_len == 0)) (headers.len == 40) (headers.protocol.0 == 0)
+          (is_some (jumbo_payload_len header.bytes)) rules.0;
+      no_fragment = neither_fragment headers.is_jumbogram (headers.protocol.0 == 44)
+          (has_fragment_header refused.extensions) rules.1 refused.no_fragment;
       refuses = subst (λ offset. RefusesNext headers.payload_len headers.is_jumbogram offset refused.number refused.rest error)
           (omega (arith, length-append header.bytes (bytes_of refused.extensions))) refused.refuses;
     }
@@ -176,7 +185,9 @@ refused_if_extended : (is : Bool) (refusal : Option IpError) (more : ℕ) (heade
     → is_extended headers ≡ is → extension_refusal headers (drop headers.len bytes) ≡ refusal
     → (headers_to_transport more (headers_after headers (extension_header headers (drop headers.len bytes))) bytes ≡ Err error
     → IsRefused (headers_after headers (extension_header headers (drop headers.len bytes))) bytes error)
-    → (if is then unless_refused refusal (headers_to_transport more (headers_after headers (extension_header headers (drop headers.len bytes))) bytes) else Ok headers) ≡ Err error
+    → (if is then unless_refused refusal
+    (headers_to_transport more (headers_after headers (extension_header headers (drop headers.len bytes))) bytes) else Ok headers)
+    ≡ Err error
     → IsRefused headers bytes error
 refused_if_extended true (Some other) more headers bytes error is refuses others read =
     refused_here headers bytes error is (refuses ∙ cc read)
@@ -214,7 +225,8 @@ not_zero n some = grind (arith, nat_tests)
 
 -- an IPv4 packet has no payload length, and an IPv6 header has 40 bytes
 payload_by : (is_four : Bool) (four six : Headers) (extensions : List ExtensionHeader) → four.payload_len ≡ 0 → six.len ≡ 40
-    → (not ((if is_four then four else six).payload_len == 0) && ((if is_four then four else six).len == 40 && begins_with_jumbo_payload extensions)) ≡ false
+    → (not ((if is_four then four else six).payload_len == 0)
+    && ((if is_four then four else six).len == 40 && begins_with_jumbo_payload extensions)) ≡ false
     → (if is_four then four else six).payload_len ≢ 0 → begins_with_jumbo_payload extensions ≡ false
 payload_by true four six extensions none len keeps some = absurd (some none)
 payload_by false four six extensions none len keeps some =
@@ -236,7 +248,8 @@ refused_after missing packet error there read =
     let refused = refused_from (suc (length bytes)) first bytes error read in
     let small : first.len ≤ counted_len missing packet = omega (arith, there, length-take (counted_len missing packet) packet) in
     let front : ip_header packet ≡ take first.len bytes =
-    first_front is_four packet (ipv4_header_len packet) four six refl refl ∙ sym (take-take first.len (counted_len missing packet) packet small) in
+    first_front is_four packet (ipv4_header_len packet) four six refl refl
+    ∙ sym (take-take first.len (counted_len missing packet) packet small) in
     let front_len : length (ip_header packet) ≡ first.len = ap length front ∙ omega (arith, there, length-take first.len bytes) in
     record {
       extensions = refused.extensions;
@@ -248,10 +261,12 @@ refused_after missing packet error there read =
           ∙ ap (λ front. front ++ (drop first.len bytes ++ padding missing packet)) (sym front)
           ∙ ap (λ after. ip_header packet ++ (after ++ padding missing packet)) refused.whole
           ∙ ap (λ after. ip_header packet ++ after) (append_assoc (bytes_of refused.extensions) refused.rest (padding missing packet));
-      chain = first_leads is_four four six (slice_index (ipv4_header packet) 9) (next_header packet) (has_authentication (ipv4_header packet)) refused.extensions refused.number
+      chain = first_leads is_four four six (slice_index (ipv4_header packet) 9) (next_header packet)
+          (has_authentication (ipv4_header packet)) refused.extensions refused.number
           refl refl refl refl refl refl refused.chain;
       no_jumbo_payload = payload_by is_four four six refused.extensions refl refl refused.no_jumbo_payload;
       no_fragment = no_fragment_if first.is_jumbogram (has_fragment_header refused.extensions) refused.no_fragment;
-      refuses = subst (λ len. RefusesNext first.payload_len first.is_jumbogram (len + length (bytes_of refused.extensions)) refused.number refused.rest error)
+      refuses = subst (λ len. RefusesNext first.payload_len first.is_jumbogram
+          (len + length (bytes_of refused.extensions)) refused.number refused.rest error)
           (sym front_len) refused.refuses;
     }

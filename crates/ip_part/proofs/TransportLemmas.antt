@@ -14,7 +14,8 @@ use Rattle.ip_part.specs.declared.ip_error.IpError.{IpError}
 use Rattle.ip_part.specs.declared.transport.TransportInIp.{TransportInIp}
 
 -- reading the first headers in the counted bytes is reading the packet
-pub read_of_packet : (missing : Bool) (packet bytes : List ℕ) (first : Headers) (result : Result Headers IpError) → first ≡ first_headers packet
+pub read_of_packet : (missing : Bool) (packet bytes : List ℕ) (first : Headers) (result : Result Headers IpError)
+    → first ≡ first_headers packet
     → bytes ≡ counted missing packet → result ≡ headers_to_transport (suc (length bytes)) first bytes → headers_of missing packet ≡ result
 read_of_packet missing packet bytes first result is same read =
     ap (λ bytes. headers_to_transport (suc (length bytes)) (first_headers packet) bytes) (sym same)
@@ -35,7 +36,8 @@ first_is_last packet transport carries last =
     ∙ ended (length (counted transport.is_length_missing packet)) (first_headers packet) (counted transport.is_length_missing packet) last)
 
 -- the counted bytes: `len` bytes, or all bytes if the length is missing
-counted_by : (missing : Bool) (packet : List ℕ) (len : ℕ) → take (if missing then length packet else len) packet ≡ (if missing then packet else take len packet)
+counted_by : (missing : Bool) (packet : List ℕ) (len : ℕ)
+    → take (if missing then length packet else len) packet ≡ (if missing then packet else take len packet)
 counted_by true packet len = take_all (length packet) packet (omega arith)
 counted_by false packet len = refl
 
@@ -49,9 +51,11 @@ over_ipv4 packet transport is carries =
     let first : first_headers packet ≡ four = ap (λ v. if v == 4 then four else other) is in
     let bytes : List ℕ = counted missing packet in
     let len : counted_len missing packet ≡ (if missing then length packet else total_len packet) =
-    ap (λ v. if missing then length packet else if v == 4 then total_len packet else 40 + unwrap_or (jumbo_len packet) (payload_len packet)) is in
+    ap (λ v. if missing then length packet else if v == 4 then total_len packet else 40 + unwrap_or (jumbo_len packet) (payload_len packet))
+    is in
     let after : drop (ipv4_header_len packet) bytes ≡ after_ipv4_header missing packet =
-    ap (λ len. drop (ipv4_header_len packet) (take len packet)) len ∙ ap (drop (ipv4_header_len packet)) (counted_by missing packet (total_len packet)) in
+    ap (λ len. drop (ipv4_header_len packet) (take len packet)) len
+    ∙ ap (drop (ipv4_header_len packet)) (counted_by missing packet (total_len packet)) in
     let found = found_from (suc (length bytes)) four carries.headers bytes carries.ended
     (ap (λ first. headers_to_transport (suc (length bytes)) first bytes) (sym first) ∙ carries.read) in
     let both = after_ipv4 (has_authentication header) (slice_index header 9) found.extensions carries.headers.protocol.0
@@ -66,12 +70,14 @@ over_ipv4 packet transport is carries =
       is_fragment = carries.is_fragment ∙ found.is_fragment
           ∙ ap (λ b. ipv4_is_fragment header || b)
           (no_fragment_over_ipv4 (has_authentication header) (slice_index header 9) found.extensions carries.headers.protocol.0
-          (λ may. number_is (slice_index header 9) (and_parts (slice_index header 9 == 51) (ipv4_fragment_offset header == 0) may).0) found.chain)
+          (λ may. number_is (slice_index header 9) (and_parts (slice_index header 9 == 51) (ipv4_fragment_offset header == 0) may).0)
+          found.chain)
           ∙ or-false (ipv4_is_fragment header);
       is_later_fragment = carries.is_later_fragment ∙ found.is_later_fragment
           ∙ ap (λ b. not (ipv4_fragment_offset header == 0) || b)
           (none_later_over_ipv4 (has_authentication header) (slice_index header 9) found.extensions carries.headers.protocol.0
-          (λ may. number_is (slice_index header 9) (and_parts (slice_index header 9 == 51) (ipv4_fragment_offset header == 0) may).0) found.chain)
+          (λ may. number_is (slice_index header 9) (and_parts (slice_index header 9 == 51) (ipv4_fragment_offset header == 0) may).0)
+          found.chain)
           ∙ or-false (not (ipv4_fragment_offset header == 0));
       payload = both.1;
       header_len = carries.header_len ∙ ap (λ headers. headers.len) first;

@@ -201,33 +201,40 @@ over_authenticated_ipv4 protocol len is_fragment is_later_fragment = record {
   is_jumbogram = false;
 }
 
-authentication_over_ipv4 : headers_of false (authenticated 46 0 0 (six_words_before 17 (7 ∷ 8 ∷ []))) ≡ Ok (over_authenticated_ipv4 17 44 false false)
+authentication_over_ipv4 : headers_of false (authenticated 46 0 0 (six_words_before 17 (7 ∷ 8 ∷ [])))
+    ≡ Ok (over_authenticated_ipv4 17 44 false false)
 unfolding authenticated six_words_before over_authenticated_ipv4 headers_to_transport options_within
 authentication_over_ipv4 = refl
 
 -- a second authentication header, or an extension header of IPv6, is the protocol
-second_authentication : headers_of false (authenticated 68 0 0 (six_words_before 51 (six_words_before 17 []))) ≡ Ok (over_authenticated_ipv4 51 44 false false)
+second_authentication : headers_of false (authenticated 68 0 0 (six_words_before 51 (six_words_before 17 [])))
+    ≡ Ok (over_authenticated_ipv4 51 44 false false)
 unfolding authenticated six_words_before over_authenticated_ipv4 headers_to_transport options_within
 second_authentication = refl
 
-options_after_authentication : headers_of false (authenticated 52 0 0 (six_words_before 60 (17 ∷ 0 ∷ replicate 6 0))) ≡ Ok (over_authenticated_ipv4 60 44 false false)
+options_after_authentication : headers_of false (authenticated 52 0 0 (six_words_before 60 (17 ∷ 0 ∷ replicate 6 0)))
+    ≡ Ok (over_authenticated_ipv4 60 44 false false)
 unfolding authenticated six_words_before over_authenticated_ipv4 headers_to_transport options_within
 options_after_authentication = refl
 
 -- a first fragment contains an authentication header, and a later fragment doesn't
-first_fragment_has_authentication : headers_of false (authenticated 46 0x20 0 (six_words_before 17 (7 ∷ 8 ∷ []))) ≡ Ok (over_authenticated_ipv4 17 44 true false)
+first_fragment_has_authentication : headers_of false (authenticated 46 0x20 0 (six_words_before 17 (7 ∷ 8 ∷ [])))
+    ≡ Ok (over_authenticated_ipv4 17 44 true false)
 unfolding authenticated six_words_before over_authenticated_ipv4 headers_to_transport options_within
 first_fragment_has_authentication = refl
 
-later_fragment_has_no_authentication : headers_of false (authenticated 46 0 3 (six_words_before 17 (7 ∷ 8 ∷ []))) ≡ Ok (over_authenticated_ipv4 51 20 true true)
+later_fragment_has_no_authentication : headers_of false (authenticated 46 0 3 (six_words_before 17 (7 ∷ 8 ∷ [])))
+    ≡ Ok (over_authenticated_ipv4 51 20 true true)
 unfolding authenticated six_words_before over_authenticated_ipv4 headers_to_transport options_within
 later_fragment_has_no_authentication = refl
 
-authentication_cut_off : refusal (authenticated 43 0 0 (17 ∷ 4 ∷ replicate 21 5)) ≡ Some (ExtensionHeaderCutOff (record { 0 = 51 }) 20 24 23)
+authentication_cut_off : refusal (authenticated 43 0 0 (17 ∷ 4 ∷ replicate 21 5))
+    ≡ Some (ExtensionHeaderCutOff (record { 0 = 51 }) 20 24 23)
 unfolding authenticated headers_to_transport options_within
 authentication_cut_off = refl
 
-seven_bytes_of_authentication : lax_refusal (authenticated 44 0 0 (17 ∷ 4 ∷ replicate 5 5)) ≡ Some (ExtensionHeaderCutOff (record { 0 = 51 }) 20 8 7)
+seven_bytes_of_authentication : lax_refusal (authenticated 44 0 0 (17 ∷ 4 ∷ replicate 5 5))
+    ≡ Some (ExtensionHeaderCutOff (record { 0 = 51 }) 20 8 7)
 unfolding authenticated headers_to_transport options_within
 seven_bytes_of_authentication = refl
 
@@ -284,7 +291,8 @@ words_of_four = refl
 words_of_eight : extension_len 43 (17 ∷ 4 ∷ []) ≡ 40
 words_of_eight = refl
 
-authentication_of_24_bytes : headers_of false (ipv6_packet 26 51 (17 ∷ 4 ∷ replicate 22 5 ++ (7 ∷ 8 ∷ []))) ≡ Ok (over_ipv6 26 17 64 false true)
+authentication_of_24_bytes : headers_of false (ipv6_packet 26 51 (17 ∷ 4 ∷ replicate 22 5 ++ (7 ∷ 8 ∷ [])))
+    ≡ Ok (over_ipv6 26 17 64 false true)
 unfolding ipv6_packet over_ipv6 headers_to_transport
 authentication_of_24_bytes = refl
 
@@ -292,7 +300,8 @@ mobility_of_16_bytes : headers_of false (ipv6_packet 16 135 (59 ∷ 1 ∷ replic
 unfolding ipv6_packet over_ipv6 headers_to_transport
 mobility_of_16_bytes = refl
 
-host_identity_of_16_bytes : headers_of false (ipv6_packet 18 139 (17 ∷ 1 ∷ replicate 14 5 ++ (7 ∷ 8 ∷ []))) ≡ Ok (over_ipv6 18 17 56 false true)
+host_identity_of_16_bytes : headers_of false (ipv6_packet 18 139 (17 ∷ 1 ∷ replicate 14 5 ++ (7 ∷ 8 ∷ [])))
+    ≡ Ok (over_ipv6 18 17 56 false true)
 unfolding ipv6_packet over_ipv6 headers_to_transport
 host_identity_of_16_bytes = refl
 
@@ -426,7 +435,8 @@ no_jumbo_option : refusal (options_packet 0 17 (replicate 6 0) (7 ∷ 8 ∷ []))
 unfolding options_packet ipv6_packet headers_to_transport options_within
 no_jumbo_option = refl
 
-lax_no_jumbo_option : headers_of (lacks_len (options_packet 0 17 (replicate 6 0) (7 ∷ 8 ∷ []))) (options_packet 0 17 (replicate 6 0) (7 ∷ 8 ∷ []))
+lax_no_jumbo_option : headers_of (lacks_len (options_packet 0 17 (replicate 6 0) (7 ∷ 8 ∷ [])))
+    (options_packet 0 17 (replicate 6 0) (7 ∷ 8 ∷ []))
     ≡ Ok (over_ipv6 0 17 48 false true)
 unfolding options_packet ipv6_packet over_ipv6 headers_to_transport options_within
 lax_no_jumbo_option = refl
@@ -446,11 +456,17 @@ reads_ipv4 : Reads false (ipv4_packet 21 0 0 (7 ∷ 8 ∷ [])) [] 17 (7 ∷ [])
 unfolding ipv4_packet
 reads_ipv4 = record { whole = refl; chain = (refl, refl) }
 
-reads_authentication : Reads false (ipv6_packet 25 51 (17 ∷ 4 ∷ replicate 22 5 ++ (7 ∷ 8 ∷ []))) (extension 51 (17 ∷ 4 ∷ replicate 22 5) ∷ []) 17 (7 ∷ [])
+reads_authentication : Reads false (ipv6_packet 25 51 (17 ∷ 4 ∷ replicate 22 5 ++ (7 ∷ 8 ∷ [])))
+    (extension 51 (17 ∷ 4 ∷ replicate 22 5) ∷ []) 17 (7 ∷ [])
 unfolding ipv6_packet extension
-reads_authentication = record { whole = refl; chain = (refl, refl, record { known = refl; shortest = omega arith; len = refl }, (refl, refl)) }
+reads_authentication = record {
+  whole =
+      refl;
+  chain = (refl, refl, record { known = refl; shortest = omega arith; len = refl }, (refl, refl));
+}
 
-reads_authentication_over_ipv4 : Reads false (authenticated 45 0 0 (six_words_before 17 (7 ∷ 8 ∷ []))) (extension 51 (six_words_before 17 []) ∷ []) 17 (7 ∷ [])
+reads_authentication_over_ipv4 : Reads false (authenticated 45 0 0 (six_words_before 17 (7 ∷ 8 ∷ [])))
+    (extension 51 (six_words_before 17 []) ∷ []) 17 (7 ∷ [])
 unfolding authenticated six_words_before extension
 reads_authentication_over_ipv4 =
     record { whole = refl; chain = (refl, refl, record { known = refl; shortest = omega arith; len = refl }, (refl, refl)) }
@@ -463,7 +479,11 @@ reads_mobility = record { whole = refl; chain = (refl, refl, record { known = re
 reads_later_fragment : Reads false (ipv6_packet 18 44 (60 ∷ 0 ∷ 0 ∷ 8 ∷ replicate 4 9 ++ (17 ∷ 0 ∷ replicate 8 0)))
     (extension 44 (60 ∷ 0 ∷ 0 ∷ 8 ∷ replicate 4 9) ∷ []) 60 (17 ∷ 0 ∷ replicate 8 0)
 unfolding ipv6_packet extension
-reads_later_fragment = record { whole = refl; chain = (refl, refl, record { known = refl; shortest = omega arith; len = refl }, (refl, refl)) }
+reads_later_fragment = record {
+  whole =
+      refl;
+  chain = (refl, refl, record { known = refl; shortest = omega arith; len = refl }, (refl, refl));
+}
 
 -- ---- refusals after the IP header
 
@@ -482,7 +502,8 @@ refused_second_header = record {
   refuses = (refl, refl, refl, inl (omega arith, refl));
 }
 
-refused_authentication : IsRefusedAfterHeaders false (authenticated 43 0 0 (17 ∷ 4 ∷ replicate 21 5)) (ExtensionHeaderCutOff (record { 0 = 51 }) 20 24 23)
+refused_authentication : IsRefusedAfterHeaders false (authenticated 43 0 0 (17 ∷ 4 ∷ replicate 21 5))
+    (ExtensionHeaderCutOff (record { 0 = 51 }) 20 24 23)
 unfolding authenticated
 refused_authentication = record {
   extensions = [];
@@ -508,7 +529,8 @@ refused_options = record {
   refuses = (refl, omega arith, refl, record { known = refl; shortest = omega arith; len = refl }, refl);
 }
 
-refused_fragment : IsRefusedAfterHeaders false (options_packet 0 44 (jumbo 1 0 0) (17 ∷ 0 ∷ 0 ∷ 1 ∷ replicate 4 9)) (JumboPayloadFragment 48)
+refused_fragment : IsRefusedAfterHeaders false (options_packet 0 44 (jumbo 1 0 0) (17 ∷ 0 ∷ 0 ∷ 1 ∷ replicate 4 9))
+    (JumboPayloadFragment 48)
 unfolding options_packet ipv6_packet jumbo extension options_within
 refused_fragment = record {
   extensions = extension 0 (44 ∷ 0 ∷ jumbo 1 0 0) ∷ [];
@@ -601,7 +623,8 @@ unfolding source_with extension options_within
 after_single_bytes_of_padding = refl
 
 -- the last of two home addresses counts, even if another option follows it
-last_of_two_home_addresses : source_with 60 (17 ∷ 5 ∷ 1 ∷ 2 ∷ 0 ∷ 0 ∷ 0xC9 ∷ 16 ∷ replicate 16 7 ++ (1 ∷ 2 ∷ 0 ∷ 0 ∷ 0xC9 ∷ 16 ∷ replicate 16 8 ++ (1 ∷ 0 ∷ [])))
+last_of_two_home_addresses : source_with 60
+    (17 ∷ 5 ∷ 1 ∷ 2 ∷ 0 ∷ 0 ∷ 0xC9 ∷ 16 ∷ replicate 16 7 ++ (1 ∷ 2 ∷ 0 ∷ 0 ∷ 0xC9 ∷ 16 ∷ replicate 16 8 ++ (1 ∷ 0 ∷ [])))
     ≡ replicate 16 8
 unfolding source_with extension options_within
 last_of_two_home_addresses = refl

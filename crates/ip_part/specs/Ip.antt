@@ -358,7 +358,8 @@ pub record IsOverIpv4 (packet : List ℕ) (transport : TransportInIp) : Type 0 w
 
 -- this is the transport of an IPv6 packet without extension headers
 pub record IsOverIpv6 (packet : List ℕ) (transport : TransportInIp) : Type 0 where
-  pub addresses : by_value transport.addresses ≡ Ipv6 (slice_range (ipv6_header packet) 8 24) (Some (slice_range (ipv6_header packet) 24 40))
+  pub addresses : by_value transport.addresses
+      ≡ Ipv6 (slice_range (ipv6_header packet) 8 24) (Some (slice_range (ipv6_header packet) 24 40))
   pub protocol : transport.protocol.0 ≡ next_header packet
   pub is_fragment : transport.is_fragment ≡ false
   pub is_later_fragment : transport.is_later_fragment ≡ false

@@ -23,7 +23,8 @@ one_byte bytes from next byte rest after enough is following =
     rw (is, following, one) (sym (drop-cons bytes from 0 there))
 
 -- writing the number of two bytes gives these two bytes
-pub to_be_bytes-be_number_2 : (bytes : List ℕ) (from next number : ℕ) (rest : List ℕ) → IsBytes bytes → next ≡ from + 2 → next ≤ length bytes
+pub to_be_bytes-be_number_2 : (bytes : List ℕ) (from next number : ℕ) (rest : List ℕ) → IsBytes bytes → next ≡ from + 2
+    → next ≤ length bytes
     → number ≡ be_number bytes from 2 → rest ≡ drop next bytes → to_be_bytes w16 number ++ rest ≡ drop from bytes
 to_be_bytes-be_number_2 bytes from next number rest fits after enough is following =
     let start : get_or bytes (from + 0) 0 ≡ get_or bytes from 0 = ap (λ place. get_or bytes place 0) (add-zero from) in
@@ -33,13 +34,17 @@ to_be_bytes-be_number_2 bytes from next number rest fits after enough is followi
     (one_byte bytes (from + 1) next _ _ (omega arith) enough low following)
 
 -- writing the number of four bytes gives these four bytes
-pub to_be_bytes-be_number_4 : (bytes : List ℕ) (from next number : ℕ) (rest : List ℕ) → IsBytes bytes → next ≡ from + 4 → next ≤ length bytes
+pub to_be_bytes-be_number_4 : (bytes : List ℕ) (from next number : ℕ) (rest : List ℕ) → IsBytes bytes → next ≡ from + 4
+    → next ≤ length bytes
     → number ≡ be_number bytes from 4 → rest ≡ drop next bytes → to_be_bytes w32 number ++ rest ≡ drop from bytes
 to_be_bytes-be_number_4 bytes from next number rest fits after enough is following =
     let start : get_or bytes (from + 0) 0 ≡ get_or bytes from 0 = ap (λ place. get_or bytes place 0) (add-zero from) in
-    let first : number / 16777216 % 256 ≡ get_or bytes from 0 = omega (arith, fits from, fits (from + 1), fits (from + 2), fits (from + 3)) in
-    let second : number / 65536 % 256 ≡ get_or bytes (from + 1) 0 = omega (arith, fits from, fits (from + 1), fits (from + 2), fits (from + 3)) in
-    let third : number / 256 % 256 ≡ get_or bytes (from + 2) 0 = omega (arith, fits from, fits (from + 1), fits (from + 2), fits (from + 3)) in
+    let first : number / 16777216 % 256 ≡ get_or bytes from 0 =
+    omega (arith, fits from, fits (from + 1), fits (from + 2), fits (from + 3)) in
+    let second : number / 65536 % 256 ≡ get_or bytes (from + 1) 0 =
+    omega (arith, fits from, fits (from + 1), fits (from + 2), fits (from + 3)) in
+    let third : number / 256 % 256 ≡ get_or bytes (from + 2) 0 =
+    omega (arith, fits from, fits (from + 1), fits (from + 2), fits (from + 3)) in
     let fourth : number % 256 ≡ get_or bytes (from + 3) 0 = omega (arith, fits from, fits (from + 1), fits (from + 2), fits (from + 3)) in
     one_byte bytes from (from + 1) _ _ refl (omega arith) first
     (one_byte bytes (from + 1) (from + 2) _ _ (omega arith) (omega arith) second

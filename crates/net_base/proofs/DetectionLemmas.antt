@@ -52,7 +52,8 @@ detects_other_word bytes Passes fits law other place other_fits same_len word =
       λ passes.
           two_zeros (be_number bytes place 2) (be_number other place 2) (total bytes) (total other)
           (word_small bytes place fits) (word_small other place other_fits) word.differ changed ((law other same_len).0 passes),
-      λ zeros. (law other same_len).1 (two_zeros_same (be_number bytes place 2) (be_number other place 2) (total bytes) (total other) changed zeros),
+      λ zeros. (law other same_len).1 (two_zeros_same (be_number bytes place 2) (be_number other place 2) (total bytes)
+          (total other) changed zeros),
     )
 
 -- a change of less than 65535 changes the remainder

@@ -44,7 +44,8 @@ detects_other_byte bytes fits valid other place other_fits same_len byte passes 
 
 misses_exchanged_words : (bytes : List ℕ) → Verifies [] bytes → MissesExchangedWords (Verifies []) bytes
 misses_exchanged_words bytes valid other first second same_len words =
-    ap (λ n. folded (0 + n)) (total_exchanged bytes other first second same_len words.first_aligned words.second_aligned words.first_within words.second_within
+    ap (λ n. folded (0 + n)) (total_exchanged bytes other first second same_len words.first_aligned words.second_aligned words.first_within
+    words.second_within
     words.first_is_second words.second_is_first words.elsewhere)
     ∙ valid
 

@@ -58,13 +58,16 @@ take-with_checksum place bytes checksum len within enough =
     let whole : length front ≡ len = grind (arith, length-take) in
     ap (λ b. take len (with_checksum place b checksum)) (sym (take-append-drop len bytes))
     ∙ ap (take len) (with_checksum-append place front (drop len bytes) checksum (omega (arith, whole, within)))
-    ∙ take_at (with_checksum place front checksum) (drop len bytes) len (length-with_checksum place front checksum (omega (arith, whole, within)) ∙ whole)
+    ∙ take_at (with_checksum place front checksum) (drop len bytes) len
+    (length-with_checksum place front checksum (omega (arith, whole, within)) ∙ whole)
 
-byte_before : (place : ℕ) (front back : List ℕ) (at : ℕ) → at < place → place ≤ length front → slice_index (take place front ++ back) at ≡ slice_index front at
+byte_before : (place : ℕ) (front back : List ℕ) (at : ℕ) → at < place → place ≤ length front
+    → slice_index (take place front ++ back) at ≡ slice_index front at
 byte_before zero front back at before within = absurd (omega (arith, before))
 byte_before (suc place) [] back at before within = absurd (omega (arith, within))
 byte_before (suc place) (byte ∷ front) back zero before within = refl
-byte_before (suc place) (byte ∷ front) back (suc at) before within = byte_before place front back at (omega (arith, before)) (omega (arith, within))
+byte_before (suc place) (byte ∷ front) back (suc at) before within =
+    byte_before place front back at (omega (arith, before)) (omega (arith, within))
 
 -- a byte before the checksum does not change
 pub byte-with_checksum : (place : ℕ) (bytes : List ℕ) (checksum at : ℕ) → at < place → place ≤ length bytes

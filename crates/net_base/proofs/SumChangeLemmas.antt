@@ -6,7 +6,8 @@ use Rattle.net_base.specs.Bytes.{be_number}
 use Rattle.word_sum.specs.Checksum.{total}
 
 -- bytes that are equal at each place have the same total
-pub total_same : (bytes other : List ℕ) → length other ≡ length bytes → ((at : ℕ) → slice_index other at ≡ slice_index bytes at) → total other ≡ total bytes
+pub total_same : (bytes other : List ℕ) → length other ≡ length bytes → ((at : ℕ) → slice_index other at ≡ slice_index bytes at)
+    → total other ≡ total bytes
 total_same [] [] same_len same = refl
 total_same (a ∷ []) (b ∷ []) same_len same = omega (arith, same 0)
 total_same (a ∷ (b ∷ bytes)) (c ∷ (d ∷ other)) same_len same =
@@ -92,7 +93,8 @@ total_words_changed (a ∷ (b ∷ bytes)) (c ∷ (d ∷ other)) zero (suc (suc s
       number_later a b bytes second,
       number_later c d other second,
       total_word_changed bytes other second (omega arith) (omega arith) (omega arith)
-          (λ at not_first not_second. same (suc (suc at)) (λ e. omega (arith, e)) (λ e. omega (arith, e)) (λ e. not_first (omega (arith, e))) (λ e. not_second (omega (arith, e)))),
+          (λ at not_first not_second. same (suc (suc at)) (λ e. omega (arith, e)) (λ e. omega (arith, e))
+          (λ e. not_first (omega (arith, e))) (λ e. not_second (omega (arith, e)))),
     )
 total_words_changed (a ∷ (b ∷ bytes)) (c ∷ (d ∷ other)) (suc (suc first)) zero apart same_len aligned aligned_too within within_too same =
     omega (
@@ -100,15 +102,28 @@ total_words_changed (a ∷ (b ∷ bytes)) (c ∷ (d ∷ other)) (suc (suc first)
       number_later a b bytes first,
       number_later c d other first,
       total_word_changed bytes other first (omega arith) (omega arith) (omega arith)
-          (λ at not_first not_second. same (suc (suc at)) (λ e. not_first (omega (arith, e))) (λ e. not_second (omega (arith, e))) (λ e. omega (arith, e)) (λ e. omega (arith, e))),
+          (λ at not_first not_second. same (suc (suc at)) (λ e. not_first (omega (arith, e))) (λ e. not_second (omega (arith, e)))
+          (λ e. omega (arith, e)) (λ e. omega (arith, e))),
     )
-total_words_changed (a ∷ (b ∷ bytes)) (c ∷ (d ∷ other)) (suc (suc first)) (suc (suc second)) apart same_len aligned aligned_too within within_too same =
+total_words_changed (a ∷ (b ∷ bytes)) (c ∷ (d ∷ other)) (suc (suc first))
+    (suc (suc second)) apart same_len aligned aligned_too within within_too same =
     let high : c ≡ a = same 0 (λ e. omega (arith, e)) (λ e. omega (arith, e)) (λ e. omega (arith, e)) (λ e. omega (arith, e)) in
     let low : d ≡ b = same 1 (λ e. omega (arith, e)) (λ e. omega (arith, e)) (λ e. omega (arith, e)) (λ e. omega (arith, e)) in
-    let later = total_words_changed bytes other first second (λ e. apart (omega (arith, e))) (omega arith) (omega arith) (omega arith) (omega arith) (omega arith)
+    let later = total_words_changed bytes other first second (λ e. apart (omega (arith, e))) (omega arith) (omega arith) (omega arith)
+    (omega arith) (omega arith)
     (λ at not_first not_next not_second not_last.
-    same (suc (suc at)) (λ e. not_first (omega (arith, e))) (λ e. not_next (omega (arith, e))) (λ e. not_second (omega (arith, e))) (λ e. not_last (omega (arith, e)))) in
-    omega (arith, high, low, later, number_later a b bytes first, number_later c d other first, number_later a b bytes second, number_later c d other second)
+    same (suc (suc at)) (λ e. not_first (omega (arith, e))) (λ e. not_next (omega (arith, e))) (λ e. not_second (omega (arith, e)))
+    (λ e. not_last (omega (arith, e)))) in
+    omega (
+      arith,
+      high,
+      low,
+      later,
+      number_later a b bytes first,
+      number_later c d other first,
+      number_later a b bytes second,
+      number_later c d other second,
+    )
 total_words_changed [] other first second apart same_len aligned aligned_too within within_too same = absurd (omega arith)
 total_words_changed (a ∷ []) other first second apart same_len aligned aligned_too within within_too same = absurd (omega arith)
 total_words_changed (a ∷ (b ∷ bytes)) [] first second apart same_len aligned aligned_too within within_too same = absurd (omega arith)
@@ -127,7 +142,8 @@ exchanged_apart bytes other first second true is_one same_len aligned aligned_to
     (λ at not_first not_next. same at not_first not_next (λ e. not_first (omega (arith, e))) (λ e. not_next (omega (arith, e)))) in
     omega (arith, word, changed)
 exchanged_apart bytes other first second false is_one same_len aligned aligned_too within within_too exchanged exchanged_too same =
-    let changed = total_words_changed bytes other first second (grind (arith, nat_tests)) same_len aligned aligned_too within within_too same in
+    let changed = total_words_changed bytes other first second
+    (grind (arith, nat_tests)) same_len aligned aligned_too within within_too same in
     omega (arith, exchanged, exchanged_too, changed)
 
 pub total_exchanged : (bytes other : List ℕ) (first second : ℕ) → length other ≡ length bytes

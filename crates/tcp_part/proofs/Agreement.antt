@@ -25,7 +25,8 @@ take-masked (mask ∷ masks) (byte ∷ bytes) (suc count) fits all =
     rw (kept, take-masked masks bytes count (λ p. fits (suc p)) others) refl
 
 -- if bytes are cut after an even number of bytes, their total is the sum of the totals of the two parts
-total-cut : (bytes : List ℕ) (count : ℕ) → count % 2 ≡ 0 → count ≤ length bytes → total bytes ≡ total (take count bytes) + total (drop count bytes)
+total-cut : (bytes : List ℕ) (count : ℕ) → count % 2 ≡ 0 → count ≤ length bytes
+    → total bytes ≡ total (take count bytes) + total (drop count bytes)
 total-cut bytes count even within =
     let front : length (take count bytes) % 2 ≡ 0 = grind (arith, length-take) in
     ap total (sym (take-append-drop count bytes)) ∙ total-append (take count bytes) (drop count bytes) front
@@ -92,7 +93,8 @@ wire-canonical bytes fits five whole =
     sym (append-nil (wire (header_of bytes))) ∙ written_back bytes (header_of bytes) [] fits read
 
 -- the checksums of bytes and of canonical bytes agree exactly if the unused bits are zero, for bytes equal to the canonical bytes
-agrees_canonical : (bytes written payload : List ℕ) (pseudo_header_of : ℕ → List ℕ) → IsBytes bytes → 20 ≤ length bytes → written ≡ canonical bytes
+agrees_canonical : (bytes written payload : List ℕ) (pseudo_header_of : ℕ → List ℕ) → IsBytes bytes → 20 ≤ length bytes
+    → written ≡ canonical bytes
     → (checksum_of (checksummed (pseudo_header_of (length bytes + length payload)) bytes payload)
     ≡ checksum_of (checksummed (pseudo_header_of (length written + length payload)) written payload))
     ↔ (bit_and (slice_index bytes 12) 0x0e ≡ 0)
@@ -101,13 +103,15 @@ agrees_canonical bytes written payload pseudo_header_of fits enough is =
     let sum = checksummed (pseudo_header_of (length bytes + length payload)) written payload in
     let headers : total (without_checksum bytes) ≡ total (without_checksum written) + bit_and (slice_index bytes 12) 0x0e * 256 =
     rw is (total-canonical bytes fits enough) in
-    let differ : checksummed (pseudo_header_of (length bytes + length payload)) bytes payload ≡ sum + bit_and (slice_index bytes 12) 0x0e * 256 =
+    let differ : checksummed (pseudo_header_of (length bytes + length payload)) bytes payload ≡ sum + bit_and (slice_index bytes 12) 0x0e
+    * 256 =
     omega arith in
     rw (long, differ) (same_checksum sum (bit_and (slice_index bytes 12) 14) (and_le_r (slice_index bytes 12) 14))
 
 -- the checksum of the bytes of a header and the checksum of the header that is read from them are equal exactly if the unused bits of byte
 -- 12 are zero
-pub agrees : (bytes payload : List ℕ) (pseudo_header_of : ℕ → List ℕ) → IsBytes bytes → 5 ≤ data_offset bytes → length bytes ≡ data_offset bytes * 4
+pub agrees : (bytes payload : List ℕ) (pseudo_header_of : ℕ → List ℕ) → IsBytes bytes → 5 ≤ data_offset bytes
+    → length bytes ≡ data_offset bytes * 4
     → (checksum_of (checksummed (pseudo_header_of (length bytes + length payload)) bytes payload)
     ≡ checksum_of (checksummed (pseudo_header_of (length (wire (header_of bytes)) + length payload)) (wire (header_of bytes)) payload))
     ↔ (bit_and (slice_index bytes 12) 0x0e ≡ 0)

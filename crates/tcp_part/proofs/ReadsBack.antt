@@ -120,7 +120,8 @@ reads_back header payload fits =
     }
 
 -- a header that is read back has fields in the ranges of their types
-pub fits_read : (header : TcpHeader) (payload : List ℕ) → DecodesAs (wire header ++ payload) header payload → length header.options ≤ 40 → FitsHeader header
+pub fits_read : (header : TcpHeader) (payload : List ℕ) → DecodesAs (wire header ++ payload) header payload → length header.options ≤ 40
+    → FitsHeader header
 fits_read header payload decodes at_most =
     let ns_fits = from_bool-lt header.ns in
     let bytes = wire header ++ payload in

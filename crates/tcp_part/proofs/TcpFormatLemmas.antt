@@ -47,7 +47,17 @@ flags_of_byte : (byte : ℕ) → byte < 256 →
     + from_bool (not (bit_and byte 16 == 0)) * 16 + from_bool (not (bit_and byte 32 == 0)) * 32
     + from_bool (not (bit_and byte 64 == 0)) * 64 + from_bool (not (bit_and byte 128 == 0)) * 128 ≡ byte
 flags_of_byte byte small =
-    omega (arith, flag_bit byte 0 (lit≤ tt), flag_bit byte 1 (lit≤ tt), flag_bit byte 2 (lit≤ tt), flag_bit byte 3 (lit≤ tt), flag_bit byte 4 (lit≤ tt), flag_bit byte 5 (lit≤ tt), flag_bit byte 6 (lit≤ tt), flag_bit byte 7 (lit≤ tt))
+    omega (
+      arith,
+      flag_bit byte 0 (lit≤ tt),
+      flag_bit byte 1 (lit≤ tt),
+      flag_bit byte 2 (lit≤ tt),
+      flag_bit byte 3 (lit≤ tt),
+      flag_bit byte 4 (lit≤ tt),
+      flag_bit byte 5 (lit≤ tt),
+      flag_bit byte 6 (lit≤ tt),
+      flag_bit byte 7 (lit≤ tt),
+    )
 
 -- ---- the bits that canonical bytes keep
 
@@ -80,14 +90,16 @@ data_offset-canonical bytes fits = omega (arith, offset_byte-canonical bytes fit
 pub drop-canonical : (bytes : List ℕ) (from : ℕ) → IsBytes bytes → 13 ≤ from → drop from (canonical bytes) ≡ drop from bytes
 drop-canonical bytes from fits after =
     let e : from ≡ 13 + (from - 13) = omega arith in
-    let same : drop 13 (canonical bytes) ≡ drop 13 bytes = drop-masked ((layout_of bytes).masks) bytes 13 (data_offset bytes * 4 - 13) fits refl in
+    let same : drop 13 (canonical bytes) ≡ drop 13 bytes =
+    drop-masked ((layout_of bytes).masks) bytes 13 (data_offset bytes * 4 - 13) fits refl in
     rw e (sym (drop-drop (from - 13) 13 (canonical bytes)) ∙ ap (λ b. drop (from - 13) b) same ∙ drop-drop (from - 13) 13 bytes)
 
 -- numbers that do not include byte 12 are kept
 number-canonical : (bytes : List ℕ) (from count : ℕ) → IsBytes bytes → (from + count ≤ 12) ⊎ (13 ≤ from)
     → be_number (canonical bytes) from count ≡ be_number bytes from count
 number-canonical bytes from count fits beside =
-    be_number-same (canonical bytes) bytes from count (λ place below. slice_index-canonical bytes (from + place) fits (λ e. omega (arith, beside)))
+    be_number-same (canonical bytes) bytes from count
+    (λ place below. slice_index-canonical bytes (from + place) fits (λ e. omega (arith, beside)))
 
 -- the flags of byte 13 are kept
 flag-canonical : (bytes : List ℕ) (bit : ℕ) → IsBytes bytes → flag (canonical bytes) 13 bit ≡ flag bytes 13 bit
@@ -122,7 +134,8 @@ pub length-accepted : (bytes : List ℕ) → refusal bytes ≡ None → (5 ≤ d
 length-accepted bytes accepted = grind (arith, nat_tests)
 
 -- bytes with a whole header are accepted
-pub accepted_whole : (bytes : List ℕ) → 20 ≤ length bytes → 5 ≤ data_offset bytes → data_offset bytes * 4 ≤ length bytes → refusal bytes ≡ None
+pub accepted_whole : (bytes : List ℕ) → 20 ≤ length bytes → 5 ≤ data_offset bytes → data_offset bytes * 4 ≤ length bytes
+    → refusal bytes ≡ None
 accepted_whole bytes enough five whole = grind (arith, nat_tests)
 
 -- ---- the kept bytes of a slice
@@ -140,8 +153,10 @@ header_of-take bytes five =
     let n = data_offset bytes * 4 in
     let at : (place : ℕ) → place < 20 → slice_index (take (data_offset bytes * 4) bytes) place ≡ slice_index bytes place =
     λ place below. get_or-take (data_offset bytes * 4) bytes place 0 (omega arith) in
-    let number : (from count : ℕ) → from + count ≤ 20 → be_number (take (data_offset bytes * 4) bytes) from count ≡ be_number bytes from count =
-    λ from count within. be_number-same (take (data_offset bytes * 4) bytes) bytes from count (λ place below. at (from + place) (omega arith)) in
+    let number : (from count : ℕ) → from + count ≤ 20
+    → be_number (take (data_offset bytes * 4) bytes) from count ≡ be_number bytes from count =
+    λ from count within. be_number-same (take (data_offset bytes * 4) bytes) bytes from count
+    (λ place below. at (from + place) (omega arith)) in
     let a = number 0 2 (omega arith) in
     let b = number 2 2 (omega arith) in
     let c = number 4 4 (omega arith) in
@@ -190,9 +205,11 @@ pub wire-header_of : (bytes rest : List ℕ) → IsBytes bytes → 5 ≤ data_of
     → rest ≡ drop (data_offset bytes * 4) bytes → wire (header_of bytes) ++ rest ≡ bytes
 wire-header_of bytes rest fits five whole clean after =
     let len_options : length (options_of bytes) ≡ data_offset bytes * 4 - 20 = length-slice_range bytes 20 (data_offset bytes * 4) whole in
-    let byte_12 : offset_byte (header_of bytes) ≡ slice_index bytes 12 = omega (arith, len_options, flag_bit (slice_index bytes 12) 0 (lit≤ tt)) in
+    let byte_12 : offset_byte (header_of bytes) ≡ slice_index bytes 12 =
+    omega (arith, len_options, flag_bit (slice_index bytes 12) 0 (lit≤ tt)) in
     let byte_13 : flags_byte (header_of bytes) ≡ slice_index bytes 13 = omega (arith, flags_of_byte (slice_index bytes 13) (fits 13)) in
-    let options_back : options_of bytes ++ rest ≡ drop 20 bytes = rw after (slice_range-drop bytes 20 (data_offset bytes * 4) (omega arith)) in
+    let options_back : options_of bytes ++ rest ≡ drop 20 bytes =
+    rw after (slice_range-drop bytes 20 (data_offset bytes * 4) (omega arith)) in
     to_be_bytes-be_number_2 bytes 0 2 _ _ fits refl (omega arith) refl
     (to_be_bytes-be_number_2 bytes 2 4 _ _ fits refl (omega arith) refl
     (to_be_bytes-be_number_4 bytes 4 8 _ _ fits refl (omega arith) refl

@@ -14,11 +14,13 @@ use Rattle.tcp_part.proofs.TcpOptionsReadingLemmas.{one_reading}
 -- ---- spelled elements are read back
 
 -- an element is still in range after its blocks were moved to the front
-moved_in_range : (more : List (Option (ℕ × ℕ))) → AllByRecursion (λ block. IfSome block IsPair) more → AllByRecursion (λ block. IfSome block IsPair) (present_first more)
+moved_in_range : (more : List (Option (ℕ × ℕ))) → AllByRecursion (λ block. IfSome block IsPair) more
+    → AllByRecursion (λ block. IfSome block IsPair) (present_first more)
 moved_in_range [] fits = tt
 moved_in_range (None ∷ more) fits = absent_in_range (present_first more) (moved_in_range more fits.1)
   where
-    absent_in_range : (blocks : List (Option (ℕ × ℕ))) → AllByRecursion (λ block. IfSome block IsPair) blocks → AllByRecursion (λ block. IfSome block IsPair) (blocks ++ (None ∷ []))
+    absent_in_range : (blocks : List (Option (ℕ × ℕ))) → AllByRecursion (λ block. IfSome block IsPair) blocks
+        → AllByRecursion (λ block. IfSome block IsPair) (blocks ++ (None ∷ []))
     absent_in_range [] fits = (tt, tt)
     absent_in_range (block ∷ blocks) fits = (fits.0, absent_in_range blocks fits.1)
 moved_in_range (Some block ∷ more) fits = (fits.0, moved_in_range more fits.1)
@@ -32,7 +34,8 @@ front_in_range (SelectiveAcknowledgement first more) fits = (fits.0, length-pres
 front_in_range (Timestamp value echo) fits = fits
 
 -- spellings followed by the end of the list are read as their elements
-pub join_read : (elements : List TcpOptionElement) (rest : List ℕ) → AllByRecursion IsInRange elements → Ends rest → Reads (join elements ++ rest) (read_back elements)
+pub join_read : (elements : List TcpOptionElement) (rest : List ℕ) → AllByRecursion IsInRange elements → Ends rest
+    → Reads (join elements ++ rest) (read_back elements)
 join_read [] rest fits end = end
 join_read (element ∷ elements) rest fits end = (
   join elements ++ rest,
@@ -61,22 +64,27 @@ join_first [] options reads = (options, refl, reads)
 join_first (element ∷ elements) options reads =
     let others = join_first elements reads.0 reads.2 in (
       others.0,
-      reads.1.spelled ∙ ap (λ b. b ++ reads.0) (spelling-front element) ∙ ap (λ b. spelling element ++ b) others.1 ∙ sym (append_assoc (spelling element) (join elements) others.0),
+      reads.1.spelled ∙ ap (λ b. b ++ reads.0) (spelling-front element) ∙ ap (λ b. spelling element ++ b) others.1
+          ∙ sym (append_assoc (spelling element) (join elements) others.0),
       others.2,
     )
 
 -- no options represent elements whose spellings are too long
-pub stand_for_room : (elements : List TcpOptionElement) (options : List ℕ) → StandFor options elements → length (join elements) ≤ max_options_len
+pub stand_for_room : (elements : List TcpOptionElement) (options : List ℕ) → StandFor options elements
+    → length (join elements) ≤ max_options_len
 stand_for_room elements options stand =
     let first = join_first elements options stand.reads in
     omega (arith, stand.room, ap length first.1, length-append (join elements) first.0)
 
 -- padded spellings that are not too long represent their elements
-pub pad_stands : (elements : List TcpOptionElement) → AllByRecursion IsInRange elements → length (join elements) ≤ max_options_len → StandFor (pad (join elements)) elements
-pad_stands elements fits room = record { reads = pad_read elements fits; room = pad-room (join elements) room; whole_words = pad-words (join elements) }
+pub pad_stands : (elements : List TcpOptionElement) → AllByRecursion IsInRange elements → length (join elements) ≤ max_options_len
+    → StandFor (pad (join elements)) elements
+pad_stands elements fits room =
+    record { reads = pad_read elements fits; room = pad-room (join elements) room; whole_words = pad-words (join elements) }
 
 -- padded spellings come before all other options for their elements
-pub pad_first : (elements : List TcpOptionElement) (options : List ℕ) → StandFor options elements → (options ≡ pad (join elements)) ⊎ IsBefore (pad (join elements)) options
+pub pad_first : (elements : List TcpOptionElement) (options : List ℕ) → StandFor options elements
+    → (options ≡ pad (join elements)) ⊎ IsBefore (pad (join elements)) options
 pad_first elements options stand =
     let first = join_first elements options stand.reads in
     let words : length (join elements ++ first.0) % 4 ≡ 0 = subst (λ o. length o % 4 ≡ 0) first.1 stand.whole_words in
@@ -86,7 +94,8 @@ pad_first elements options stand =
     ]
 
 -- the padded spellings are the least options for their elements
-pub pad_least_for : (elements : List TcpOptionElement) → AllByRecursion IsInRange elements → length (join elements) ≤ max_options_len → AreLeastFor (pad (join elements)) elements
+pub pad_least_for : (elements : List TcpOptionElement) → AllByRecursion IsInRange elements → length (join elements) ≤ max_options_len
+    → AreLeastFor (pad (join elements)) elements
 pad_least_for elements fits room = record { stand = pad_stands elements fits room; first = λ others stand. pad_first elements others stand }
 
 -- ---- options without a fault
@@ -107,10 +116,12 @@ options_joined elements options reads =
     let first = join_first elements options (subst (Reads options) back.0 reads) in
     record { rest = first.0; whole = first.1; end = first.2 }
 
-pub joined_room : (elements : List TcpOptionElement) (options : List ℕ) → AreJoined options elements → length options ≤ max_options_len → length (join elements) ≤ max_options_len
+pub joined_room : (elements : List TcpOptionElement) (options : List ℕ) → AreJoined options elements → length options ≤ max_options_len
+    → length (join elements) ≤ max_options_len
 joined_room elements options joined room = omega (arith, ap length joined.whole, length-append (join elements) joined.rest)
 
-pub elements_padded : (elements : List TcpOptionElement) (options : List ℕ) → Reads options (as_items elements) → Reads (pad (join elements)) (as_items elements)
+pub elements_padded : (elements : List TcpOptionElement) (options : List ℕ) → Reads options (as_items elements)
+    → Reads (pad (join elements)) (as_items elements)
 elements_padded elements options reads =
     let back = items_read_back elements options reads in
     subst (Reads (pad (join elements))) (sym back.0) (pad_read elements back.1)
@@ -125,7 +136,8 @@ same_items (element ∷ elements) (other ∷ others) same =
     cc
 
 -- two options without a fault are read alike exactly if their padded spellings are the same
-pub read_alike : (elements others : List TcpOptionElement) (options other : List ℕ) → Reads options (as_items elements) → Reads other (as_items others)
+pub read_alike : (elements others : List TcpOptionElement) (options other : List ℕ) → Reads options (as_items elements)
+    → Reads other (as_items others)
     → ((elements ≡ others) ↔ (pad (join elements) ≡ pad (join others)))
 read_alike elements others options other reads again = (
   λ same. ap (λ es. pad (join es)) same,

@@ -42,7 +42,8 @@ ends_no_fault (kind ∷ bytes) (inl none) = absurd (omega arith)
 ends_no_fault (kind ∷ bytes) (inr end) = ap (λ k. fault (k ∷ bytes)) end
 
 -- bytes that begin with an element have no fault
-begins_no_fault : (element : TcpOptionElement) (rest : List ℕ) → front element ≡ element → IsInRange element → fault (spelling element ++ rest) ≡ None
+begins_no_fault : (element : TcpOptionElement) (rest : List ℕ) → front element ≡ element → IsInRange element
+    → fault (spelling element ++ rest) ≡ None
 unfolding pair
 begins_no_fault Noop rest back fits = refl
 begins_no_fault (MaximumSegmentSize size) rest back fits = grind (arith, nat_tests)
@@ -82,13 +83,15 @@ element_of kind size value =
 abbrev element_at_front : List ℕ → TcpOptionElement
 element_at_front bytes = element_of (slice_index bytes 0) (slice_index bytes 1) (drop 2 bytes)
 
-pair_back : (numbers : ℕ × ℕ) → IsPair numbers → (from_be_bytes w32 (to_be_bytes w32 numbers.0), from_be_bytes w32 (to_be_bytes w32 numbers.1)) ≡ numbers
+pair_back : (numbers : ℕ × ℕ) → IsPair numbers
+    → (from_be_bytes w32 (to_be_bytes w32 numbers.0), from_be_bytes w32 (to_be_bytes w32 numbers.1)) ≡ numbers
 pair_back numbers fits =
     let first = from_be_bytes-to_be_bytes_4 numbers.0 fits.0 in
     let second = from_be_bytes-to_be_bytes_4 numbers.1 fits.1 in
     ap (λ n. (n, from_be_bytes w32 (to_be_bytes w32 numbers.1))) first ∙ ap (λ n. (numbers.0, n)) second
 
-element_at_front-spelling : (element : TcpOptionElement) (rest : List ℕ) → front element ≡ element → IsInRange element → element_at_front (spelling element ++ rest) ≡ element
+element_at_front-spelling : (element : TcpOptionElement) (rest : List ℕ) → front element ≡ element → IsInRange element
+    → element_at_front (spelling element ++ rest) ≡ element
 unfolding pair
 element_at_front-spelling Noop rest back fits = refl
 element_at_front-spelling (MaximumSegmentSize size) rest back fits = ap (λ n. MaximumSegmentSize n) (from_be_bytes-to_be_bytes_2 size fits)
@@ -115,7 +118,8 @@ element_at_front-spelling (SelectiveAcknowledgement first more) rest back fits =
 element_at_front-spelling (Timestamp value echo) rest back fits = ap (λ (p : ℕ × ℕ). Timestamp p.0 p.1) (pair_back (value, echo) fits)
 
 -- two elements at one front are the same element, and the same bytes follow them
-pub one_front : (bytes : List ℕ) (element other : TcpOptionElement) (rest after : List ℕ) → BeginsWith bytes element rest → BeginsWith bytes other after
+pub one_front : (bytes : List ℕ) (element other : TcpOptionElement) (rest after : List ℕ) → BeginsWith bytes element rest
+    → BeginsWith bytes other after
     → (element ≡ other) × (rest ≡ after)
 one_front bytes element other rest after begins again =
     let same : element ≡ other =
@@ -129,7 +133,8 @@ one_front bytes element other rest after begins again =
 pub begins_ends : (bytes : List ℕ) (element : TcpOptionElement) (rest : List ℕ) → BeginsWith bytes element rest → Ends bytes → ⊥
 begins_ends bytes element rest begins end = begins_no_end element rest (subst Ends begins.spelled end)
 
-pub begins_fault : (bytes : List ℕ) (element : TcpOptionElement) (rest : List ℕ) (error : TcpOptionReadError) → BeginsWith bytes element rest → fault bytes ≡ Some error → ⊥
+pub begins_fault : (bytes : List ℕ) (element : TcpOptionElement) (rest : List ℕ) (error : TcpOptionReadError)
+    → BeginsWith bytes element rest → fault bytes ≡ Some error → ⊥
 begins_fault bytes element rest error begins wrong =
     let right : fault bytes ≡ None = ap fault begins.spelled ∙ begins_no_fault element rest begins.read_back begins.in_range in
     cc
@@ -153,13 +158,16 @@ kinds_without_fault kind size left no_end no_fault = grind (arith, nat_tests)
 
 -- a statement that holds for two numbers of 32 bits at the front and the bytes after them
 with_front_pair : {P : Type 0} (bytes : List ℕ) → IsBytes bytes → 8 ≤ length bytes
-    → ((numbers : ℕ × ℕ) (rest : List ℕ) → bytes ≡ pair numbers ++ rest → IsPair numbers → length rest + 8 ≡ length bytes → IsBytes rest → P) → P
+    → ((numbers : ℕ × ℕ) (rest : List ℕ) → bytes ≡ pair numbers ++ rest → IsPair numbers → length rest + 8 ≡ length bytes → IsBytes rest
+    → P) → P
 with_front_pair bytes fits there result =
     let numbers : ℕ × ℕ = (be_number bytes 0 4, be_number bytes 4 4) in
-    let spelled : bytes ≡ pair numbers ++ drop 8 bytes = sym (pair-be_number bytes 0 8 numbers.0 numbers.1 _ fits refl there refl refl refl) in
+    let spelled : bytes ≡ pair numbers ++ drop 8 bytes =
+    sym (pair-be_number bytes 0 8 numbers.0 numbers.1 _ fits refl there refl refl refl) in
     let sum = ap length spelled ∙ length-append (pair numbers) (drop 8 bytes) in
     let eight = length-pair numbers in
-    result numbers (drop 8 bytes) spelled (omega (arith, fits 0, fits 1, fits 2, fits 3), omega (arith, fits 4, fits 5, fits 6, fits 7)) (omega arith)
+    result numbers (drop 8 bytes) spelled (omega (arith, fits 0, fits 1, fits 2, fits 3), omega (arith, fits 4, fits 5, fits 6, fits 7))
+    (omega arith)
     (IsBytes-rest (pair numbers) (drop 8 bytes) (subst IsBytes spelled fits))
 
 -- the bytes begin with an element; the lemmas below find it, given its kind, its length byte and the number of bytes left
@@ -170,7 +178,8 @@ begins_noop : (bytes : List ℕ) → 1 ≤ length bytes → slice_index bytes 0 
 begins_noop [] there kind = absurd (omega arith)
 begins_noop (first ∷ bytes) there kind = (Noop, bytes, record { spelled = ap (λ k. k ∷ bytes) kind; read_back = refl; in_range = tt })
 
-begins_segment_size : (bytes : List ℕ) → IsBytes bytes → 4 ≤ length bytes → slice_index bytes 0 ≡ 2 → slice_index bytes 1 ≡ 4 → BeginsWithSome bytes
+begins_segment_size : (bytes : List ℕ) → IsBytes bytes → 4 ≤ length bytes → slice_index bytes 0 ≡ 2 → slice_index bytes 1 ≡ 4
+    → BeginsWithSome bytes
 begins_segment_size (first ∷ second ∷ high ∷ low ∷ bytes) fits there kind size =
     let number : ℕ = high * 256 + low in
     let upper : high ≡ number / 256 % 256 = omega (arith, fits 2, fits 3) in
@@ -178,7 +187,8 @@ begins_segment_size (first ∷ second ∷ high ∷ low ∷ bytes) fits there kin
     (MaximumSegmentSize number, bytes, record { spelled = cc; read_back = refl; in_range = omega (arith, fits 2, fits 3) })
 begins_segment_size bytes fits there kind size = absurd (omega arith)
 
-begins_window_scale : (bytes : List ℕ) → IsBytes bytes → 3 ≤ length bytes → slice_index bytes 0 ≡ 3 → slice_index bytes 1 ≡ 3 → BeginsWithSome bytes
+begins_window_scale : (bytes : List ℕ) → IsBytes bytes → 3 ≤ length bytes → slice_index bytes 0 ≡ 3 → slice_index bytes 1 ≡ 3
+    → BeginsWithSome bytes
 begins_window_scale (first ∷ second ∷ shift ∷ bytes) fits there kind size =
     (WindowScale shift, bytes, record { spelled = cc; read_back = refl; in_range = fits 2 })
 begins_window_scale bytes fits there kind size = absurd (omega arith)
@@ -188,7 +198,8 @@ begins_permitted (first ∷ second ∷ bytes) there kind size =
     (SelectiveAcknowledgementPermitted, bytes, record { spelled = cc; read_back = refl; in_range = tt })
 begins_permitted bytes there kind size = absurd (omega arith)
 
-begins_timestamp : (bytes : List ℕ) → IsBytes bytes → 10 ≤ length bytes → slice_index bytes 0 ≡ 8 → slice_index bytes 1 ≡ 10 → BeginsWithSome bytes
+begins_timestamp : (bytes : List ℕ) → IsBytes bytes → 10 ≤ length bytes → slice_index bytes 0 ≡ 8 → slice_index bytes 1 ≡ 10
+    → BeginsWithSome bytes
 unfolding pair
 begins_timestamp (first ∷ second ∷ value) fits there kind size =
     with_front_pair value (λ place. fits (suc (suc place))) (omega arith) (λ numbers rest e numbers_fit less rest_fits. (
@@ -221,7 +232,8 @@ two_blocks first a value after rest e f fits a_fits = record {
   in_range = (fits, refl, (a_fits, (tt, (tt, tt))));
 }
 
-three_blocks : (first a b : ℕ × ℕ) (value after after_a rest : List ℕ) → value ≡ pair first ++ after → after ≡ pair a ++ after_a → after_a ≡ pair b ++ rest
+three_blocks : (first a b : ℕ × ℕ) (value after after_a rest : List ℕ) → value ≡ pair first ++ after → after ≡ pair a ++ after_a
+    → after_a ≡ pair b ++ rest
     → IsPair first → IsPair a → IsPair b → BeginsWith (5 ∷ 26 ∷ value) (SelectiveAcknowledgement first (Some a ∷ Some b ∷ None ∷ [])) rest
 unfolding pair
 three_blocks first a b value after after_a rest e f g fits a_fits b_fits = record {
@@ -242,12 +254,14 @@ four_blocks first a b c value after after_a after_b rest e f g h fits a_fits b_f
 
 -- kind and length and then exactly four blocks are a selective acknowledgement
 pub four_blocks_alone : (value : List ℕ) (first a b c : ℕ × ℕ) → length value ≡ 32
-    → pair first ++ drop 8 value ≡ value → pair a ++ drop 16 value ≡ drop 8 value → pair b ++ drop 24 value ≡ drop 16 value → pair c ++ drop 32 value ≡ drop 24 value
+    → pair first ++ drop 8 value ≡ value → pair a ++ drop 16 value ≡ drop 8 value → pair b ++ drop 24 value ≡ drop 16 value
+    → pair c ++ drop 32 value ≡ drop 24 value
     → IsPair first → IsPair a → IsPair b → IsPair c
     → BeginsWith (5 ∷ (length value + 2) ∷ value) (SelectiveAcknowledgement first (Some a ∷ Some b ∷ Some c ∷ [])) []
 four_blocks_alone value first a b c whole e f g h fits a_fits b_fits c_fits =
     let last : pair c ++ [] ≡ drop 24 value = subst (λ rest. pair c ++ rest ≡ drop 24 value) (drop_all 32 value (omega arith)) h in
-    rw whole (four_blocks first a b c value (drop 8 value) (drop 16 value) (drop 24 value) [] (sym e) (sym f) (sym g) (sym last) fits a_fits b_fits c_fits)
+    rw whole (four_blocks first a b c value (drop 8 value) (drop 16 value) (drop 24 value) [] (sym e) (sym f) (sym g)
+    (sym last) fits a_fits b_fits c_fits)
 
 -- bytes of an allowed length begin with their blocks
 blocks_10 : (value : List ℕ) → IsBytes value → 8 ≤ length value → BeginsWithSome (5 ∷ 10 ∷ value)
@@ -265,8 +279,11 @@ blocks_26 : (value : List ℕ) → IsBytes value → 24 ≤ length value → Beg
 blocks_26 value fits there =
     with_front_pair value fits (omega arith) (λ first after e first_fits shorter after_fits.
     with_front_pair after after_fits (omega arith) (λ a after_a f a_fits less after_a_fits.
-    with_front_pair after_a after_a_fits (omega arith) (λ b rest g b_fits least rest_fits.
-    (SelectiveAcknowledgement first (Some a ∷ Some b ∷ None ∷ []), rest, three_blocks first a b value after after_a rest e f g first_fits a_fits b_fits))))
+    with_front_pair after_a after_a_fits (omega arith) (λ b rest g b_fits least rest_fits. (
+      SelectiveAcknowledgement first (Some a ∷ Some b ∷ None ∷ []),
+      rest,
+      three_blocks first a b value after after_a rest e f g first_fits a_fits b_fits,
+    ))))
 
 blocks_34 : (value : List ℕ) → IsBytes value → 32 ≤ length value → BeginsWithSome (5 ∷ 34 ∷ value)
 blocks_34 value fits there =
@@ -280,13 +297,15 @@ blocks_34 value fits there =
     )))))
 
 -- an element with this kind and length byte, if they are equal to the first two bytes
-headed : (kind size first second : ℕ) (value : List ℕ) → first ≡ kind → second ≡ size → BeginsWithSome (kind ∷ size ∷ value) → BeginsWithSome (first ∷ second ∷ value)
+headed : (kind size first second : ℕ) (value : List ℕ) → first ≡ kind → second ≡ size → BeginsWithSome (kind ∷ size ∷ value)
+    → BeginsWithSome (first ∷ second ∷ value)
 headed kind size first second value is_kind is_size begins =
     let same : kind ∷ size ∷ value ≡ first ∷ second ∷ value = cc in
     subst BeginsWithSome same begins
 
 begins_blocks : (bytes : List ℕ) → IsBytes bytes → slice_index bytes 0 ≡ 5
-    → (slice_index bytes 1 ≡ 10) ⊎ ((slice_index bytes 1 ≡ 18) ⊎ ((slice_index bytes 1 ≡ 26) ⊎ (slice_index bytes 1 ≡ 34))) → slice_index bytes 1 ≤ length bytes → BeginsWithSome bytes
+    → (slice_index bytes 1 ≡ 10) ⊎ ((slice_index bytes 1 ≡ 18) ⊎ ((slice_index bytes 1 ≡ 26) ⊎ (slice_index bytes 1 ≡ 34)))
+    → slice_index bytes 1 ≤ length bytes → BeginsWithSome bytes
 begins_blocks (first ∷ second ∷ value) fits kind (inl size) there =
     headed 5 10 first second value kind size (blocks_10 value (λ place. fits (suc (suc place))) (omega arith))
 begins_blocks (first ∷ second ∷ value) fits kind (inr (inl size)) there =

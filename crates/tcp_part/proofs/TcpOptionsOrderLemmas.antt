@@ -46,7 +46,8 @@ less_from_before [] [] (place, same, inr (whole, more)) = absurd (omega arith)
 less_from_before [] (y ∷ b) before = refl
 less_from_before (x ∷ a) [] (place, same, inl (in_a, in_b, less)) = absurd (omega arith)
 less_from_before (x ∷ a) [] (place, same, inr (whole, more)) = absurd (omega arith)
-less_from_before (x ∷ a) (y ∷ b) (zero, same, inl (in_a, in_b, less)) = ap (λ o. ordering_then o (slice_cmp nat_cmp a b)) (cmp_less x y less)
+less_from_before (x ∷ a) (y ∷ b) (zero, same, inl (in_a, in_b, less)) =
+    ap (λ o. ordering_then o (slice_cmp nat_cmp a b)) (cmp_less x y less)
 less_from_before (x ∷ a) (y ∷ b) (zero, same, inr (whole, more)) = absurd (omega arith)
 less_from_before (x ∷ a) (y ∷ b) (suc place, same, inl (in_a, in_b, less)) =
     let first : x ≡ y = cc in

@@ -60,8 +60,10 @@ reading_within (suc limit) bytes fits short =
         | inr (error, wrong) ↦ (Err error ∷ [], (wrong, refl))
         | inl no_fault ↦
             let found = begins_some bytes fits goes_on no_fault in
-            let less : length found.1 < length bytes = subst (λ b. length found.1 < length b) (sym found.2.spelled) (shorter found.0 found.1) in
-            let others = reading_within limit found.1 (IsBytes-rest (spelling found.0) found.1 (subst IsBytes found.2.spelled fits)) (omega arith) in
+            let less : length found.1 < length bytes =
+            subst (λ b. length found.1 < length b) (sym found.2.spelled) (shorter found.0 found.1) in
+            let others = reading_within limit found.1 (IsBytes-rest (spelling found.0) found.1 (subst IsBytes found.2.spelled fits))
+            (omega arith) in
             (Ok found.0 ∷ others.0, (found.1, found.2, others.1))
       ]
     ]

@@ -38,7 +38,8 @@ begins_alone : (rest : List ℕ) → BeginsWithRaw (1 ∷ rest) (option_of 1 [])
 begins_alone rest = record { spelled = refl; is_no_end = λ e. omega arith; noop_has_no_value = λ e. refl }
 
 -- any other option is written with its length
-pub begins_with_length : (kind : ℕ) (value rest : List ℕ) → 2 ≤ kind → BeginsWithRaw (with_length kind value ++ rest) (option_of kind value) rest
+pub begins_with_length : (kind : ℕ) (value rest : List ℕ) → 2 ≤ kind
+    → BeginsWithRaw (with_length kind value ++ rest) (option_of kind value) rest
 begins_with_length kind value rest other = record {
   spelled = ap (λ b. b ++ rest) (sym (spelled_with_length kind value (λ e. omega arith)));
   is_no_end = λ e. omega arith;
@@ -60,7 +61,8 @@ no_fault_with_length kind len available counts there = grind (arith, nat_tests)
 begins_no_fault : (bytes : List ℕ) (option : RawOption) (rest : List ℕ) → BeginsWithRaw bytes option rest → raw_fault bytes ≡ None
 begins_no_fault bytes option rest begins = elim (one_or_the_other option.kind bytes option.value rest begins) [
   | inl (kind, none, alone) ↦ ap raw_fault alone
-  | inr (kind, whole) ↦ ap raw_fault whole ∙ no_fault_with_length option.kind (length option.value + 2) (length (with_length option.kind option.value ++ rest))
+  | inr (kind, whole) ↦ ap raw_fault whole ∙ no_fault_with_length option.kind (length option.value
+      + 2) (length (with_length option.kind option.value ++ rest))
       (omega arith) (omega (arith, length-append option.value rest))
 ]
 
@@ -81,7 +83,8 @@ ends_no_fault [] end = refl
 ends_no_fault (kind ∷ bytes) (inl none) = absurd (omega arith)
 ends_no_fault (kind ∷ bytes) (inr end) = ap (λ k. raw_fault (k ∷ bytes)) end
 
-begins_fault : (bytes : List ℕ) (option : RawOption) (rest : List ℕ) (error : TcpRawOptionError) → BeginsWithRaw bytes option rest → raw_fault bytes ≡ Some error → ⊥
+begins_fault : (bytes : List ℕ) (option : RawOption) (rest : List ℕ) (error : TcpRawOptionError) → BeginsWithRaw bytes option rest
+    → raw_fault bytes ≡ Some error → ⊥
 begins_fault bytes option rest error begins wrong =
     let right = begins_no_fault bytes option rest begins in
     cc
@@ -95,22 +98,26 @@ ends_fault bytes error end wrong =
 
 -- the option at the front of bytes
 abbrev option_at_front : List ℕ → RawOption
-option_at_front bytes = option_of (slice_index bytes 0) (if slice_index bytes 0 == 1 then [] else take (slice_index bytes 1 - 2) (drop 2 bytes))
+option_at_front bytes = option_of (slice_index bytes 0)
+    (if slice_index bytes 0 == 1 then [] else take (slice_index bytes 1 - 2) (drop 2 bytes))
 
-begins_option_at_front : (bytes : List ℕ) (option : RawOption) (rest : List ℕ) → BeginsWithRaw bytes option rest → option_at_front bytes ≡ option
+begins_option_at_front : (bytes : List ℕ) (option : RawOption) (rest : List ℕ) → BeginsWithRaw bytes option rest
+    → option_at_front bytes ≡ option
 begins_option_at_front bytes option rest begins = elim (one_or_the_other option.kind bytes option.value rest begins) [
   | inl (kind, none, alone) ↦ ap option_at_front alone ∙ ap (λ k. option_of k []) (sym kind) ∙ ap (λ v. option_of option.kind v) (sym none)
   | inr (kind, whole) ↦ ap option_at_front whole ∙ with_length_at_front option.kind option.value rest kind
 ]
   where
-    with_length_at_front : (kind : ℕ) (value rest : List ℕ) → 2 ≤ kind → option_at_front (with_length kind value ++ rest) ≡ option_of kind value
+    with_length_at_front : (kind : ℕ) (value rest : List ℕ) → 2 ≤ kind
+        → option_at_front (with_length kind value ++ rest) ≡ option_of kind value
     with_length_at_front kind value rest other =
         let test : (kind == 1) ≡ false = grind (arith, nat_tests) in
         let len : length value + 2 - 2 ≡ length value = omega arith in
         rw (test, len) (ap (λ v. option_of kind v) (take-append_seam value rest))
 
 -- two options at one front are the same option, and the same bytes follow them
-one_front : (bytes : List ℕ) (option other : RawOption) (rest after : List ℕ) → BeginsWithRaw bytes option rest → BeginsWithRaw bytes other after
+one_front : (bytes : List ℕ) (option other : RawOption) (rest after : List ℕ) → BeginsWithRaw bytes option rest
+    → BeginsWithRaw bytes other after
     → (option ≡ other) × (rest ≡ after)
 one_front bytes option other rest after begins again =
     let same : option ≡ other = sym (begins_option_at_front bytes option rest begins) ∙ begins_option_at_front bytes other after again in
@@ -129,7 +136,8 @@ one_raw_reading bytes (Ok option ∷ items) (Ok other ∷ others) reads again =
     let rest : ReadsRaw reads.0 others = subst (λ b. ReadsRaw b others) (sym same.1) again.2 in
     let tail = one_raw_reading reads.0 items others reads.2 rest in
     cc (same.0)
-one_raw_reading bytes (Ok option ∷ items) (Err error ∷ others) reads again = absurd (begins_fault bytes option reads.0 error reads.1 again.0)
+one_raw_reading bytes (Ok option ∷ items) (Err error ∷ others) reads again =
+    absurd (begins_fault bytes option reads.0 error reads.1 again.0)
 one_raw_reading bytes (Err error ∷ items) [] reads again = absurd (ends_fault bytes error again reads.0)
 one_raw_reading bytes (Err error ∷ items) (Ok other ∷ others) reads again = absurd (begins_fault bytes other again.0 error again.1 reads.0)
 one_raw_reading bytes (Err error ∷ items) (Err other ∷ others) reads again = cc (reads.0, reads.1, again.0, again.1)
@@ -148,19 +156,22 @@ begins_whole (kind ∷ size ∷ more) (suc (suc count)) other is_len counts ther
     let counted : length (take count more) + 2 ≡ size = omega (arith, length-take-le count more (omega arith)) in
     let whole : with_length kind (take count more) ++ drop count more ≡ kind ∷ size ∷ more =
     ap (λ n. kind ∷ n ∷ (take count more ++ drop count more)) counted ∙ ap (λ b. kind ∷ size ∷ b) (take-append-drop count more) in
-    rw less (subst (λ b. BeginsWithRaw b (option_of kind (take count more)) (drop count more)) whole (begins_with_length kind (take count more) (drop count more) other))
+    rw less (subst (λ b. BeginsWithRaw b (option_of kind (take count more)) (drop count more)) whole
+    (begins_with_length kind (take count more) (drop count more) other))
 
 -- without a fault, the length byte counts at most the bytes that are left
 counted_whole : (kind len available : ℕ) → 2 ≤ kind → raw_fault_of kind len available ≡ None → (2 ≤ len) × (len ≤ available)
 counted_whole kind len available other no_fault = grind (arith, nat_tests)
 
 -- bytes that do not end, and have no fault, begin with an option
-begins_some : (bytes : List ℕ) → (Ends bytes → ⊥) → raw_fault bytes ≡ None → (option : RawOption) × (rest : List ℕ) × BeginsWithRaw bytes option rest
+begins_some : (bytes : List ℕ) → (Ends bytes → ⊥) → raw_fault bytes ≡ None
+    → (option : RawOption) × (rest : List ℕ) × BeginsWithRaw bytes option rest
 begins_some [] goes_on no_fault = absurd (goes_on (inl refl))
 begins_some (zero ∷ bytes) goes_on no_fault = absurd (goes_on (inr refl))
 begins_some (suc zero ∷ bytes) goes_on no_fault = (option_of 1 [], bytes, begins_alone bytes)
 begins_some (suc (suc kind) ∷ bytes) goes_on no_fault =
-    let whole = counted_whole (suc (suc kind)) (slice_index (suc (suc kind) ∷ bytes) 1) (length (suc (suc kind) ∷ bytes)) (omega arith) no_fault in
+    let whole = counted_whole (suc (suc kind)) (slice_index (suc (suc kind) ∷ bytes) 1) (length (suc (suc kind) ∷ bytes))
+    (omega arith) no_fault in
     (_, _, begins_whole (suc (suc kind) ∷ bytes) _ (omega arith) refl whole.0 whole.1)
 
 -- the bytes after an option are shorter
@@ -228,7 +239,8 @@ written_back (Ok option ∷ items) bytes reads =
     record {
       options = option ∷ others.options;
       rest = others.rest;
-      whole = reads.1.spelled ∙ ap (λ b. raw_spelling option ++ b) others.whole ∙ sym (append_assoc (raw_spelling option) (raw_join others.options) others.rest);
+      whole = reads.1.spelled ∙ ap (λ b. raw_spelling option ++ b) others.whole
+          ∙ sym (append_assoc (raw_spelling option) (raw_join others.options) others.rest);
       end = elim others.end [
         | inl (same, end) ↦ inl (ap (λ i. Ok option ∷ i) same, end)
         | inr (error, same, wrong) ↦ inr (error, ap (λ i. Ok option ∷ i) same, wrong)
@@ -266,7 +278,8 @@ raw_of-begins (SelectiveAcknowledgement first more) rest = begins_with_length 5 
 raw_of-begins (Timestamp value echo) rest = begins_with_length 8 _ rest (omega arith)
 
 -- the elements before a fault are the options before it; without a fault, all items are these elements
-pub reads_as_elements : (elements : List TcpOptionElement) (others : List Item) (bytes : List ℕ) → Reads bytes (as_items elements ++ others) → BeginsAsElements bytes elements others
+pub reads_as_elements : (elements : List TcpOptionElement) (others : List Item) (bytes : List ℕ) → Reads bytes (as_items elements ++ others)
+    → BeginsAsElements bytes elements others
 reads_as_elements [] others bytes reads =
     let found = has_one_raw_reading bytes in
     record {
@@ -278,7 +291,8 @@ reads_as_elements [] others bytes reads =
     }
 reads_as_elements (element ∷ elements) others bytes reads =
     let after = reads_as_elements elements others reads.0 reads.2 in
-    let begins : BeginsWithRaw bytes (raw_of element) reads.0 = subst (λ b. BeginsWithRaw b (raw_of element) reads.0) (sym reads.1.spelled) (raw_of-begins element reads.0) in
+    let begins : BeginsWithRaw bytes (raw_of element) reads.0 =
+    subst (λ b. BeginsWithRaw b (raw_of element) reads.0) (sym reads.1.spelled) (raw_of-begins element reads.0) in
     record {
       options = raw_of element ∷ after.options;
       more = after.more;
@@ -288,8 +302,10 @@ reads_as_elements (element ∷ elements) others bytes reads =
     }
 
 -- an element at the front is also the option at the front
-begins_as_option : (bytes : List ℕ) (element : TcpOptionElement) (rest : List ℕ) → BeginsWith bytes element rest → BeginsWithRaw bytes (raw_of element) rest
-begins_as_option bytes element rest begins = subst (λ b. BeginsWithRaw b (raw_of element) rest) (sym begins.spelled) (raw_of-begins element rest)
+begins_as_option : (bytes : List ℕ) (element : TcpOptionElement) (rest : List ℕ) → BeginsWith bytes element rest
+    → BeginsWithRaw bytes (raw_of element) rest
+begins_as_option bytes element rest begins =
+    subst (λ b. BeginsWithRaw b (raw_of element) rest) (sym begins.spelled) (raw_of-begins element rest)
 
 -- an option that is read alone is the element, if it is the option of an element
 alone_as_element : (option : RawOption) (element : TcpOptionElement) → option ≡ raw_of element → front element ≡ element → IsInRange element
@@ -301,9 +317,11 @@ alone_as_element option element same back fits = record {
 }
 
 -- a wrong length is a fault of the option alone, or because of the bytes that are left
-fault_of_wrong_length : (expected kind size left : ℕ) (error : TcpOptionReadError) → expected ≤ max_options_len → size ≤ left → fault_of_length expected kind size left ≡ Some error
+fault_of_wrong_length : (expected kind size left : ℕ) (error : TcpOptionReadError) → expected ≤ max_options_len → size ≤ left
+    → fault_of_length expected kind size left ≡ Some error
     → (fault_of_length expected kind size max_options_len ≡ Some error)
-    ⊎ ((left < expected) × (error ≡ UnexpectedEndOfSlice kind expected left) × (fault_of_length expected kind size max_options_len ≡ Some (UnexpectedSize kind size)))
+    ⊎ ((left < expected) × (error ≡ UnexpectedEndOfSlice kind expected left)
+    × (fault_of_length expected kind size max_options_len ≡ Some (UnexpectedSize kind size)))
 fault_of_wrong_length expected kind size left error known there wrong = grind (arith, nat_tests)
 
 fault_of_wrong_blocks : (size left : ℕ) (error : TcpOptionReadError) → 2 ≤ size → size ≤ left → fault_of_blocks size left ≡ Some error
@@ -326,11 +344,13 @@ fault_of_other_kind : (kind size left other_size other_left : ℕ) → 2 ≤ kin
     → fault_of_kind kind size left ≡ fault_of_kind kind other_size other_left
 fault_of_other_kind kind size left other_size other_left counts two three four five eight = grind (arith, nat_tests)
 
-refusal_of_other_kind : (option : RawOption) → 2 ≤ option.kind → element_refusal option ≡ fault_of_kind option.kind (length_byte option) max_options_len
+refusal_of_other_kind : (option : RawOption) → 2 ≤ option.kind
+    → element_refusal option ≡ fault_of_kind option.kind (length_byte option) max_options_len
 refusal_of_other_kind option counts = grind (arith, nat_tests)
 
 -- a fault of bytes that begin with an option is the fault of the option
-fault_of_counted : (option : RawOption) (left : ℕ) (error : TcpOptionReadError) → 2 ≤ option.kind → 2 ≤ length_byte option → length_byte option ≤ left
+fault_of_counted : (option : RawOption) (left : ℕ) (error : TcpOptionReadError) → 2 ≤ option.kind → 2 ≤ length_byte option
+    → length_byte option ≤ left
     → fault_of_kind option.kind (length_byte option) left ≡ Some error → IsFaultOf left option error
 fault_of_counted option left error counts some there wrong = elim (by_kind option.kind) [
   | inl two ↦ one_length 2 4 two refl (omega arith) (at 2 two) (own 2 two)
@@ -339,14 +359,16 @@ fault_of_counted option left error counts some there wrong = elim (by_kind optio
   | inr (inr (inr (inl five))) ↦ inl (own 5 five ∙ fault_of_wrong_blocks (length_byte option) left error some there (at 5 five))
   | inr (inr (inr (inr (inl eight)))) ↦ one_length 8 10 eight refl (omega arith) (at 8 eight) (own 8 eight)
   | inr (inr (inr (inr (inr (two, three, four, five, eight))))) ↦
-      inl (own option.kind refl ∙ fault_of_other_kind option.kind (length_byte option) max_options_len (length_byte option) left counts two three four five eight ∙ wrong)
+      inl (own option.kind refl ∙ fault_of_other_kind option.kind (length_byte option) max_options_len
+      (length_byte option) left counts two three four five eight ∙ wrong)
 ]
   where
     at : (kind : ℕ) → option.kind ≡ kind → fault_of_kind kind (length_byte option) left ≡ Some error
     at kind same = subst (λ k. fault_of_kind k (length_byte option) left ≡ Some error) same wrong
 
     own : (kind : ℕ) → option.kind ≡ kind → element_refusal option ≡ fault_of_kind kind (length_byte option) max_options_len
-    own kind same = subst (λ k. element_refusal option ≡ fault_of_kind k (length_byte option) max_options_len) same (refusal_of_other_kind option counts)
+    own kind same = subst (λ k. element_refusal option ≡ fault_of_kind k (length_byte option) max_options_len) same
+        (refusal_of_other_kind option counts)
 
     one_length : (kind len : ℕ) → option.kind ≡ kind → length_of_kind kind ≡ Some len → len ≤ max_options_len
         → fault_of_length len kind (length_byte option) left ≡ Some error
@@ -356,11 +378,13 @@ fault_of_counted option left error counts some there wrong = elim (by_kind optio
         (subst (λ k. element_refusal option ≡ fault_of_length len k (length_byte option) max_options_len) (sym same) is_own)
         (subst (λ k. fault_of_length len k (length_byte option) left ≡ Some error) (sym same) is_wrong)
 
-    by_kind : (kind : ℕ) → (kind ≡ 2) ⊎ ((kind ≡ 3) ⊎ ((kind ≡ 4) ⊎ ((kind ≡ 5) ⊎ ((kind ≡ 8) ⊎ ((kind ≢ 2) × (kind ≢ 3) × (kind ≢ 4) × (kind ≢ 5) × (kind ≢ 8))))))
+    by_kind : (kind : ℕ) → (kind ≡ 2)
+        ⊎ ((kind ≡ 3) ⊎ ((kind ≡ 4) ⊎ ((kind ≡ 5) ⊎ ((kind ≡ 8) ⊎ ((kind ≢ 2) × (kind ≢ 3) × (kind ≢ 4) × (kind ≢ 5) × (kind ≢ 8))))))
     by_kind kind = grind arith
 
 -- the fault of bytes that begin with an option is the fault of this option
-fault_of_option : (bytes : List ℕ) (option : RawOption) (rest : List ℕ) (error : TcpOptionReadError) → IsBytes bytes → BeginsWithRaw bytes option rest → fault bytes ≡ Some error
+fault_of_option : (bytes : List ℕ) (option : RawOption) (rest : List ℕ) (error : TcpOptionReadError) → IsBytes bytes
+    → BeginsWithRaw bytes option rest → fault bytes ≡ Some error
     → IsFaultOf (length bytes) option error
 fault_of_option bytes option rest error fits begins wrong = elim (one_or_the_other option.kind bytes option.value rest begins) [
   | inl (kind, none, alone) ↦ absurd (none_of_noop rest error (subst (λ b. fault b ≡ Some error) alone wrong))
@@ -378,9 +402,11 @@ fault_of_option bytes option rest error fits begins wrong = elim (one_or_the_oth
     none_of_noop rest error wrong = cc
 
 -- both readings have the same items
-pub reads_the_same_items : (options : List RawItem) (items : List Item) (bytes : List ℕ) → IsBytes bytes → ReadsRaw bytes options → Reads bytes items → AreItemsOf bytes options items
+pub reads_the_same_items : (options : List RawItem) (items : List Item) (bytes : List ℕ) → IsBytes bytes → ReadsRaw bytes options
+    → Reads bytes items → AreItemsOf bytes options items
 reads_the_same_items [] [] bytes fits raw reads = tt
-reads_the_same_items [] (Ok element ∷ items) bytes fits raw reads = absurd (begins_no_end bytes (raw_of element) reads.0 (begins_as_option bytes element reads.0 reads.1) raw)
+reads_the_same_items [] (Ok element ∷ items) bytes fits raw reads =
+    absurd (begins_no_end bytes (raw_of element) reads.0 (begins_as_option bytes element reads.0 reads.1) raw)
 reads_the_same_items [] (Err error ∷ items) bytes fits raw reads = absurd (front_lemmas.ends_fault bytes error raw reads.0)
 reads_the_same_items (Ok option ∷ options) [] bytes fits raw reads = absurd (begins_no_end bytes option raw.0 raw.1 reads)
 reads_the_same_items (Ok option ∷ options) (Ok element ∷ items) bytes fits raw reads =
@@ -391,7 +417,8 @@ reads_the_same_items (Ok option ∷ options) (Ok element ∷ items) bytes fits r
     ap (drop (length (raw_spelling option))) raw.1.spelled ∙ drop-append_seam (raw_spelling option) raw.0 ∙ same.1 in
     let others : AreItemsOf reads.0 options items = reads_the_same_items options items reads.0 rest_fits after reads.2 in
     (alone_as_element option element same.0 reads.1.read_back reads.1.in_range, subst (λ b. AreItemsOf b options items) (sym left) others)
-reads_the_same_items (Ok option ∷ options) (Err error ∷ items) bytes fits raw reads = (fault_of_option bytes option raw.0 error fits raw.1 reads.0, reads.1)
+reads_the_same_items (Ok option ∷ options) (Err error ∷ items) bytes fits raw reads =
+    (fault_of_option bytes option raw.0 error fits raw.1 reads.0, reads.1)
 reads_the_same_items (Err raw_error ∷ options) [] bytes fits raw reads = absurd (ends_fault bytes raw_error reads raw.0)
 reads_the_same_items (Err raw_error ∷ options) (Ok element ∷ items) bytes fits raw reads =
     absurd (begins_fault bytes (raw_of element) reads.0 raw_error (begins_as_option bytes element reads.0 reads.1) raw.0)

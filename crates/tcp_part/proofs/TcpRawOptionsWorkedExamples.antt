@@ -19,7 +19,8 @@ multipath_spelled = refl
 noop_spelled : raw_spelling (option_of 1 []) ≡ 1 ∷ []
 noop_spelled = refl
 
-options_joined : raw_join (option_of 30 (0xAA ∷ 0xBB ∷ []) ∷ option_of 1 [] ∷ option_of 34 [] ∷ []) ≡ 0x1E ∷ 4 ∷ 0xAA ∷ 0xBB ∷ 1 ∷ 34 ∷ 2 ∷ []
+options_joined : raw_join (option_of 30 (0xAA ∷ 0xBB ∷ []) ∷ option_of 1 [] ∷ option_of 34 [] ∷ []) ≡ 0x1E ∷ 4 ∷ 0xAA ∷ 0xBB ∷ 1 ∷ 34 ∷ 2
+    ∷ []
 options_joined = refl
 
 -- ---- readings

@@ -28,7 +28,8 @@ total-checksum_in_header header checksum enough small =
 -- the sum of a segment with this checksum
 sum-built : (pseudo_header_of : ℕ → List ℕ) (header payload : List ℕ) (checksum : ℕ) → 18 ≤ length header → length header % 2 ≡ 0
     → checksum < 65536
-    → total (pseudo_header_of (length (with_checksum tcp_checksum_place header checksum ++ payload))) + total (with_checksum tcp_checksum_place header checksum ++ payload)
+    → total (pseudo_header_of (length (with_checksum tcp_checksum_place header checksum ++ payload)))
+    + total (with_checksum tcp_checksum_place header checksum ++ payload)
     ≡ checksummed (pseudo_header_of (length header + length payload)) header payload + checksum
 sum-built pseudo_header_of header payload checksum enough even small =
     let same_len = length-with_checksum 16 header checksum enough in
@@ -43,7 +44,12 @@ pub built_valid : (max_len : ℕ) (pseudo_header_of : ℕ → List ℕ) (header 
     → IsAllOnes (checksummed (pseudo_header_of (length header + length payload)) header payload + checksum)
     → VerifiesUpTo max_len pseudo_header_of (with_checksum tcp_checksum_place header checksum ++ payload)
 built_valid max_len pseudo_header_of header payload checksum enough even small within verifies = (
-  omega (arith, within, length-append (with_checksum tcp_checksum_place header checksum) payload, length-with_checksum 16 header checksum enough),
+  omega (
+    arith,
+    within,
+    length-append (with_checksum tcp_checksum_place header checksum) payload,
+    length-with_checksum 16 header checksum enough,
+  ),
   ap folded (sum-built pseudo_header_of header payload checksum enough even small) ∙ verifies,
 )
 
@@ -54,7 +60,8 @@ pub tested : (max_len : ℕ) (pseudo_header_of : ℕ → List ℕ) (header paylo
     → len ≡ length header + length payload → len ≤ max_len → sum ≡ folded (total (pseudo_header_of len))
     → IsAllOnes (sum + total (header ++ payload)) ↔ VerifiesUpTo max_len pseudo_header_of (header ++ payload)
 tested max_len pseudo_header_of header payload len sum counted within is_sum =
-    let same : folded (sum + total (header ++ payload)) ≡ folded (total (pseudo_header_of (length (header ++ payload))) + total (header ++ payload)) =
+    let same : folded (sum + total (header ++ payload))
+    ≡ folded (total (pseudo_header_of (length (header ++ payload))) + total (header ++ payload)) =
     ap (λ n. folded (n + total (header ++ payload))) is_sum
     ∙ folded-add (total (pseudo_header_of len)) (total (header ++ payload))
     ∙ ap (λ n. folded (total (pseudo_header_of n) + total (header ++ payload))) (counted ∙ sym (length-append header payload)) in (
@@ -80,7 +87,8 @@ pub accepts : (max_len : ℕ) (pseudo_header_of : ℕ → List ℕ) (header payl
     ↔ AcceptsChecksum (checksummed (pseudo_header_of (length header + length payload)) header payload) (be_number header 16 2)
 accepts max_len pseudo_header_of header payload fits enough even within =
     let sum = sum-stored pseudo_header_of header payload fits enough even in
-    let accepted = accepted_checksum (checksummed (pseudo_header_of (length header + length payload)) header payload) (be_number header 16 2)
+    let accepted = accepted_checksum (checksummed (pseudo_header_of (length header + length payload)) header payload)
+    (be_number header 16 2)
     (omega (arith, fits 16, fits 17)) in (
       λ valid. accepted.0 (sym (ap folded sum) ∙ valid.1),
       λ accepted_too. (omega (arith, within, length-append header payload), ap folded sum ∙ accepted.1 accepted_too),

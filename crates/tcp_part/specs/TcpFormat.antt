@@ -57,7 +57,8 @@ abbrev pub refusal : List ℕ → Option HeaderSliceError
 refusal bytes = first_of (
     refused_if (nat_lt (length bytes) min_header_len) (Len (wrong_length layers.TcpHeader min_header_len (length bytes)))
     ∷ refused_if (nat_lt (data_offset bytes) min_data_offset) (Content (DataOffsetTooSmall (data_offset bytes)))
-    ∷ refused_if (nat_lt (length bytes) ((layout_of bytes).header_len)) (Len (wrong_length layers.TcpHeader ((layout_of bytes).header_len) (length bytes)))
+    ∷ refused_if (nat_lt (length bytes) ((layout_of bytes).header_len))
+    (Len (wrong_length layers.TcpHeader ((layout_of bytes).header_len) (length bytes)))
     ∷ [])
 
 -- ---- flags

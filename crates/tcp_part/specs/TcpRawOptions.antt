@@ -131,7 +131,8 @@ AreItemsOf bytes options items = ⊥
 
 -- both readings of these bytes have corresponding items up to the first fault
 abbrev pub ReadsTheSameItems : List ℕ → Type 0
-ReadsTheSameItems bytes = (options : List RawItem) (items : List Item) → ReadsRaw bytes options → Reads bytes items → AreItemsOf bytes options items
+ReadsTheSameItems bytes = (options : List RawItem) (items : List Item) → ReadsRaw bytes options → Reads bytes items
+    → AreItemsOf bytes options items
 
 -- The bytes are read as options, and then as more items. These options have the same bytes as these elements, in the same order. If no item
 -- follows the elements, no item follows the options.

@@ -30,7 +30,8 @@ ones_divides n ones = grind (arith, folded-none, folded-some)
 
 -- if two different numbers of 16 bits both make a sum all ones, the smaller number is 0 and the larger number is 65535
 apart : (n a b : ℕ) → (n + a) % 65535 ≡ 0 → (n + b) % 65535 ≡ 0 → a < 65536 → b < 65536 → a < b → (a ≡ 0) × (b ≡ 65535)
-apart n a b with_a with_b small_a small_b less = (omega (arith, with_a, with_b, small_a, small_b, less), omega (arith, with_a, with_b, small_a, small_b, less))
+apart n a b with_a with_b small_a small_b less =
+    (omega (arith, with_a, with_b, small_a, small_b, less), omega (arith, with_a, with_b, small_a, small_b, less))
 
 by_order : (n a b : ℕ) (a_less b_less : Bool) → nat_lt a b ≡ a_less → nat_lt b a ≡ b_less
     → (n + a) % 65535 ≡ 0 → (n + b) % 65535 ≡ 0 → a < 65536 → b < 65536
@@ -68,7 +69,8 @@ same_expected max_len pseudo_header_of place bytes a b there even small_a small_
 
 -- a checksum that is wrong in one packet is wrong in the packet in which it is stored
 wrong_once : (IsValid : List ℕ → Type 0) (max_len : ℕ) (pseudo_header_of : ℕ → List ℕ) (place : ℕ) (packet : List ℕ)
-    → ((checksum : ℕ) → IsValid (with_checksum place packet checksum) → VerifiesUpTo max_len pseudo_header_of (with_checksum place packet checksum))
+    → ((checksum : ℕ) → IsValid (with_checksum place packet checksum)
+    → VerifiesUpTo max_len pseudo_header_of (with_checksum place packet checksum))
     → place + 2 ≤ length packet → place % 2 ≡ 0 → (a b : ℕ) → a < 65536 → b < 65536
     → IsWrong IsValid place packet a → IsWrong IsValid place packet b → a ≡ b
 wrong_once IsValid max_len pseudo_header_of place packet passes there even a b small_a small_b wrong_a wrong_b =
@@ -95,7 +97,8 @@ judged_once IsValid partial place packet once (Wrong a) Absent has_a has_b is_a 
 judged_once IsValid partial place packet once (Wrong a) (Untested why) has_a has_b is_a is_b = absurd is_b
 judged_once IsValid partial place packet once (Partial a) Right has_a has_b is_a is_b = absurd (is_a.1.0 is_b)
 judged_once IsValid partial place packet once (Partial a) (Wrong b) has_a has_b is_a is_b = absurd (is_b.0 is_a.0)
-judged_once IsValid partial place packet once (Partial a) (Partial b) has_a has_b is_a is_b = ap Partial (once a b has_a has_b is_a.1 is_b.1)
+judged_once IsValid partial place packet once (Partial a) (Partial b) has_a has_b is_a is_b =
+    ap Partial (once a b has_a has_b is_a.1 is_b.1)
 judged_once IsValid partial place packet once (Partial a) Absent has_a has_b is_a is_b = absurd is_b
 judged_once IsValid partial place packet once (Partial a) (Untested why) has_a has_b is_a is_b = absurd is_b
 judged_once IsValid partial place packet once Absent b has_a has_b is_a is_b = absurd is_a
@@ -160,7 +163,8 @@ over_ipv4 : (source destination : List ℕ) (transport : TransportSlice) → min
 over_ipv4 source destination (Udp packet) there = udp_once source destination packet there
 over_ipv4 source destination (Tcp segment) there =
     judged_once (IsValidTcpIpv4 source destination) (partial_over_ipv4 source destination tcp_number segment) tcp_checksum_place segment
-    (wrong_once (IsValidTcpIpv4 source destination) max_len_over_ipv4 (ipv4_pseudo_header source destination tcp_number) tcp_checksum_place segment
+    (wrong_once (IsValidTcpIpv4 source destination) max_len_over_ipv4
+    (ipv4_pseudo_header source destination tcp_number) tcp_checksum_place segment
     (λ checksum valid. valid) (omega (arith, there)) (omega arith))
 over_ipv4 source destination (Icmpv4 message) there = icmpv4_once message there
 over_ipv4 source destination (Icmpv6 message) there = λ a b has_a has_b is_a is_b. is_a ∙ sym is_b
@@ -169,16 +173,19 @@ over_ipv6 : (source destination : List ℕ) (transport : TransportSlice) → min
     → AreOne (JudgesOverIpv6 source destination transport)
 over_ipv6 source destination (Udp packet) there =
     judged_once (IsValidUdpIpv6 source destination) (partial_over_ipv6 source destination udp_number packet) udp_checksum_place packet
-    (wrong_once (IsValidUdpIpv6 source destination) max_len_over_ipv6 (ipv6_pseudo_header source destination udp_number) udp_checksum_place packet
+    (wrong_once (IsValidUdpIpv6 source destination) max_len_over_ipv6
+    (ipv6_pseudo_header source destination udp_number) udp_checksum_place packet
     (λ checksum valid. valid.1) (omega (arith, there)) (omega arith))
 over_ipv6 source destination (Tcp segment) there =
     judged_once (IsValidTcpIpv6 source destination) (partial_over_ipv6 source destination tcp_number segment) tcp_checksum_place segment
-    (wrong_once (IsValidTcpIpv6 source destination) max_len_over_ipv6 (ipv6_pseudo_header source destination tcp_number) tcp_checksum_place segment
+    (wrong_once (IsValidTcpIpv6 source destination) max_len_over_ipv6
+    (ipv6_pseudo_header source destination tcp_number) tcp_checksum_place segment
     (λ checksum valid. valid) (omega (arith, there)) (omega arith))
 over_ipv6 source destination (Icmpv4 message) there = λ a b has_a has_b is_a is_b. is_a ∙ sym is_b
 over_ipv6 source destination (Icmpv6 message) there =
     judged_once (IsValidIcmpv6 source destination) (partial_over_ipv6 source destination icmpv6_number message) icmp_checksum_place message
-    (wrong_once (IsValidIcmpv6 source destination) max_len_over_ipv6 (ipv6_pseudo_header source destination icmpv6_number) icmp_checksum_place message
+    (wrong_once (IsValidIcmpv6 source destination) max_len_over_ipv6
+    (ipv6_pseudo_header source destination icmpv6_number) icmp_checksum_place message
     (λ checksum valid. valid) (omega (arith, there)) (omega arith))
 
 -- a checksum is unique if another condition is tested first

@@ -46,7 +46,8 @@ length_field_kept packet checksum there =
 pub lacks_kept : (transport : TransportSlice) (checksum : ℕ) → min_len transport ≤ length (bytes_of transport)
     → lacks_length (with_stored transport checksum) ≡ lacks_length transport
 lacks_kept (Udp packet) checksum there =
-    ap (λ field. (field == 0) && not (nat_lt 65535 (length (with_checksum udp_checksum_place packet checksum)))) (length_field_kept packet checksum there)
+    ap (λ field. (field == 0) && not (nat_lt 65535 (length (with_checksum udp_checksum_place packet checksum))))
+    (length_field_kept packet checksum there)
     ∙ ap (λ len. (length_field packet == 0) && not (nat_lt 65535 len)) (stored_len (Udp packet) checksum there)
 lacks_kept (Tcp segment) checksum there = refl
 lacks_kept (Icmpv4 message) checksum there = refl
@@ -80,7 +81,8 @@ right_icmpv4 : (message : List ℕ) (verdict : ChecksumVerdict) (checksum : ℕ)
     → JudgesIcmpv4 message verdict → IsRightBy verdict (be_number message icmp_checksum_place 2) checksum
     → IsValidIcmpv4 (with_checksum icmp_checksum_place message checksum)
 right_icmpv4 message Right checksum fits there judged is =
-    subst IsValidIcmpv4 (sym (ap (with_checksum icmp_checksum_place message) is ∙ with_checksum-stored icmp_checksum_place message fits (omega (arith, there)))) judged
+    subst IsValidIcmpv4 (sym (ap (with_checksum icmp_checksum_place message) is
+    ∙ with_checksum-stored icmp_checksum_place message fits (omega (arith, there)))) judged
 right_icmpv4 message Absent checksum fits there judged is = absurd judged
 right_icmpv4 message (Wrong expected) checksum fits there judged is =
     subst IsValidIcmpv4 (ap (with_checksum icmp_checksum_place message) (sym is)) judged.1
@@ -98,10 +100,12 @@ some_stored source destination packet checksum there small some sums_up = (
 
 right_udp : (source destination packet : List ℕ) (verdict : ChecksumVerdict) (checksum : ℕ) → IsBytes packet → 8 ≤ length packet
     → HasChecksum verdict → (verdict ≡ Absent → ⊥) → JudgesUdpIpv4 source destination packet verdict
-    → IsRightBy verdict (checksum_field packet) checksum → JudgesUdpIpv4 source destination (with_checksum udp_checksum_place packet checksum) Right
+    → IsRightBy verdict (checksum_field packet) checksum
+    → JudgesUdpIpv4 source destination (with_checksum udp_checksum_place packet checksum) Right
 right_udp source destination packet Right checksum fits there has some judged is =
     let P : List ℕ → Type 0 = λ bytes. JudgesUdpIpv4 source destination bytes Right in
-    subst P (sym (ap (with_checksum udp_checksum_place packet) is ∙ with_checksum-stored udp_checksum_place packet fits (omega (arith, there)))) judged
+    subst P (sym (ap (with_checksum udp_checksum_place packet) is
+    ∙ with_checksum-stored udp_checksum_place packet fits (omega (arith, there)))) judged
 right_udp source destination packet Absent checksum fits there has some judged is = absurd (some refl)
 right_udp source destination packet (Wrong expected) checksum fits there has some judged is =
     let P : ℕ → Type 0 = λ n. JudgesUdpIpv4 source destination (with_checksum udp_checksum_place packet n) Right in
@@ -114,7 +118,8 @@ right_udp source destination packet (Partial expected) checksum fits there has s
 right_udp source destination packet (Untested why) checksum fits there has some judged is = absurd judged
 
 -- no checksum is right for an untested packet
-none_untested : (verdict : ChecksumVerdict) (why : Reason) (stored checksum : ℕ) → verdict ≡ Untested why → IsRightBy verdict stored checksum → ⊥
+none_untested : (verdict : ChecksumVerdict) (why : Reason) (stored checksum : ℕ) → verdict ≡ Untested why
+    → IsRightBy verdict stored checksum → ⊥
 none_untested verdict why stored checksum is right =
     let P : ChecksumVerdict → Type 0 = λ v. IsRightBy v stored checksum in
     subst P is right
@@ -126,9 +131,11 @@ right_over_ipv4 : (source destination : List ℕ) (transport : TransportSlice) (
 right_over_ipv4 source destination (Udp packet) verdict checksum fits there has some judged is =
     right_udp source destination packet verdict checksum fits there has some judged is
 right_over_ipv4 source destination (Tcp segment) verdict checksum fits there has some judged is =
-    right_by (IsValidTcpIpv4 source destination) (partial_over_ipv4 source destination tcp_number segment) tcp_checksum_place segment verdict checksum
+    right_by (IsValidTcpIpv4 source destination)
+    (partial_over_ipv4 source destination tcp_number segment) tcp_checksum_place segment verdict checksum
     fits (omega (arith, there)) judged is
-right_over_ipv4 source destination (Icmpv4 message) verdict checksum fits there has some judged is = right_icmpv4 message verdict checksum fits there judged is
+right_over_ipv4 source destination (Icmpv4 message) verdict checksum fits there has some judged is =
+    right_icmpv4 message verdict checksum fits there judged is
 right_over_ipv4 source destination (Icmpv6 message) verdict checksum fits there has some judged is =
     absurd (none_untested verdict OtherProtocol (be_number message icmp_checksum_place 2) checksum judged is)
 
@@ -137,23 +144,28 @@ right_over_ipv6 : (source destination : List ℕ) (transport : TransportSlice) (
     → JudgesOverIpv6 source destination transport verdict → IsRightBy verdict (stored_checksum transport) checksum
     → JudgesOverIpv6 source destination (with_stored transport checksum) Right
 right_over_ipv6 source destination (Udp packet) verdict checksum fits there judged is =
-    right_by (IsValidUdpIpv6 source destination) (partial_over_ipv6 source destination udp_number packet) udp_checksum_place packet verdict checksum
+    right_by (IsValidUdpIpv6 source destination)
+    (partial_over_ipv6 source destination udp_number packet) udp_checksum_place packet verdict checksum
     fits (omega (arith, there)) judged is
 right_over_ipv6 source destination (Tcp segment) verdict checksum fits there judged is =
-    right_by (IsValidTcpIpv6 source destination) (partial_over_ipv6 source destination tcp_number segment) tcp_checksum_place segment verdict checksum
+    right_by (IsValidTcpIpv6 source destination)
+    (partial_over_ipv6 source destination tcp_number segment) tcp_checksum_place segment verdict checksum
     fits (omega (arith, there)) judged is
 right_over_ipv6 source destination (Icmpv4 message) verdict checksum fits there judged is =
     absurd (none_untested verdict OtherProtocol (be_number message icmp_checksum_place 2) checksum judged is)
 right_over_ipv6 source destination (Icmpv6 message) verdict checksum fits there judged is =
-    right_by (IsValidIcmpv6 source destination) (partial_over_ipv6 source destination icmpv6_number message) icmp_checksum_place message verdict checksum
+    right_by (IsValidIcmpv6 source destination)
+    (partial_over_ipv6 source destination icmpv6_number message) icmp_checksum_place message verdict checksum
     fits (omega (arith, there)) judged is
 
 -- a verdict after another condition is tested first, which has the same result
 unless : (P Q : Type 0) (verdict : ChecksumVerdict) (why : Reason) (condition condition_too : Bool) → condition_too ≡ condition
     → (verdict ≡ Untested why → ⊥) → MatchBool condition (verdict ≡ Untested why) P → (P → Q)
     → MatchBool condition_too (Right ≡ Untested why) Q
-unless P Q verdict why condition true same tested judged next = absurd (tested (subst (λ b. MatchBool b (verdict ≡ Untested why) P) (sym same) judged))
-unless P Q verdict why condition false same tested judged next = next (subst (λ b. MatchBool b (verdict ≡ Untested why) P) (sym same) judged)
+unless P Q verdict why condition true same tested judged next =
+    absurd (tested (subst (λ b. MatchBool b (verdict ≡ Untested why) P) (sym same) judged))
+unless P Q verdict why condition false same tested judged next =
+    next (subst (λ b. MatchBool b (verdict ≡ Untested why) P) (sym same) judged)
 
 right_over : (addresses : Addresses) (transport : TransportSlice) (verdict : ChecksumVerdict) (checksum : ℕ)
     → IsBytes (bytes_of transport) → min_len transport ≤ length (bytes_of transport) → HasChecksum verdict → (verdict ≡ Absent → ⊥)
@@ -161,7 +173,8 @@ right_over : (addresses : Addresses) (transport : TransportSlice) (verdict : Che
     → JudgesOver addresses (with_stored transport checksum) Right
 right_over (Ipv4 source destination) transport verdict checksum fits there has some judged is =
     unless _ _ verdict TooLong (is_too_long_over_ipv4 transport) (is_too_long_over_ipv4 (with_stored transport checksum))
-    (too_long_kept transport checksum there) (λ untested. none_untested verdict TooLong (stored_checksum transport) checksum untested is) judged
+    (too_long_kept transport checksum there) (λ untested. none_untested verdict TooLong
+    (stored_checksum transport) checksum untested is) judged
     (λ judged. right_over_ipv4 source destination transport verdict checksum fits there has some judged is)
 right_over (Ipv6 source (Some destination)) transport verdict checksum fits there has some judged is =
     unless _ _ verdict TooLong (nat_lt max_len_over_ipv6 (length (bytes_of transport)))
@@ -178,12 +191,14 @@ pub judged_right : (addresses : Addresses) (transport : TransportSlice) (verdict
     → Judges addresses transport verdict → IsRightBy verdict (stored_checksum transport) checksum
     → Judges addresses (with_stored transport checksum) Right
 judged_right addresses transport verdict checksum fits there has some judged is =
-    unless _ _ verdict ZeroLength (lacks_length transport) (lacks_length (with_stored transport checksum)) (lacks_kept transport checksum there)
+    unless _ _ verdict ZeroLength (lacks_length transport) (lacks_length (with_stored transport checksum))
+    (lacks_kept transport checksum there)
     (λ untested. none_untested verdict ZeroLength (stored_checksum transport) checksum untested is) judged
     (λ judged. right_over addresses transport verdict checksum fits there has some judged is)
 
 -- a checksum that is right by one verdict is right by each true verdict, since a packet has only one verdict
-pub chosen_by : (addresses : Addresses) (transport : TransportSlice) (known : ChecksumVerdict) (stored checksum : ℕ) → AreOne (Judges addresses transport)
+pub chosen_by : (addresses : Addresses) (transport : TransportSlice) (known : ChecksumVerdict) (stored checksum : ℕ)
+    → AreOne (Judges addresses transport)
     → HasChecksum known → Judges addresses transport known → IsRightBy known stored checksum
     → (verdict : ChecksumVerdict) → HasChecksum verdict → Judges addresses transport verdict → IsRightBy verdict stored checksum
 chosen_by addresses transport known stored checksum once has is right verdict has_too judged =
@@ -222,8 +237,10 @@ absent_right source destination packet checksum there small some absent sums_up 
     let stated : lacks_length (with_stored (Udp packet) checksum) ≡ false = lacks_kept (Udp packet) checksum there ∙ absent.stated in
     let counted : nat_lt max_len_over_ipv4 (length (with_checksum udp_checksum_place packet checksum)) ≡ false =
     ap (nat_lt max_len_over_ipv4) (stored_len (Udp packet) checksum there) ∙ not_above max_len_over_ipv4 (length packet) absent.counted in
-    let P : Bool → Type 0 = λ b. MatchBool b (Right ≡ Untested TooLong) (JudgesUdpIpv4 source destination (with_checksum udp_checksum_place packet checksum) Right) in
-    let Q : Bool → Type 0 = λ b. MatchBool b (Right ≡ Untested ZeroLength) (JudgesOver (Ipv4 source destination) (with_stored (Udp packet) checksum) Right) in
+    let P : Bool → Type 0 = λ b. MatchBool b (Right ≡ Untested TooLong)
+    (JudgesUdpIpv4 source destination (with_checksum udp_checksum_place packet checksum) Right) in
+    let Q : Bool → Type 0 = λ b. MatchBool b (Right ≡ Untested ZeroLength)
+    (JudgesOver (Ipv4 source destination) (with_stored (Udp packet) checksum) Right) in
     subst Q (sym stated) (subst P (sym counted) (some_stored source destination packet checksum there small some sums_up))
 
 -- only a UDP packet over IPv4 contains no checksum
@@ -247,7 +264,8 @@ absent_other source destination transport other judged =
     let counted = tested _ TooLong (is_too_long_over_ipv4 transport) stated.1 in
     never_over_ipv4 source destination transport other counted.1
 
-pub absent_ipv6 : (source : List ℕ) (destination : Option (List ℕ)) (transport : TransportSlice) → Judges (Ipv6 source destination) transport Absent → ⊥
+pub absent_ipv6 : (source : List ℕ) (destination : Option (List ℕ)) (transport : TransportSlice)
+    → Judges (Ipv6 source destination) transport Absent → ⊥
 absent_ipv6 source (Some destination) transport judged =
     let stated = tested _ ZeroLength (lacks_length transport) judged in
     let counted = tested _ TooLong (nat_lt max_len_over_ipv6 (length (bytes_of transport))) stated.1 in
@@ -294,7 +312,8 @@ partial_over_four : (source destination : List ℕ) (transport : TransportSlice)
     → SaysWhetherPartial (IsSumOf (pseudo_header_over_ipv4 source destination transport) transport) verdict
 partial_over_four source destination (Udp packet) verdict judged = partial_udp source destination packet verdict judged
 partial_over_four source destination (Tcp segment) verdict judged =
-    partial_by (IsValidTcpIpv4 source destination) (partial_over_ipv4 source destination tcp_number segment) tcp_checksum_place segment verdict judged
+    partial_by (IsValidTcpIpv4 source destination)
+    (partial_over_ipv4 source destination tcp_number segment) tcp_checksum_place segment verdict judged
 partial_over_four source destination (Icmpv4 message) verdict judged = partial_icmpv4 message verdict judged
 partial_over_four source destination (Icmpv6 message) verdict judged = untested ⊥ verdict OtherProtocol judged
 
@@ -302,12 +321,15 @@ partial_over_six : (source destination : List ℕ) (transport : TransportSlice) 
     → JudgesOverIpv6 source destination transport verdict
     → SaysWhetherPartial (IsSumOf (pseudo_header_over_ipv6 source destination transport) transport) verdict
 partial_over_six source destination (Udp packet) verdict judged =
-    partial_by (IsValidUdpIpv6 source destination) (partial_over_ipv6 source destination udp_number packet) udp_checksum_place packet verdict judged
+    partial_by (IsValidUdpIpv6 source destination)
+    (partial_over_ipv6 source destination udp_number packet) udp_checksum_place packet verdict judged
 partial_over_six source destination (Tcp segment) verdict judged =
-    partial_by (IsValidTcpIpv6 source destination) (partial_over_ipv6 source destination tcp_number segment) tcp_checksum_place segment verdict judged
+    partial_by (IsValidTcpIpv6 source destination)
+    (partial_over_ipv6 source destination tcp_number segment) tcp_checksum_place segment verdict judged
 partial_over_six source destination (Icmpv4 message) verdict judged = untested ⊥ verdict OtherProtocol judged
 partial_over_six source destination (Icmpv6 message) verdict judged =
-    partial_by (IsValidIcmpv6 source destination) (partial_over_ipv6 source destination icmpv6_number message) icmp_checksum_place message verdict judged
+    partial_by (IsValidIcmpv6 source destination)
+    (partial_over_ipv6 source destination icmpv6_number message) icmp_checksum_place message verdict judged
 
 -- the statement about a partial checksum holds if the packet is too long
 partial_unless : (P : Type 0) (header : Option (List ℕ)) (transport : TransportSlice) (verdict : ChecksumVerdict) (condition : Bool)
@@ -322,7 +344,8 @@ partial_over (Ipv4 source destination) transport verdict judged =
     partial_unless _ (pseudo_header_over_ipv4 source destination transport) transport verdict (is_too_long_over_ipv4 transport) judged
     (partial_over_four source destination transport verdict)
 partial_over (Ipv6 source (Some destination)) transport verdict judged =
-    partial_unless _ (pseudo_header_over_ipv6 source destination transport) transport verdict (nat_lt max_len_over_ipv6 (length (bytes_of transport))) judged
+    partial_unless _ (pseudo_header_over_ipv6 source destination transport) transport verdict
+    (nat_lt max_len_over_ipv6 (length (bytes_of transport))) judged
     (partial_over_six source destination transport verdict)
 partial_over (Ipv6 source None) transport verdict judged = untested _ verdict UnknownDestination judged
 
@@ -348,7 +371,8 @@ partial_tested (Some bytes) transport sum number stored is tested is_stored =
     (λ is_true. sym is_stored ∙ same.0 is_true ∙ back, λ holds. same.1 (is_stored ∙ holds ∙ sym back))
 
 -- the partial checksum is computed from the complement of the sum of a pseudo header
-pub partial_is : (header : Option (List ℕ)) (sum number : ℕ) → Some sum ≡ option_map (λ bytes. folded (total bytes)) header → number ≡ complement sum
+pub partial_is : (header : Option (List ℕ)) (sum number : ℕ) → Some sum ≡ option_map (λ bytes. folded (total bytes)) header
+    → number ≡ complement sum
     → Some (65535 - number) ≡ option_map (λ bytes. folded (total bytes)) header
 partial_is None sum number is tested = absurd (cc is)
 partial_is (Some bytes) sum number is tested =
@@ -357,7 +381,8 @@ partial_is (Some bytes) sum number is tested =
 
 -- ---- a stored partial checksum
 
-header_kept_over_ipv4 : (source destination : List ℕ) (transport : TransportSlice) (checksum : ℕ) → min_len transport ≤ length (bytes_of transport)
+header_kept_over_ipv4 : (source destination : List ℕ) (transport : TransportSlice) (checksum : ℕ)
+    → min_len transport ≤ length (bytes_of transport)
     → pseudo_header_over_ipv4 source destination (with_stored transport checksum) ≡ pseudo_header_over_ipv4 source destination transport
 header_kept_over_ipv4 source destination (Udp packet) checksum there =
     ap (λ len. Some (ipv4_pseudo_header source destination udp_number len)) (stored_len (Udp packet) checksum there)
@@ -366,7 +391,8 @@ header_kept_over_ipv4 source destination (Tcp segment) checksum there =
 header_kept_over_ipv4 source destination (Icmpv4 message) checksum there = refl
 header_kept_over_ipv4 source destination (Icmpv6 message) checksum there = refl
 
-header_kept_over_ipv6 : (source destination : List ℕ) (transport : TransportSlice) (checksum : ℕ) → min_len transport ≤ length (bytes_of transport)
+header_kept_over_ipv6 : (source destination : List ℕ) (transport : TransportSlice) (checksum : ℕ)
+    → min_len transport ≤ length (bytes_of transport)
     → pseudo_header_over_ipv6 source destination (with_stored transport checksum) ≡ pseudo_header_over_ipv6 source destination transport
 header_kept_over_ipv6 source destination (Udp packet) checksum there =
     ap (λ len. Some (ipv6_pseudo_header source destination udp_number len)) (stored_len (Udp packet) checksum there)
@@ -379,8 +405,10 @@ header_kept_over_ipv6 source destination (Icmpv6 message) checksum there =
 header_kept : (addresses : Addresses) (transport : TransportSlice) (checksum : ℕ) → min_len transport ≤ length (bytes_of transport)
     → pseudo_header_over addresses (with_stored transport checksum) ≡ pseudo_header_over addresses transport
 header_kept (Ipv4 source destination) transport checksum there =
-    ap (λ b. if b then None else pseudo_header_over_ipv4 source destination (with_stored transport checksum)) (too_long_kept transport checksum there)
-    ∙ ap (λ header. if is_too_long_over_ipv4 transport then None else header) (header_kept_over_ipv4 source destination transport checksum there)
+    ap (λ b. if b then None else pseudo_header_over_ipv4 source destination (with_stored transport checksum))
+    (too_long_kept transport checksum there)
+    ∙ ap (λ header. if is_too_long_over_ipv4 transport then None else header)
+    (header_kept_over_ipv4 source destination transport checksum there)
 header_kept (Ipv6 source (Some destination)) transport checksum there =
     ap (λ len. if nat_lt max_len_over_ipv6 len then None else pseudo_header_over_ipv6 source destination (with_stored transport checksum))
     (stored_len transport checksum there)
@@ -401,7 +429,8 @@ stored_partial None stored checksum is same = absurd (cc is)
 stored_partial (Some bytes) stored checksum is same = let checksum_is : checksum ≡ folded (total bytes) = cc is in same ∙ checksum_is
 
 -- a packet with the partial checksum has the verdict `Partial`
-pub partial_with : (addresses : Addresses) (transport : TransportSlice) (checksum : ℕ) → min_len transport ≤ length (bytes_of transport) → checksum < 65536
+pub partial_with : (addresses : Addresses) (transport : TransportSlice) (checksum : ℕ) → min_len transport ≤ length (bytes_of transport)
+    → checksum < 65536
     → Some checksum ≡ option_map (λ bytes. folded (total bytes)) (pseudo_header_over addresses transport)
     → IsPartial addresses (with_stored transport checksum)
 partial_with addresses transport checksum there small is =

@@ -28,7 +28,8 @@ unless : (P Q : Type 0) (verdict : ChecksumVerdict) (why : Reason) (condition : 
 unless P Q verdict why true is says = untested P verdict why is
 unless P Q verdict why false judged says = says judged
 
-judged : (IsValid : List ℕ → Type 0) (partial place : ℕ) (packet : List ℕ) (verdict : ChecksumVerdict) → JudgesBy IsValid partial place packet verdict
+judged : (IsValid : List ℕ → Type 0) (partial place : ℕ) (packet : List ℕ) (verdict : ChecksumVerdict)
+    → JudgesBy IsValid partial place packet verdict
     → SaysWhether (IsValid packet) verdict
 judged IsValid partial place packet Right valid = valid
 judged IsValid partial place packet Absent none = absurd none
@@ -59,7 +60,8 @@ over_ipv4 : (source destination : List ℕ) (transport : TransportSlice) (verdic
     → JudgesOverIpv4 source destination transport verdict → SaysWhether (IsValidOver (Ipv4 source destination) transport) verdict
 over_ipv4 source destination (Udp packet) verdict is = judged_udp source destination packet verdict is
 over_ipv4 source destination (Tcp segment) verdict is =
-    judged (IsValidTcpIpv4 source destination) (partial_over_ipv4 source destination tcp_number segment) tcp_checksum_place segment verdict is
+    judged (IsValidTcpIpv4 source destination)
+    (partial_over_ipv4 source destination tcp_number segment) tcp_checksum_place segment verdict is
 over_ipv4 source destination (Icmpv4 message) verdict is = judged_icmpv4 message verdict is
 over_ipv4 source destination (Icmpv6 message) verdict is = untested ⊥ verdict OtherProtocol is
 
@@ -68,10 +70,12 @@ over_ipv6 : (source destination : List ℕ) (transport : TransportSlice) (verdic
 over_ipv6 source destination (Udp packet) verdict is =
     judged (IsValidUdpIpv6 source destination) (partial_over_ipv6 source destination udp_number packet) udp_checksum_place packet verdict is
 over_ipv6 source destination (Tcp segment) verdict is =
-    judged (IsValidTcpIpv6 source destination) (partial_over_ipv6 source destination tcp_number segment) tcp_checksum_place segment verdict is
+    judged (IsValidTcpIpv6 source destination)
+    (partial_over_ipv6 source destination tcp_number segment) tcp_checksum_place segment verdict is
 over_ipv6 source destination (Icmpv4 message) verdict is = untested ⊥ verdict OtherProtocol is
 over_ipv6 source destination (Icmpv6 message) verdict is =
-    judged (IsValidIcmpv6 source destination) (partial_over_ipv6 source destination icmpv6_number message) icmp_checksum_place message verdict is
+    judged (IsValidIcmpv6 source destination)
+    (partial_over_ipv6 source destination icmpv6_number message) icmp_checksum_place message verdict is
 
 over : (addresses : Addresses) (transport : TransportSlice) (verdict : ChecksumVerdict) → JudgesOver addresses transport verdict
     → SaysWhether (IsValidOver addresses transport) verdict

@@ -56,7 +56,8 @@ stored_passes max_len pseudo_header_of place bytes pseudo sum stored there even 
     let whole : sum ≡ folded n = is_sum ∙ ap (λ s. folded (s + total (with_checksum place bytes 0))) is_pseudo
     ∙ folded-add (total (pseudo_header_of (length bytes))) (total (with_checksum place bytes 0)) in
     let same : folded (sum + stored) ≡ folded (total (pseudo_header_of (length bytes)) + total bytes) =
-    ap (λ s. folded (s + stored)) whole ∙ folded-add n stored ∙ ap folded (omega (arith, without, is, total-stored place bytes there even)) in
+    ap (λ s. folded (s + stored)) whole ∙ folded-add n stored
+    ∙ ap folded (omega (arith, without, is, total-stored place bytes there even)) in
     (λ ones. (within, sym same ∙ ones), λ passes. same ∙ passes.1)
 
 -- if the sum of pseudo header, packet without its checksum, and this checksum is all ones, the packet with this checksum passes the test
@@ -93,7 +94,8 @@ zero_fails pseudo_header_of place bytes pseudo sum expected there is_pseudo is_s
     let whole : sum ≡ folded n = is_sum ∙ ap (λ s. folded (s + total (with_checksum place bytes 0))) is_pseudo
     ∙ folded-add (total (pseudo_header_of (length bytes))) (total (with_checksum place bytes 0)) in
     let ones : folded n ≡ 65535 =
-    ap (λ k. folded (total (pseudo_header_of k) + total (with_checksum place bytes 0))) (sym (length-with_checksum place bytes 0 there)) ∙ verifies in
+    ap (λ k. folded (total (pseudo_header_of k) + total (with_checksum place bytes 0))) (sym (length-with_checksum place bytes 0 there))
+    ∙ verifies in
     omega (arith, whole, ones, is, most)
 
 -- the expected checksum of UDP has 16 bits
@@ -150,7 +152,8 @@ is_partial A B word stored number is_complement is a =
 
 -- ---- a checksum that is wrong
 
-wrong_by_sum : (IsValid : List ℕ → Type 0) (place : ℕ) (packet : List ℕ) (partial stored pseudo expected : ℕ) (verdict : ChecksumVerdict) (same : Bool)
+wrong_by_sum : (IsValid : List ℕ → Type 0) (place : ℕ) (packet : List ℕ) (partial stored pseudo expected : ℕ) (verdict : ChecksumVerdict)
+    (same : Bool)
     → (stored == pseudo) ≡ same → stored ≡ be_number packet place 2 → pseudo ≡ partial → IsWrong IsValid place packet expected
     → MatchBool same (verdict ≡ Partial expected) (verdict ≡ Wrong expected) → JudgesBy IsValid partial place packet verdict
 wrong_by_sum IsValid place packet partial stored pseudo expected verdict true tested is_stored is_pseudo wrong is =
@@ -161,7 +164,8 @@ wrong_by_sum IsValid place packet partial stored pseudo expected verdict false t
     let P : ChecksumVerdict → Type 0 = λ v. JudgesBy IsValid partial place packet v in
     subst P (sym is) (λ equal. other_numbers stored pseudo tested (is_stored ∙ equal ∙ sym is_pseudo), wrong)
 
-pub judged_wrong : (IsValid : List ℕ → Type 0) (place : ℕ) (packet : List ℕ) (partial stored pseudo expected : ℕ) (verdict : ChecksumVerdict)
+pub judged_wrong : (IsValid : List ℕ → Type 0) (place : ℕ) (packet : List ℕ) (partial stored pseudo expected : ℕ)
+    (verdict : ChecksumVerdict)
     → stored ≡ be_number packet place 2 → pseudo ≡ partial → IsWrong IsValid place packet expected
     → MatchBool (stored == pseudo) (verdict ≡ Partial expected) (verdict ≡ Wrong expected) → JudgesBy IsValid partial place packet verdict
 judged_wrong IsValid place packet partial stored pseudo expected verdict is_stored is_pseudo wrong is =
@@ -174,14 +178,16 @@ wrong_by_sum_udp : (source destination packet : List ℕ) (stored pseudo expecte
     → MatchBool same (verdict ≡ Partial expected) (verdict ≡ Wrong expected) → JudgesUdpIpv4 source destination packet verdict
 wrong_by_sum_udp source destination packet stored pseudo expected verdict true tested is_stored is_pseudo wrong is =
     let P : ChecksumVerdict → Type 0 = λ v. JudgesUdpIpv4 source destination packet v in
-    let equal : checksum_field packet ≡ partial_over_ipv4 source destination udp_number packet = sym is_stored ∙ equal_numbers stored pseudo tested ∙ is_pseudo in
+    let equal : checksum_field packet ≡ partial_over_ipv4 source destination udp_number packet =
+    sym is_stored ∙ equal_numbers stored pseudo tested ∙ is_pseudo in
     subst P (sym is) (equal, wrong)
 wrong_by_sum_udp source destination packet stored pseudo expected verdict false tested is_stored is_pseudo wrong is =
     let P : ChecksumVerdict → Type 0 = λ v. JudgesUdpIpv4 source destination packet v in
     subst P (sym is) (λ equal. other_numbers stored pseudo tested (is_stored ∙ equal ∙ sym is_pseudo), wrong)
 
 pub judged_wrong_udp : (source destination packet : List ℕ) (stored pseudo expected : ℕ) (verdict : ChecksumVerdict)
-    → stored ≡ checksum_field packet → pseudo ≡ partial_over_ipv4 source destination udp_number packet → IsWrongUdpIpv4 source destination packet expected
+    → stored ≡ checksum_field packet → pseudo ≡ partial_over_ipv4 source destination udp_number packet
+    → IsWrongUdpIpv4 source destination packet expected
     → MatchBool (stored == pseudo) (verdict ≡ Partial expected) (verdict ≡ Wrong expected) → JudgesUdpIpv4 source destination packet verdict
 judged_wrong_udp source destination packet stored pseudo expected verdict is_stored is_pseudo wrong is =
     wrong_by_sum_udp source destination packet stored pseudo expected verdict (stored == pseudo) refl is_stored is_pseudo wrong is

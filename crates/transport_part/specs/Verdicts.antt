@@ -83,7 +83,8 @@ JudgesIcmpv4 message (Untested why) = ⊥
 abbrev pub JudgesOverIpv4 : List ℕ → List ℕ → TransportSlice → ChecksumVerdict → Type 0
 JudgesOverIpv4 source destination (Udp packet) verdict = JudgesUdpIpv4 source destination packet verdict
 JudgesOverIpv4 source destination (Tcp segment) verdict =
-    JudgesBy (IsValidTcpIpv4 source destination) (partial_over_ipv4 source destination tcp_number segment) tcp_checksum_place segment verdict
+    JudgesBy (IsValidTcpIpv4 source destination)
+    (partial_over_ipv4 source destination tcp_number segment) tcp_checksum_place segment verdict
 JudgesOverIpv4 source destination (Icmpv4 message) verdict = JudgesIcmpv4 message verdict
 JudgesOverIpv4 source destination (Icmpv6 message) verdict = verdict ≡ Untested OtherProtocol
 
@@ -92,10 +93,12 @@ abbrev pub JudgesOverIpv6 : List ℕ → List ℕ → TransportSlice → Checksu
 JudgesOverIpv6 source destination (Udp packet) verdict =
     JudgesBy (IsValidUdpIpv6 source destination) (partial_over_ipv6 source destination udp_number packet) udp_checksum_place packet verdict
 JudgesOverIpv6 source destination (Tcp segment) verdict =
-    JudgesBy (IsValidTcpIpv6 source destination) (partial_over_ipv6 source destination tcp_number segment) tcp_checksum_place segment verdict
+    JudgesBy (IsValidTcpIpv6 source destination)
+    (partial_over_ipv6 source destination tcp_number segment) tcp_checksum_place segment verdict
 JudgesOverIpv6 source destination (Icmpv4 message) verdict = verdict ≡ Untested OtherProtocol
 JudgesOverIpv6 source destination (Icmpv6 message) verdict =
-    JudgesBy (IsValidIcmpv6 source destination) (partial_over_ipv6 source destination icmpv6_number message) icmp_checksum_place message verdict
+    JudgesBy (IsValidIcmpv6 source destination)
+    (partial_over_ipv6 source destination icmpv6_number message) icmp_checksum_place message verdict
 
 -- ---- the verdict by the addresses
 
@@ -112,7 +115,8 @@ abbrev pub JudgesOver : Addresses → TransportSlice → ChecksumVerdict → Typ
 JudgesOver (Ipv4 source destination) transport verdict =
     MatchBool (is_too_long_over_ipv4 transport) (verdict ≡ Untested TooLong) (JudgesOverIpv4 source destination transport verdict)
 JudgesOver (Ipv6 source (Some destination)) transport verdict =
-    MatchBool (nat_lt max_len_over_ipv6 (length (bytes_of transport))) (verdict ≡ Untested TooLong) (JudgesOverIpv6 source destination transport verdict)
+    MatchBool (nat_lt max_len_over_ipv6 (length (bytes_of transport))) (verdict ≡ Untested TooLong)
+    (JudgesOverIpv6 source destination transport verdict)
 JudgesOver (Ipv6 source None) transport verdict = verdict ≡ Untested UnknownDestination
 
 -- the greatest length that the length field of UDP can state (RFC 768)
@@ -129,7 +133,8 @@ lacks_length (Icmpv6 message) = false
 
 -- the verdict over these addresses; a UDP packet is not tested if its length field is 0 although it could state the length
 abbrev pub Judges : Addresses → TransportSlice → ChecksumVerdict → Type 0
-Judges addresses transport verdict = MatchBool (lacks_length transport) (verdict ≡ Untested ZeroLength) (JudgesOver addresses transport verdict)
+Judges addresses transport verdict =
+    MatchBool (lacks_length transport) (verdict ≡ Untested ZeroLength) (JudgesOver addresses transport verdict)
 
 -- a checksum in a verdict is a number of 16 bits
 abbrev pub HasChecksum : ChecksumVerdict → Type 0

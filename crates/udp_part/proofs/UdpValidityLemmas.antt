@@ -16,7 +16,8 @@ use Rattle.udp_part.proofs.UdpFormatLemmas.{wire-header_of}
 -- ---- the sum of a packet
 
 -- a header with a checksum has the sum of the header without it, plus the checksum
-total_wire : (header : UdpHeader) → header.checksum < 2 ^ 16 → total (wire header) ≡ total (wire (record header { checksum = 0 })) + header.checksum
+total_wire : (header : UdpHeader) → header.checksum < 2 ^ 16
+    → total (wire header) ≡ total (wire (record header { checksum = 0 })) + header.checksum
 total_wire header small = omega (arith, small)
 
 -- if the length field is the length of the packet, the sum of pseudo header and packet is the sum for the checksum plus the checksum

@@ -91,11 +91,13 @@ eight_bytes_folded : folded 0x1987F ≡ 0x9880
 unfolding folded
 eight_bytes_folded = refl
 
-empty_covered_ipv6 : checksummed_ipv6 (replicate 16 0) (replicate 16 0) (record { source_port = 0; destination_port = 0; length = 8; checksum = 0 }) [] ≡ 33
+empty_covered_ipv6 : checksummed_ipv6 (replicate 16 0) (replicate 16 0)
+    (record { source_port = 0; destination_port = 0; length = 8; checksum = 0 }) [] ≡ 33
 empty_covered_ipv6 = refl
 
 -- the sum of eight words 0101, eight words 0202, the length twice, the protocol, the ports, and the payload
-covered_ipv6 : checksummed_ipv6 (replicate 16 1) (replicate 16 2) (record { source_port = 21; destination_port = 1234; length = 9; checksum = 7 }) (5 ∷ [])
+covered_ipv6 : checksummed_ipv6 (replicate 16 1) (replicate 16 2)
+    (record { source_port = 21; destination_port = 1234; length = 9; checksum = 7 }) (5 ∷ [])
     ≡ 8 * 0x0101 + 8 * 0x0202 + 9 + 17 + 21 + 1234 + 9 + 0x0500
 covered_ipv6 = refl
 
@@ -107,7 +109,8 @@ destination : List ℕ
 destination = 0x20 ∷ 0x01 ∷ 0x0D ∷ 0xB8 ∷ 0 ∷ 10 ∷ 0 ∷ 11 ∷ 0 ∷ 12 ∷ 0 ∷ 13 ∷ 0 ∷ 14 ∷ 0 ∷ 15 ∷ []
 
 -- the sum of source, destination, the length twice, the protocol, the ports, and the payload
-abc_covered_ipv6 : checksummed_ipv6 source destination (record { source_port = 5353; destination_port = 53; length = 11; checksum = 7 }) (0x61 ∷ 0x62 ∷ 0x63 ∷ [])
+abc_covered_ipv6 : checksummed_ipv6 source destination (record { source_port = 5353; destination_port = 53; length = 11; checksum = 7 })
+    (0x61 ∷ 0x62 ∷ 0x63 ∷ [])
     ≡ 0x2DCE + 0x2E04 + 2 * 11 + 17 + 5353 + 53 + 0xC462
 unfolding source destination
 abc_covered_ipv6 = refl

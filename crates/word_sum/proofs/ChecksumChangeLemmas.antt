@@ -232,7 +232,8 @@ pub updated_udp_reversed : (checksum removed added result : ℕ) → checksum < 
     → result ≡ updated_udp_checksum_of checksum removed added → updated_udp_checksum_of result added removed ≡ checksum
 updated_udp_reversed checksum removed added result small small_too small_three equation =
     ⊎_elim
-    (λ (none : checksum < 1). updated_udp_none result added removed _ refl (updated_udp_none checksum removed added result equation (omega arith)) ∙ omega arith)
+    (λ (none : checksum < 1). updated_udp_none result added removed _ refl
+    (updated_udp_none checksum removed added result equation (omega arith)) ∙ omega arith)
     (λ (some : 1 ≤ checksum).
     let updated : result ≡ 65535 - (complement checksum + complement removed + added) % 65535 =
     equation ∙ updated_udp_checksum_of-some checksum removed added (λ none. omega arith) in
@@ -247,7 +248,8 @@ is_extended change extended old new removed added packet between changed replace
     rw (removed, added)
     (folded_extended packet (added_value change) between (removed_value change) (total old) (total new) changed turns (sym replaced))
 
-pub replaces : (change extended : ChecksumChange) (old new : List ℕ) → IsExtendedBy change old new extended → Replaces change old new extended
+pub replaces : (change extended : ChecksumChange) (old new : List ℕ) → IsExtendedBy change old new extended
+    → Replaces change old new extended
 replaces change extended old new extends packet between changed replaced =
     let even : length replaced.before % 2 ≡ 0 = replaced.at_even_place in
     let same = total_replaced replaced.before old new replaced.after replaced.at_even_place replaced.alike in

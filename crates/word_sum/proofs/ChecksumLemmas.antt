@@ -28,7 +28,10 @@ folded_congruent m n k e z = grind (arith, folded-none, folded-some)
 -- numbers have the same folded sum exactly if they have the same remainder modulo 65535, and are both 0 or both not 0
 pub folded_equal_iff : (m n : ℕ) → (folded m ≡ folded n) ↔ ((m % 65535 ≡ n % 65535) × ((m ≡ 0) ↔ (n ≡ 0)))
 folded_equal_iff m n = (
-  λ same. (grind (arith, folded-none, folded-some), (λ z. grind (arith, folded-none, folded-some), λ z. grind (arith, folded-none, folded-some))),
+  λ same. (
+    grind (arith, folded-none, folded-some),
+    (λ z. grind (arith, folded-none, folded-some), λ z. grind (arith, folded-none, folded-some)),
+  ),
   λ both. let remainder = both.0 in let zeros = both.1.0 in let zeros_too = both.1.1 in grind (arith, folded-none, folded-some),
 )
 

@@ -21,7 +21,8 @@ folded_times_256 m n e = grind (arith, folded-none, folded-some)
 -- a 16 bit number with its two bytes swapped folds like 256 times the number (RFC 1071, section 2 (B))
 pub swap_bytes-folded : (n : ℕ) → n < 65536 → swap_bytes w16 n ≡ folded (n * 256)
 swap_bytes-folded n small =
-    sym (folded_congruent (n * 256) (swap_bytes w16 n) (n / 256) (omega arith) (λ z. omega arith) ∙ folded-small (swap_bytes w16 n) (omega arith))
+    sym (folded_congruent (n * 256) (swap_bytes w16 n) (n / 256) (omega arith) (λ z. omega arith)
+    ∙ folded-small (swap_bytes w16 n) (omega arith))
 
 -- end-around carry: if the sum of two numbers below the limit wraps, it is below each number, and the carry is added at
 -- the low end
@@ -54,7 +55,8 @@ folded_halves_32 number = sym (folded_congruent _ _ (number / 2 ^ 16) (omega ari
 pub folded_carried : (word number low : ℕ) (carry carried : Bool) → low + from_bool carried * 2 ^ 64 ≡ word + number + from_bool carry
     → folded (low + from_bool carried) ≡ folded (word + from_bool carry + number)
 folded_carried word number low carry carried sum =
-    sym (folded_congruent (word + from_bool carry + number) (low + from_bool carried) (from_bool carried * 281479271743489) (omega arith) (λ z. omega arith))
+    sym (folded_congruent (word + from_bool carry + number) (low + from_bool carried) (from_bool carried * 281479271743489) (omega arith)
+    (λ z. omega arith))
 
 pub carried-fits : (word number low : ℕ) (carry carried : Bool) → word + from_bool carry < 2 ^ 64 → number < 2 ^ 64 → low < 2 ^ 64
     → low + from_bool carried * 2 ^ 64 ≡ word + number + from_bool carry → low + from_bool carried < 2 ^ 64
@@ -73,8 +75,12 @@ total_eight (b0 ∷ (b1 ∷ (b2 ∷ []))) eight = absurd (omega arith)
 
 -- the total of sixteen bytes is the sum of their eight words
 pub total_sixteen : (bytes : List ℕ) → length bytes ≡ 16
-    → total bytes ≡ (slice_index bytes 0 * 256 + slice_index bytes 1 + (slice_index bytes 2 * 256 + slice_index bytes 3 + (slice_index bytes 4 * 256 + slice_index bytes 5 + (slice_index bytes 6 * 256 + slice_index bytes 7 + 0))))
-    + (slice_index bytes 8 * 256 + slice_index bytes 9 + (slice_index bytes 10 * 256 + slice_index bytes 11 + (slice_index bytes 12 * 256 + slice_index bytes 13 + (slice_index bytes 14 * 256 + slice_index bytes 15 + 0))))
+    → total bytes ≡ (slice_index bytes 0 * 256 + slice_index bytes 1
+    + (slice_index bytes 2 * 256 + slice_index bytes 3
+    + (slice_index bytes 4 * 256 + slice_index bytes 5 + (slice_index bytes 6 * 256 + slice_index bytes 7 + 0))))
+    + (slice_index bytes 8 * 256 + slice_index bytes 9
+    + (slice_index bytes 10 * 256 + slice_index bytes 11
+    + (slice_index bytes 12 * 256 + slice_index bytes 13 + (slice_index bytes 14 * 256 + slice_index bytes 15 + 0))))
 total_sixteen (b0 ∷ (b1 ∷ (b2 ∷ (b3 ∷ (b4 ∷ (b5 ∷ (b6 ∷ (b7 ∷ rest)))))))) sixteen = omega (arith, total_eight rest (omega arith))
 total_sixteen [] sixteen = absurd (omega arith)
 total_sixteen (b0 ∷ []) sixteen = absurd (omega arith)
@@ -106,9 +112,11 @@ folded_le_8 bytes eight =
     (omega arith) (λ z. omega arith)
 
 -- a sum of words, shifted by eight bits and written as four little-endian bytes, adds the words
-pub total_shifted : (words others : ℕ) → words < 2 ^ 24 → folded (others + total (to_le_bytes w32 (words * 2 ^ 8 % 2 ^ 32))) ≡ folded (others + words)
+pub total_shifted : (words others : ℕ) → words < 2 ^ 24
+    → folded (others + total (to_le_bytes w32 (words * 2 ^ 8 % 2 ^ 32))) ≡ folded (others + words)
 total_shifted words others fits =
-    sym (folded_congruent (others + words) (others + total (to_le_bytes w32 (words * 2 ^ 8 % 2 ^ 32))) (words / 65536) (omega arith) (λ z. omega arith))
+    sym (folded_congruent (others + words) (others + total (to_le_bytes w32 (words * 2 ^ 8 % 2 ^ 32))) (words / 65536) (omega arith)
+    (λ z. omega arith))
 
 -- the total of bytes is the total of a front with an even length plus the total of the rest
 pub total-front : (i : ℕ) (front back bytes : List ℕ) → i % 2 ≡ 0 → front ≡ take i bytes → back ≡ drop i bytes → i ≤ length bytes
@@ -125,7 +133,8 @@ folded_front i value front back bytes even is_front is_back long =
     ∙ ap (λ n. folded (value + n)) (total-front i front back bytes even is_front is_back long)
 
 -- adding the sum of a block adds the bytes of the block
-pub folded_block : (i value word : ℕ) (front back bytes : List ℕ) → i % 2 ≡ 0 → front ≡ take i bytes → back ≡ drop i bytes → i ≤ length bytes
+pub folded_block : (i value word : ℕ) (front back bytes : List ℕ) → i % 2 ≡ 0 → front ≡ take i bytes → back ≡ drop i bytes
+    → i ≤ length bytes
     → folded (word * 256) ≡ folded (total front) → folded (folded (value + word * 256) + total back) ≡ folded (value + total bytes)
 folded_block i value word front back bytes even is_front is_back long same =
     folded_twice value (word * 256) (total back)
@@ -147,7 +156,8 @@ folded_back rest value front last bytes few long even is_last is_front =
     ∙ ap (λ n. folded (value + n)) (omega arith)
 
 -- eight bytes as a little-endian number, shifted down by the bytes before the last bytes
-end_of_eight : (b0 b1 b2 b3 b4 b5 b6 b7 count : ℕ) → b0 < 256 → b1 < 256 → b2 < 256 → b3 < 256 → b4 < 256 → b5 < 256 → b6 < 256 → b7 < 256 → count < 8
+end_of_eight : (b0 b1 b2 b3 b4 b5 b6 b7 count : ℕ) → b0 < 256 → b1 < 256 → b2 < 256 → b3 < 256 → b4 < 256 → b5 < 256 → b6 < 256 → b7 < 256
+    → count < 8
     → folded (from_le_bytes w64 (b0 ∷ (b1 ∷ (b2 ∷ (b3 ∷ (b4 ∷ (b5 ∷ (b6 ∷ (b7 ∷ [])))))))) / 2 ^ 8 / 2 ^ (56 - 8 * count) * 256)
     ≡ folded (total (drop (8 - count) (b0 ∷ (b1 ∷ (b2 ∷ (b3 ∷ (b4 ∷ (b5 ∷ (b6 ∷ (b7 ∷ []))))))))))
 end_of_eight b0 b1 b2 b3 b4 b5 b6 b7 zero f0 f1 f2 f3 f4 f5 f6 f7 few =
@@ -165,8 +175,10 @@ end_of_eight b0 b1 b2 b3 b4 b5 b6 b7 (suc (suc (suc (suc (suc zero))))) f0 f1 f2
 end_of_eight b0 b1 b2 b3 b4 b5 b6 b7 (suc (suc (suc (suc (suc (suc zero)))))) f0 f1 f2 f3 f4 f5 f6 f7 few =
     folded_congruent _ _ (b3 + b4 * 256 + b5 * 65537 + b6 * 16777472 + b7 * 4295032833) (omega arith) (λ z. omega arith)
 end_of_eight b0 b1 b2 b3 b4 b5 b6 b7 (suc (suc (suc (suc (suc (suc (suc zero))))))) f0 f1 f2 f3 f4 f5 f6 f7 few =
-    folded_congruent _ _ (b2 + b3 * 256 + b4 * 65537 + b5 * 16777472 + b6 * 4295032833 + b7 * 1099528405248) (omega arith) (λ z. omega arith)
-end_of_eight b0 b1 b2 b3 b4 b5 b6 b7 (suc (suc (suc (suc (suc (suc (suc (suc count)))))))) f0 f1 f2 f3 f4 f5 f6 f7 few = absurd (omega arith)
+    folded_congruent _ _ (b2 + b3 * 256 + b4 * 65537 + b5 * 16777472 + b6 * 4295032833 + b7 * 1099528405248) (omega arith)
+    (λ z. omega arith)
+end_of_eight b0 b1 b2 b3 b4 b5 b6 b7 (suc (suc (suc (suc (suc (suc (suc (suc count)))))))) f0 f1 f2 f3 f4 f5 f6 f7 few =
+    absurd (omega arith)
 
 -- the last bytes of eight bytes, as the number of all eight bytes, shifted down
 pub folded_end : (bytes : List ℕ) (count : ℕ) → length bytes ≡ 8 → count < 8 → ((place : ℕ) → slice_index bytes place < 256)

@@ -6,12 +6,14 @@ use Rattle.ip_part.proofs.ipv6_options.find_option.Goals as goal
 
 pub returns-then-is_option-clause-found : goal.returns-then-is_option-clause-found
 returns-then-is_option-clause-found c =
-    found_at (specs.is_ipv6_option c.args.kind c.args.len) specs.ipv6_option c.args.options.now c.loop-option.rest.now c.in-Some.option.now c.loop-option.invariant
+    found_at (specs.is_ipv6_option c.args.kind c.args.len) specs.ipv6_option c.args.options.now c.loop-option.rest.now c.in-Some.option.now
+    c.loop-option.invariant
     c.in-Some.ensures.front (sym c.is_option.ensures.is ∙ c.if-is_option.true)
 
 pub loop-option-preserved : goal.loop-option-preserved
 loop-option-preserved c =
-    sought_next (specs.is_ipv6_option c.args.kind c.args.len) specs.ipv6_option c.args.options.now c.loop-option.rest.now c.in-Some.option.now _ c.loop-option.invariant
+    sought_next (specs.is_ipv6_option c.args.kind c.args.len) specs.ipv6_option c.args.options.now c.loop-option.rest.now
+    c.in-Some.option.now _ c.loop-option.invariant
     c.in-Some.ensures.front (sym c.is_option.ensures.is ∙ c.if-is_option.false) c.in-Some.ensures.within.0 c.in-Some.ensures.within.1
     (take_rest c.loop-option.rest.now (length c.in-Some.option.now))
 
@@ -23,5 +25,6 @@ pub returns-clause-found : goal.returns-clause-found
 returns-clause-found c =
     left_over
     (λ short. none_of_short c.args.kind c.args.len c.args.options.now c.loop-option.rest.now c.loop-option.invariant short)
-    (λ none. none_at (specs.is_ipv6_option c.args.kind c.args.len) specs.ipv6_option c.args.options.now c.loop-option.rest.now c.loop-option.invariant none)
+    (λ none. none_at (specs.is_ipv6_option c.args.kind c.args.len) specs.ipv6_option c.args.options.now c.loop-option.rest.now
+    c.loop-option.invariant none)
     c.in_default.ensures.front

@@ -7,7 +7,8 @@ use Rattle.ip_part.proofs.ipv6_options.home_address_after.Goals as goal
 pub loop-option-preserved : goal.loop-option-preserved
 loop-option-preserved c =
     rw c.home_address_or-address.ensures
-    (folded_next specs.ipv6_option specs.home_address_or c.args.source.now c.loop-option.address.now (drop 2 c.args.header.now) c.loop-option.rest.now
+    (folded_next specs.ipv6_option specs.home_address_or c.args.source.now c.loop-option.address.now
+    (drop 2 c.args.header.now) c.loop-option.rest.now
     c.in-Some.option.now _ c.loop-option.invariant c.in-Some.ensures.front c.in-Some.ensures.within.0 c.in-Some.ensures.within.1
     (take_rest c.loop-option.rest.now (length c.in-Some.option.now)))
 
@@ -18,7 +19,9 @@ left_over of_short of_none (inr none) = of_none none
 pub returns : goal.returns
 returns c =
     left_over
-    (λ short. folded_short c.args.source.now c.loop-option.address.now (drop 2 c.args.header.now) c.loop-option.rest.now c.loop-option.invariant short)
-    (λ none. folded_none specs.ipv6_option specs.home_address_or c.args.source.now c.loop-option.address.now (drop 2 c.args.header.now) c.loop-option.rest.now
+    (λ short. folded_short c.args.source.now c.loop-option.address.now
+    (drop 2 c.args.header.now) c.loop-option.rest.now c.loop-option.invariant short)
+    (λ none. folded_none specs.ipv6_option specs.home_address_or c.args.source.now c.loop-option.address.now
+    (drop 2 c.args.header.now) c.loop-option.rest.now
     c.loop-option.invariant none)
     c.in_default.ensures.front

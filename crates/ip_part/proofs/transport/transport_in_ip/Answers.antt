@@ -16,7 +16,8 @@ returns-clause-found c =
     let same : bytes ≡ counted false packet = ap (λ len. take len packet) c.in_ok-first.ensures.counted in
     record {
       headers = headers_by_value c.in_ok-headers.headers;
-      read = read_of_packet false packet bytes (headers_by_value c.in_ok-first.first) _ c.in_ok-first.ensures.first same c.in_ok-headers.ensures.read;
+      read = read_of_packet false packet bytes (headers_by_value c.in_ok-first.first) _ c.in_ok-first.ensures.first same
+          c.in_ok-headers.ensures.read;
       ended = c.in_ok-headers.ensures.ended;
       addresses = refl;
       protocol = refl;
@@ -58,5 +59,6 @@ returns-in_err-headers-clause-refused_after c =
     λ accepted whole. search (
       rules,
       refused_after false packet c.in_err-headers.field-0.0 there
-          (read_of_packet false packet bytes (headers_by_value c.in_ok-first.first) _ c.in_ok-first.ensures.first same c.in_err-headers.ensures.read),
+          (read_of_packet false packet bytes (headers_by_value c.in_ok-first.first) _ c.in_ok-first.ensures.first same
+          c.in_err-headers.ensures.read),
     )

@@ -21,10 +21,12 @@ returns-clause-found c =
     stated ∙ lax_is_counted packet ∙ ap (λ missing. counted_len missing packet) (sym missing) in
     let bytes : List ℕ = take c.min.result packet in
     let same : bytes ≡ counted c.is_none.result packet =
-    lax_bytes packet c.unwrap_or-counted_len.result c.min.result stated c.min.ensures ∙ ap (λ missing. counted missing packet) (sym missing) in
+    lax_bytes packet c.unwrap_or-counted_len.result c.min.result stated c.min.ensures
+    ∙ ap (λ missing. counted missing packet) (sym missing) in
     record {
       headers = headers_by_value c.in_ok-headers.headers;
-      read = read_of_packet c.is_none.result packet bytes (headers_by_value c.in_ok-first.first) _ c.in_ok-first.ensures.first same c.in_ok-headers.ensures.read;
+      read = read_of_packet c.is_none.result packet bytes
+          (headers_by_value c.in_ok-first.first) _ c.in_ok-first.ensures.first same c.in_ok-headers.ensures.read;
       ended = c.in_ok-headers.ensures.ended;
       addresses = refl;
       protocol = refl;
@@ -65,7 +67,8 @@ returns-clause-refused c =
     let same : bytes ≡ counted (lacks_len packet) packet =
     lax_bytes packet c.unwrap_or-counted_len.result c.min.result stated c.min.ensures in
     lax_answer packet (Ok (headers_by_value c.in_ok-headers.headers)) c.in_ok-first.ensures.refused
-    (read_of_packet (lacks_len packet) packet bytes (headers_by_value c.in_ok-first.first) _ c.in_ok-first.ensures.first same c.in_ok-headers.ensures.read)
+    (read_of_packet (lacks_len packet) packet bytes
+    (headers_by_value c.in_ok-first.first) _ c.in_ok-first.ensures.first same c.in_ok-headers.ensures.read)
 
 pub returns-in_err-headers-clause-refused : goal.returns-in_err-headers-clause-refused
 returns-in_err-headers-clause-refused c =
@@ -78,7 +81,8 @@ returns-in_err-headers-clause-refused c =
     search (
       rules,
       lax_answer packet (Err c.in_err-headers.field-0.0) c.in_ok-first.ensures.refused
-          (read_of_packet (lacks_len packet) packet bytes (headers_by_value c.in_ok-first.first) _ c.in_ok-first.ensures.first same c.in_err-headers.ensures.read),
+          (read_of_packet (lacks_len packet) packet bytes
+          (headers_by_value c.in_ok-first.first) _ c.in_ok-first.ensures.first same c.in_err-headers.ensures.read),
     )
 
 pub returns-in_err-headers-clause-as_strict : goal.returns-in_err-headers-clause-as_strict
@@ -90,7 +94,8 @@ returns-in_err-headers-clause-as_strict c =
     let same : bytes ≡ counted (lacks_len packet) packet =
     lax_bytes packet c.unwrap_or-counted_len.result c.min.result stated c.min.ensures in
     λ none. absurd (no_error packet c.in_err-headers.field-0.0
-    (read_of_packet (lacks_len packet) packet bytes (headers_by_value c.in_ok-first.first) _ c.in_ok-first.ensures.first same c.in_err-headers.ensures.read) none)
+    (read_of_packet (lacks_len packet) packet bytes
+    (headers_by_value c.in_ok-first.first) _ c.in_ok-first.ensures.first same c.in_err-headers.ensures.read) none)
 
 -- the header is within the stated length and within the captured bytes
 at_most_counted : (stated : Option ℕ) (n len : ℕ) → IfSome stated (λ counts. n ≤ counts) → n ≤ len → n ≤ unwrap_or stated len
@@ -107,7 +112,8 @@ returns-in_err-headers-clause-refused_after c =
     lax_bytes packet c.unwrap_or-counted_len.result c.min.result stated c.min.ensures in
     let within : c.in_ok-first.first.len ≤ c.unwrap_or-counted_len.result =
     subst (λ len. c.in_ok-first.first.len ≤ len) (sym c.unwrap_or-counted_len.ensures)
-    (at_most_counted c.in_ok-first.stated_len c.in_ok-first.first.len (length packet) c.in_ok-first.ensures.counted c.in_ok-first.ensures.within) in
+    (at_most_counted c.in_ok-first.stated_len c.in_ok-first.first.len
+    (length packet) c.in_ok-first.ensures.counted c.in_ok-first.ensures.within) in
     let there : c.in_ok-first.first.len ≤ length bytes =
     omega (arith, within, c.in_ok-first.ensures.within, c.min.ensures, length-take c.min.result packet) in
     let there_too : (first_headers packet).len ≤ length (counted (lacks_len packet) packet) =
@@ -115,5 +121,6 @@ returns-in_err-headers-clause-refused_after c =
     λ accepted. search (
       rules,
       refused_after (lacks_len packet) packet c.in_err-headers.field-0.0 there_too
-          (read_of_packet (lacks_len packet) packet bytes (headers_by_value c.in_ok-first.first) _ c.in_ok-first.ensures.first same c.in_err-headers.ensures.read),
+          (read_of_packet (lacks_len packet) packet bytes
+          (headers_by_value c.in_ok-first.first) _ c.in_ok-first.ensures.first same c.in_err-headers.ensures.read),
     )

@@ -20,5 +20,10 @@ returns-clause-some c = λ some.
     let even_too : length c.args.destination ≡ 4 = search rules in
     let back = 0 ∷ c.args.protocol.0 ∷ to_be_bytes w16 c.args.len in
     let pseudo_header = total-append_twice c.args.source c.args.destination back (omega arith) (omega arith) in
-    let there : 0 < total (ipv4_pseudo_header c.args.source c.args.destination c.args.protocol.0 c.args.len) = omega (arith, some, pseudo_header) in
-    omega (arith, returns-clause-sum c, folded-some (total (ipv4_pseudo_header c.args.source c.args.destination c.args.protocol.0 c.args.len)) there)
+    let there : 0 < total (ipv4_pseudo_header c.args.source c.args.destination c.args.protocol.0 c.args.len) =
+    omega (arith, some, pseudo_header) in
+    omega (
+      arith,
+      returns-clause-sum c,
+      folded-some (total (ipv4_pseudo_header c.args.source c.args.destination c.args.protocol.0 c.args.len)) there,
+    )

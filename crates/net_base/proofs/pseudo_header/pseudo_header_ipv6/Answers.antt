@@ -20,5 +20,10 @@ returns-clause-some c = λ some.
     let even_too : length c.args.destination ≡ 16 = search rules in
     let back = to_be_bytes w32 c.args.len ++ (0 ∷ 0 ∷ 0 ∷ c.args.protocol.0 ∷ []) in
     let pseudo_header = total-append_twice c.args.source c.args.destination back (omega arith) (omega arith) in
-    let there : 0 < total (ipv6_pseudo_header c.args.source c.args.destination c.args.protocol.0 c.args.len) = omega (arith, some, pseudo_header) in
-    omega (arith, returns-clause-sum c, folded-some (total (ipv6_pseudo_header c.args.source c.args.destination c.args.protocol.0 c.args.len)) there)
+    let there : 0 < total (ipv6_pseudo_header c.args.source c.args.destination c.args.protocol.0 c.args.len) =
+    omega (arith, some, pseudo_header) in
+    omega (
+      arith,
+      returns-clause-sum c,
+      folded-some (total (ipv6_pseudo_header c.args.source c.args.destination c.args.protocol.0 c.args.len)) there,
+    )

@@ -24,5 +24,6 @@ returns-clause-agrees c = λ five whole.
 
 pub returns-clause-valid : goal.returns-clause-valid
 returns-clause-valid c = λ even.
-    built_valid max_len_over_ipv6 (ipv6_pseudo_header c.args.source c.args.destination 6) c.args.header.now c.args.payload.now _ (omega arith) even (search rules)
+    built_valid max_len_over_ipv6 (ipv6_pseudo_header c.args.source c.args.destination 6) c.args.header.now c.args.payload.now _
+    (omega arith) even (search rules)
     (omega (arith, c.in_ok-len.ensures.len)) (returns-clause-verifies c)

@@ -11,4 +11,7 @@ returns c =
     let second : IsPair c.pair_at.result = search rules in
     let third : IsPair c.pair_at-2.result = search rules in
     let fourth : IsPair c.pair_at-3.result = search rules in
-    record { read = four_blocks_alone value _ _ _ _ whole c.pair_at-first.ensures c.pair_at.ensures c.pair_at-2.ensures c.pair_at-3.ensures first second third fourth }
+    record {
+      read = four_blocks_alone value _ _ _ _ whole c.pair_at-first.ensures c.pair_at.ensures c.pair_at-2.ensures c.pair_at-3.ensures
+          first second third fourth;
+    }

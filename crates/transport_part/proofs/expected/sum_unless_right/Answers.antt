@@ -11,7 +11,8 @@ pub returns-then-ones_complement-eq0 : goal.returns-then-ones_complement-eq0
 returns-then-ones_complement-eq0 c =
     let n = sum_value c.args.pseudo_header + total (with_checksum c.args.place c.args.packet.now 0) in
     let stored = be_number c.args.packet.now c.args.place 2 in
-    let sum = c.add_slice-sum.ensures.sum ∙ stored_in_sum (sum_value c.args.pseudo_header) c.args.place c.args.packet.now c.requires.there c.requires.even in
+    let sum = c.add_slice-sum.ensures.sum ∙ stored_in_sum (sum_value c.args.pseudo_header) c.args.place c.args.packet.now c.requires.there
+    c.requires.even in
     let tested : c.ones_complement.result ≡ complement (folded (n + stored)) = c.ones_complement.ensures ∙ ap complement sum in
     folded-add n stored ∙ omega (arith, tested, c.if-ones_complement-eq0.true, folded-lt (n + stored))
 
@@ -19,7 +20,8 @@ pub returns : goal.returns
 returns c =
     let n : ℕ = sum_value c.args.pseudo_header + total (with_checksum c.args.place c.args.packet.now 0) in
     let stored : ℕ = be_number c.args.packet.now c.args.place 2 in
-    let sum = c.add_slice-sum.ensures.sum ∙ stored_in_sum (sum_value c.args.pseudo_header) c.args.place c.args.packet.now c.requires.there c.requires.even in
+    let sum = c.add_slice-sum.ensures.sum ∙ stored_in_sum (sum_value c.args.pseudo_header) c.args.place c.args.packet.now c.requires.there
+    c.requires.even in
     let tested : c.ones_complement.result ≡ complement (folded (n + stored)) = c.ones_complement.ensures ∙ ap complement sum in
     let small : stored < 65536 = search (rules, arith) in
     let is_stored : c.from_be_bytes-stored.result ≡ stored = search (rules, arith) in

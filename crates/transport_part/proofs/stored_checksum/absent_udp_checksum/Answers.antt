@@ -15,6 +15,8 @@ returns-clause-right c =
     let pseudo = rw c.slice-bytes.ensures.bytes at c.pseudo_header_ipv4.ensures.sum in
     let added = rw c.slice-bytes.ensures.bytes at c.add_slice.ensures.sum in
     let stored = stored_in_sum (sum_value c.pseudo_header_ipv4.result) 6 c.args.packet.now (omega (arith, header)) (omega arith) in
-    let sum = added ∙ stored ∙ ap (λ n. folded (sum_value c.pseudo_header_ipv4.result + total (with_checksum 6 c.args.packet.now 0) + n)) c.requires.absent in
+    let sum = added ∙ stored ∙ ap (λ n. folded (sum_value c.pseudo_header_ipv4.result + total (with_checksum 6 c.args.packet.now 0) + n))
+    c.requires.absent in
     verifies_expected_udp max_len_over_ipv4 (ipv4_pseudo_header c.args.source c.args.destination 17) 6 c.args.packet.now _ _ _
-    (omega (arith, header)) (omega arith) c.requires.counted pseudo refl (c.to_ones_complement_with_no_zero.ensures ∙ ap (λ n. zero_as_all_ones (complement n)) (sum ∙ ap folded (omega arith)))
+    (omega (arith, header)) (omega arith) c.requires.counted pseudo refl
+    (c.to_ones_complement_with_no_zero.ensures ∙ ap (λ n. zero_as_all_ones (complement n)) (sum ∙ ap folded (omega arith)))

@@ -3,16 +3,20 @@ use Rattle.word_sum.proofs.checksum_change.updated_checksum.Goals as goal
 
 pub returns-clause-updated : goal.returns-clause-updated
 returns-clause-updated c packet changed replaced =
-    c.apply.ensures.updated (total packet) (total changed) (c.replace_slice.ensures.replaces (total packet) packet changed replaced (c.new.ensures.unchanged (total packet)))
+    c.apply.ensures.updated (total packet) (total changed)
+    (c.replace_slice.ensures.replaces (total packet) packet changed replaced (c.new.ensures.unchanged (total packet)))
 
 pub returns-clause-zeros : goal.returns-clause-zeros
 returns-clause-zeros c packet changed replaced =
-    c.apply.ensures.zeros (total packet) (total changed) (c.replace_slice.ensures.replaces (total packet) packet changed replaced (c.new.ensures.unchanged (total packet)))
+    c.apply.ensures.zeros (total packet) (total changed)
+    (c.replace_slice.ensures.replaces (total packet) packet changed replaced (c.new.ensures.unchanged (total packet)))
 
 pub returns-clause-remainder : goal.returns-clause-remainder
 returns-clause-remainder c packet changed replaced =
-    c.apply.ensures.remainder (total packet) (total changed) (c.replace_slice.ensures.replaces (total packet) packet changed replaced (c.new.ensures.unchanged (total packet)))
+    c.apply.ensures.remainder (total packet) (total changed)
+    (c.replace_slice.ensures.replaces (total packet) packet changed replaced (c.new.ensures.unchanged (total packet)))
 
 pub returns-clause-verifies : goal.returns-clause-verifies
 returns-clause-verifies c packet changed replaced =
-    c.apply.ensures.verifies (total packet) (total changed) (c.replace_slice.ensures.replaces (total packet) packet changed replaced (c.new.ensures.unchanged (total packet)))
+    c.apply.ensures.verifies (total packet) (total changed)
+    (c.replace_slice.ensures.replaces (total packet) packet changed replaced (c.new.ensures.unchanged (total packet)))

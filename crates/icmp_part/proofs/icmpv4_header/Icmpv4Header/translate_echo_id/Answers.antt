@@ -10,7 +10,8 @@ turns c payload =
     let packet = message_sum c.args.self.now.icmp_type payload in
     c.replace_2bytes-change.ensures.extends packet packet _
     (rw (c.to_be_bytes.ensures, c.to_be_bytes-2.ensures)
-    (echo_id_replaced c.args.self.now.icmp_type c.replace_echo_id.new.self c.in_ok-old.old c.args.id payload c.in_ok-old.ensures.was c.replace_echo_id.ensures.replaced))
+    (echo_id_replaced c.args.self.now.icmp_type c.replace_echo_id.new.self c.in_ok-old.old c.args.id payload c.in_ok-old.ensures.was
+    c.replace_echo_id.ensures.replaced))
     (c.new.ensures.unchanged packet)
 
 pub returns-clause-updated : goal.returns-clause-updated

@@ -9,5 +9,14 @@ returns-in-Some-clause-sum c =
     let start = ap (λ start. total (header_bytes start 0)) c.start.ensures.written in
     let id_and_seq = ap (λ fields. total (take 4 fields)) c.in-Some.ensures in
     let fields = ap total c.in-Some.ensures in
-    rw (c.add_4bytes-in-Some-2.ensures, c.to_be_bytes-in-Some-2.ensures, c.add_4bytes-in-Some.ensures, c.to_be_bytes-in-Some.ensures, c.add_4bytes.ensures, c.to_be_bytes.ensures, c.add_to-start.ensures, c.new.ensures)
+    rw (
+      c.add_4bytes-in-Some-2.ensures,
+      c.to_be_bytes-in-Some-2.ensures,
+      c.add_4bytes-in-Some.ensures,
+      c.to_be_bytes-in-Some.ensures,
+      c.add_4bytes.ensures,
+      c.to_be_bytes.ensures,
+      c.add_to-start.ensures,
+      c.new.ensures,
+    )
     (simp folded_twice (ap folded (omega (arith, start, id_and_seq, fields))))

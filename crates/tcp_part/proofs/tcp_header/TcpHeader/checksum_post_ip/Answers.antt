@@ -21,5 +21,15 @@ returns-clause-sum c =
     let room : words < 16777216 = omega arith in
     let others = sum_value c.args.pseudo_header + (h.sequence_number / 65536 + h.sequence_number % 65536)
     + (h.acknowledgment_number / 65536 + h.acknowledgment_number % 65536) + (total h.options + total c.args.payload.now) in
-    rw (c.ones_complement.ensures, c.add_slice.ensures.sum, c.add_options.ensures, c.add_4bytes-fields.ensures, c.add_4bytes-2.ensures, c.add_4bytes.ensures, c.to_le_bytes.ensures, c.to_be_bytes.ensures, c.to_be_bytes-2.ensures)
+    rw (
+      c.ones_complement.ensures,
+      c.add_slice.ensures.sum,
+      c.add_options.ensures,
+      c.add_4bytes-fields.ensures,
+      c.add_4bytes-2.ensures,
+      c.add_4bytes.ensures,
+      c.to_le_bytes.ensures,
+      c.to_be_bytes.ensures,
+      c.to_be_bytes-2.ensures,
+    )
     (simp folded_twice (ap complement (ap folded (omega arith) ∙ total_shifted words others room ∙ ap folded (omega arith))))

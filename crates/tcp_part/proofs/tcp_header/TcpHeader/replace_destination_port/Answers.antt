@@ -21,5 +21,7 @@ returns-clause-updated c old new payload addresses some right =
 
 pub returns-clause-verifies : goal.returns-clause-verifies
 returns-clause-verifies c old new payload addresses some some_too =
-    verifies_alike (checksummed_by old c.args.self.now payload) (checksummed_by new (record c.args.self.now { destination_port = c.args.port; checksum = c.apply-self.result }) payload) c.args.self.now.checksum c.apply-self.result
+    verifies_alike (checksummed_by old c.args.self.now payload)
+    (checksummed_by new (record c.args.self.now { destination_port = c.args.port; checksum = c.apply-self.result }) payload)
+    c.args.self.now.checksum c.apply-self.result
     (c.apply-self.ensures.remainder _ _ (turns c old new payload addresses)) some some_too

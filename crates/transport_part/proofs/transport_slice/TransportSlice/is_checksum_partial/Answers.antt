@@ -9,4 +9,5 @@ use Rattle.transport_part.proofs.transport_slice.TransportSlice.is_checksum_part
 pub returns-in-Some-clause-partial : goal.returns-in-Some-clause-partial
 returns-in-Some-clause-partial c =
     partial_tested (pseudo_header_over (by_value c.args.addresses) c.args.self.now) c.args.self.now (sum_value c.in-Some.sum) _ _
-    (sym (ap (option_map sum_value) c.in-Some.is) ∙ c.pseudo_header_over.ensures.sum) c.ones_complement.ensures c.stored_checksum.ensures.stored
+    (sym (ap (option_map sum_value) c.in-Some.is) ∙ c.pseudo_header_over.ensures.sum) c.ones_complement.ensures
+    c.stored_checksum.ensures.stored

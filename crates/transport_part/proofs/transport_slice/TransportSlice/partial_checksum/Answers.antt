@@ -16,4 +16,5 @@ pub returns-in-Some-clause-partial : goal.returns-in-Some-clause-partial
 returns-in-Some-clause-partial c =
     let header : Option (List ℕ) = pseudo_header_over (by_value c.args.addresses) c.args.self.now in
     let is : Some (65535 - c.ones_complement.result) ≡ option_map (λ bytes. folded (total bytes)) header = returns-in-Some-clause-sum c in
-    partial_with (by_value c.args.addresses) c.args.self.now (65535 - c.ones_complement.result) c.pseudo_header_over.ensures.long (search (rules, arith)) is
+    partial_with (by_value c.args.addresses) c.args.self.now (65535 - c.ones_complement.result) c.pseudo_header_over.ensures.long
+    (search (rules, arith)) is

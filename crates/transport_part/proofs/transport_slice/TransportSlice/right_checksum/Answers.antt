@@ -7,14 +7,18 @@ use Rattle.transport_part.proofs.transport_slice.TransportSlice.right_checksum.G
 
 pub returns-in-Right-clause-right : goal.returns-in-Right-clause-right
 returns-in-Right-clause-right c =
-    judged_right (by_value c.args.addresses) c.args.self.now verdicts.Right c.stored_checksum-stored.result c.stored_checksum-stored.ensures.bytes
+    judged_right (by_value c.args.addresses) c.args.self.now verdicts.Right c.stored_checksum-stored.result
+    c.stored_checksum-stored.ensures.bytes
     c.stored_checksum-stored.ensures.long tt (λ is. cc is)
-    (subst (Judges (by_value c.args.addresses) c.args.self.now) c.in-Right.is c.checksum_verdict.ensures.judged) c.stored_checksum-stored.ensures.stored
+    (subst (Judges (by_value c.args.addresses) c.args.self.now) c.in-Right.is c.checksum_verdict.ensures.judged)
+    c.stored_checksum-stored.ensures.stored
 
 pub returns-in-Absent-clause-chosen : goal.returns-in-Absent-clause-chosen
 returns-in-Absent-clause-chosen c =
-    chosen_by (by_value c.args.addresses) c.args.self.now verdicts.Absent _ c.absent_checksum.result c.checksum_verdict.ensures.one_verdict tt
-    (subst (Judges (by_value c.args.addresses) c.args.self.now) c.in-Absent.is c.checksum_verdict.ensures.judged) c.absent_checksum.ensures.some
+    chosen_by (by_value c.args.addresses) c.args.self.now verdicts.Absent _ c.absent_checksum.result c.checksum_verdict.ensures.one_verdict
+    tt
+    (subst (Judges (by_value c.args.addresses) c.args.self.now) c.in-Absent.is c.checksum_verdict.ensures.judged)
+    c.absent_checksum.ensures.some
 
 pub returns-in-Wrong-clause-chosen : goal.returns-in-Wrong-clause-chosen
 returns-in-Wrong-clause-chosen c =

@@ -10,5 +10,11 @@ returns c =
     let even_too : length c.args.destination ≡ 4 = search rules in
     let after = 0 ∷ 17 ∷ to_be_bytes w16 c.args.self.now.length in
     let pseudo_header = total-append_twice c.args.source c.args.destination after (omega arith) (omega arith) in
-    rw (c.to_ones_complement_with_no_zero.ensures, c.add_slice.ensures.sum, c.add_4bytes-2.ensures, c.add_4bytes.ensures, c.sum_of_fields.ensures.sum)
+    rw (
+      c.to_ones_complement_with_no_zero.ensures,
+      c.add_slice.ensures.sum,
+      c.add_4bytes-2.ensures,
+      c.add_4bytes.ensures,
+      c.sum_of_fields.ensures.sum,
+    )
     (simp folded_twice (ap (λ n. zero_as_all_ones (complement (folded n))) (omega (arith, c.sum_of_fields.ensures.fits))))

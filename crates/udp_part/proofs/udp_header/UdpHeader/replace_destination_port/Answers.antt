@@ -15,7 +15,9 @@ turns c old new payload addresses =
     addresses
 
 pub returns-clause-updated : goal.returns-clause-updated
-returns-clause-updated c old new payload addresses = c.apply_udp-self.ensures.updated _ _ (turns c (old c.args.self.now.length) (new c.args.self.now.length) payload addresses)
+returns-clause-updated c old new payload addresses =
+    c.apply_udp-self.ensures.updated _ _ (turns c (old c.args.self.now.length) (new c.args.self.now.length) payload addresses)
 
 pub returns-clause-verifies : goal.returns-clause-verifies
-returns-clause-verifies c old new payload addresses = c.apply_udp-self.ensures.verifies _ _ (turns c (old c.args.self.now.length) (new c.args.self.now.length) payload addresses)
+returns-clause-verifies c old new payload addresses =
+    c.apply_udp-self.ensures.verifies _ _ (turns c (old c.args.self.now.length) (new c.args.self.now.length) payload addresses)

@@ -6,17 +6,22 @@ use Rattle.udp_part.proofs.TranslationLemmas.{destination_replaced_ipv4}
 use Rattle.udp_part.proofs.udp_header.UdpHeader.translate_destination_ipv4.Goals as goal
 
 turns : (c : goal.After-replace_destination_port) (source payload : List ℕ) → length source ≡ 4
-    → TurnsInto c.replace_4bytes.result (checksummed_ipv4 source c.args.old c.args.self.now payload) (checksummed_ipv4 source c.args.new c.args.self.now payload)
+    → TurnsInto c.replace_4bytes.result (checksummed_ipv4 source c.args.old c.args.self.now payload)
+    (checksummed_ipv4 source c.args.new c.args.self.now payload)
 turns c source payload address =
     let old_len : length c.args.old ≡ 4 = search rules in
     let new_len : length c.args.new ≡ 4 = search rules in
     let packet = checksummed_ipv4 source c.args.old c.args.self.now payload in
-    c.replace_4bytes.ensures.extends packet packet _ (destination_replaced_ipv4 source c.args.old c.args.new c.args.self.now payload (omega (arith, address)) (omega arith)) (c.new.ensures.unchanged packet)
+    c.replace_4bytes.ensures.extends packet packet _
+    (destination_replaced_ipv4 source c.args.old c.args.new c.args.self.now payload (omega (arith, address)) (omega arith))
+    (c.new.ensures.unchanged packet)
 
 pub returns-clause-updated : goal.returns-clause-updated
 returns-clause-updated c source payload address =
-    c.replace_destination_port.ensures.updated (λ len. ipv4_pseudo_header source c.args.old 17 len) (λ len. ipv4_pseudo_header source c.args.new 17 len) payload (turns c source payload address)
+    c.replace_destination_port.ensures.updated (λ len. ipv4_pseudo_header source c.args.old 17 len)
+    (λ len. ipv4_pseudo_header source c.args.new 17 len) payload (turns c source payload address)
 
 pub returns-clause-verifies : goal.returns-clause-verifies
 returns-clause-verifies c source payload address =
-    c.replace_destination_port.ensures.verifies (λ len. ipv4_pseudo_header source c.args.old 17 len) (λ len. ipv4_pseudo_header source c.args.new 17 len) payload (turns c source payload address)
+    c.replace_destination_port.ensures.verifies (λ len. ipv4_pseudo_header source c.args.old 17 len)
+    (λ len. ipv4_pseudo_header source c.args.new 17 len) payload (turns c source payload address)

@@ -28,12 +28,15 @@ loop-chunk-preserved g c =
     record {
       summed =
           folded-add_alike _ _ (total others) (total others)
-          (folded_times_256 (low + from_bool carried) (word + from_bool carry + number) (folded_carried word number low carry carried c.add_with_carry-sum.ensures))
+          (folded_times_256 (low + from_bool carried) (word + from_bool carry + number)
+          (folded_carried word number low carry carried c.add_with_carry-sum.ensures))
           refl
           ∙ ap folded (omega arith)
-          ∙ folded-add_alike ((word + from_bool carry) * 256 + total others) ((word + from_bool carry) * 256 + total others) (number * 256) (total chunk) refl words
+          ∙ folded-add_alike ((word + from_bool carry) * 256 + total others) ((word + from_bool carry) * 256 + total others) (number * 256)
+          (total chunk) refl words
           ∙ ap folded (omega arith)
           ∙ c.loop-chunk.invariant.summed;
-      fits = carried-fits word number low carry carried c.loop-chunk.invariant.fits (omega arith) (omega arith) c.add_with_carry-sum.ensures;
+      fits = carried-fits word number low carry carried c.loop-chunk.invariant.fits (omega arith)
+          (omega arith) c.add_with_carry-sum.ensures;
       whole = omega arith;
     }

@@ -8,4 +8,5 @@ returns-clause-extends c =
 
 pub returns-clause-replaces : goal.returns-clause-replaces
 returns-clause-replaces c =
-    replaces c.args.self record { removed = c.add_2bytes.result; added = c.add_2bytes-2.result } c.args.old c.args.new (returns-clause-extends c)
+    replaces c.args.self record { removed = c.add_2bytes.result; added = c.add_2bytes-2.result } c.args.old c.args.new
+    (returns-clause-extends c)

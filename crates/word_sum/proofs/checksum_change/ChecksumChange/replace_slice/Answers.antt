@@ -8,4 +8,5 @@ returns-clause-extends c =
 
 pub returns-clause-replaces : goal.returns-clause-replaces
 returns-clause-replaces c =
-    replaces c.args.self record { removed = c.add_slice.result; added = c.add_slice-2.result } c.args.old.now c.args.new.now (returns-clause-extends c)
+    replaces c.args.self record { removed = c.add_slice.result; added = c.add_slice-2.result } c.args.old.now c.args.new.now
+    (returns-clause-extends c)

@@ -6,7 +6,13 @@ use Rattle.icmp_part.proofs.icmpv4.timestamp_message.TimestampMessage.to_bytes.G
 pub returns-clause-read_back : goal.returns-clause-read_back
 returns-clause-read_back c =
     let fit : TimestampFits c.args.self.now = (omega arith, omega arith, omega arith, omega arith, omega arith) in
-    rw (c.to_be_bytes-id.ensures, c.to_be_bytes-seq.ensures, c.to_be_bytes-originate.ensures, c.to_be_bytes-receive.ensures, c.to_be_bytes-transmit.ensures)
+    rw (
+      c.to_be_bytes-id.ensures,
+      c.to_be_bytes-seq.ensures,
+      c.to_be_bytes-originate.ensures,
+      c.to_be_bytes-receive.ensures,
+      c.to_be_bytes-transmit.ensures,
+    )
     (timestamp_fields_read c.args.self.now fit)
 
 pub returns-clause-fits : goal.returns-clause-fits

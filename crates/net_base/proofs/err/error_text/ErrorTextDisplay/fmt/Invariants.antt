@@ -7,4 +7,5 @@ use Rattle.net_base.proofs.err.error_text.ErrorTextDisplay.fmt.Given as goal
 -- the parts so far were written
 abbrev pub invariant-loop-part : goal.invariant-loop-part
 invariant-loop-part g l =
-    IsPlainFormatter l.initial.f → HasWritten g.W.Write.write_str_gives l.initial.f (flat_map part_text (take l.part-index l.part-items)) l.f
+    IsPlainFormatter l.initial.f → HasWritten g.W.Write.write_str_gives l.initial.f
+    (flat_map part_text (take l.part-index l.part-items)) l.f
