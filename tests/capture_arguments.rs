@@ -1,9 +1,7 @@
 //! Tests of the crate `capture_arguments`: the command line of the program `capture_report`.
 
 use crate::expect::{expect_at, expect_equal, expect_ok, expect_some};
-use capture_arguments::{
-    Arguments, is_filter, no_capture, output_is_capture, requested_options, words_of,
-};
+use capture_arguments::{Arguments, no_capture, output_is_capture, requested_options, words_of};
 use std::env::FillError;
 use std::io::ErrorKind;
 use std::process::Abort;
@@ -245,8 +243,6 @@ fn filters_among_several_captures_get_a_hint(rt: HostRuntime) {
     for row in &SEVERAL {
         expect_hint(&rt, row);
     }
-    expect_equal(&rt, &is_filter("portrange 1-2"), &true);
-    expect_equal(&rt, &is_filter("ports.pcap"), &false);
 }
 
 #[test]

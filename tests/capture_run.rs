@@ -483,7 +483,7 @@ static OF_PORTS: [PortRow; 4] = [
     (11, 0, ["", "", "file type classic, byte order big-endian, snap length 0, time resolution 10^-6 s\npackets 0, bytes 0\n"]),
 ];
 
-/// The report of the packets of this port, with a limit of packets if there is one.
+/// The report of the packets of this port, with a limit of lines if there is one.
 fn parts_of_port(port: u16, check: bool, limit: Option<u64>) -> Parts {
     let mut ports = [None; MAX_CHOSEN];
     ports[0] = Some(PortRange {
@@ -543,7 +543,7 @@ fn expect_limit(rt: &(impl Abort + AllocGlobal + RandomSource), whole: &[u8], ro
 }
 
 #[test]
-fn the_report_ends_after_a_number_of_packets(rt: HostRuntime) {
+fn the_report_ends_after_a_number_of_lines(rt: HostRuntime) {
     let whole = two_packets(&rt, 10);
     for row in &LIMITS {
         expect_limit(&rt, &whole, row);

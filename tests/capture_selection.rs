@@ -77,7 +77,7 @@ type SelectionRow = (
 );
 
 #[rattlefmt::skip]
-static SELECTIONS: [SelectionRow; 9] = [
+static SELECTIONS: [SelectionRow; 10] = [
     (None, Lines::All, None, (24, 114), (2, 2, 2)),
     (None, Lines::Wrong, None, (69, 114), (2, 2, 1)),
     (None, Lines::None, None, (24, 24), (2, 2, 0)),
@@ -86,7 +86,9 @@ static SELECTIONS: [SelectionRow; 9] = [
     (Some(9), Lines::Wrong, None, (24, 24), (2, 1, 0)),
     (None, Lines::All, Some(1), (24, 69), (1, 1, 1)),
     (Some(10), Lines::All, Some(1), (69, 114), (2, 1, 1)),
-    (None, Lines::Wrong, Some(1), (24, 24), (1, 1, 0)),
+    // A packet that is not written does not count towards the limit.
+    (None, Lines::Wrong, Some(1), (69, 114), (2, 2, 1)),
+    (None, Lines::None, Some(1), (24, 24), (2, 2, 0)),
 ];
 
 /// Stops the test unless this many packets are read, chosen and written.

@@ -68,6 +68,10 @@ enum Asked {
     CheckedLines,
     /// Only the lines of packets that are wrong or refused.
     WrongLines,
+    /// The first line of a packet that is wrong or refused, and the summary.
+    FirstWrong,
+    /// The summary of the first packet.
+    SummaryOfOne,
     /// Nothing but the exit status of a check.
     OnlyStatus,
     /// Nothing but the summary.
@@ -80,13 +84,15 @@ enum Asked {
     AllOfTwo,
 }
 
-/// The lines of the report, whether it has a summary and a check, its format, and its limit of packets.
+/// The lines of the report, whether it has a summary and a check, its format, and its limit of lines.
 fn options_of(asked: Asked) -> (Lines, bool, bool, Format, Option<u64>) {
     match asked {
         Asked::All => (Lines::All, true, false, Format::Text, None),
         Asked::CheckedAll => (Lines::All, true, true, Format::Text, None),
         Asked::CheckedLines => (Lines::All, false, true, Format::Text, None),
         Asked::WrongLines => (Lines::Wrong, false, false, Format::Text, None),
+        Asked::FirstWrong => (Lines::Wrong, true, false, Format::Text, Some(1)),
+        Asked::SummaryOfOne => (Lines::None, true, false, Format::Text, Some(1)),
         Asked::OnlyStatus => (Lines::None, false, true, Format::Text, None),
         Asked::OnlySummary => (Lines::None, true, false, Format::Text, None),
         Asked::AllObjects => (Lines::All, true, false, Format::Json, None),
@@ -124,7 +130,7 @@ type RunRow = (
 
 /// At most one name: there is no heading, and an error names the capture.
 #[rattlefmt::skip]
-static RUNS_OF_ONE: [RunRow; 15] = [
+static RUNS_OF_ONE: [RunRow; 18] = [
     (&[], Asked::CheckedLines, 0, LINE, ""),
     (&["-"], Asked::CheckedLines, 0, LINE, ""),
     (&["right"], Asked::OnlyObjects, 0, RIGHT_OBJECT, ""),
@@ -141,7 +147,10 @@ static RUNS_OF_ONE: [RunRow; 15] = [
     (&["tcp"], Asked::CheckedLines, 3, "", "capture_report: tcp: entity not found; filters are --host, --port and --protocol\n"),
     (&["portrange"], Asked::CheckedLines, 3, "", "capture_report: portrange: entity not found; filters are --host, --port and --protocol\n"),
     (&["tcp port 80"], Asked::CheckedLines, 3, "", "capture_report: tcp port 80: entity not found; filters are --host, --port and --protocol\n"),
+    (&["vlan 10"], Asked::CheckedLines, 3, "", "capture_report: vlan 10: entity not found; filters are --host, --port and --protocol\n"),
+    (&["greater 100"], Asked::CheckedLines, 3, "", "capture_report: greater 100: entity not found; filters are --host, --port and --protocol\n"),
     (&["a tcp"], Asked::CheckedLines, 3, "", "capture_report: a tcp: entity not found\n"),
+    (&["lesser"], Asked::CheckedLines, 3, "", "capture_report: lesser: entity not found\n"),
     (&["version"], Asked::CheckedLines, 1, "", "capture_report: version: The capture has version 2.3, which is not read.\n"),
     (&["link"], Asked::CheckedLines, 0, "1 00:00:00.000000 length 29: link type 147\n", ""),
 ];
@@ -288,8 +297,45 @@ fn standard_input_that_cannot_be_opened(rt: HostRuntime) {
 /// the totals of all captures.
 type SummaryRow = (&'static [&'static str], Asked, u8, [&'static str; 3]);
 
+/// An empty line, and what the capture is.
+const FACTS: &str =
+    "\nfile type classic, byte order big-endian, snap length 0, time resolution 10^-6 s\n";
+
+/// What the capture is, without an empty line before it.
+const FACTS_ALONE: &str =
+    "file type classic, byte order big-endian, snap length 0, time resolution 10^-6 s\n";
+
+const RIGHT_AND_MISSING: &str = "==> right <==\n\n==> missing <==\n";
+
+const ONLY_WRONG: &str = "\
+==> wrong <==
+1 00:00:00.000000 length 29: 192.0.2.1:263 > 192.0.2.2:9 UDP length 9, payload 1; checksum wrong, 18C8 expected
+";
+
+const TO_WRONG: &str = "\
+==> right <==
+
+==> wrong <==
+1 00:00:00.000000 length 29: 192.0.2.1:263 > 192.0.2.2:9 UDP length 9, payload 1; checksum wrong, 18C8 expected
+";
+
+const TO_ZERO: &str = "\
+==> right <==
+
+==> zero <==
+1 00:00:00.000000 length 29: 192.0.2.1:7 > 192.0.2.2:9 UDP, payload 9; refused: UDP header needs 8 bytes, the UDP length is 0
+";
+
 #[rattlefmt::skip]
-static SUMMARIES: [SummaryRow; 5] = [
+static SUMMARIES: [SummaryRow; 11] = [
+    // Only one capture is read, and its packet has no line.
+    (&["right", "missing"], Asked::FirstWrong, 3, [RIGHT_AND_MISSING, FACTS, "packets 1, bytes 29, bytes a packet 29\n"]),
+    (&["missing", "right"], Asked::FirstWrong, 3, ["==> missing <==\n\n==> right <==\n", FACTS, "packets 1, bytes 29, bytes a packet 29\n"]),
+    // A packet without a line does not count towards the limit. Without lines each packet counts.
+    (&["right", "wrong", "zero", "missing"], Asked::FirstWrong, 0, [TO_WRONG, "\n", "packets 2, bytes 58, bytes a packet 29\nconversations 2\n"]),
+    (&["right", "zero", "wrong", "missing"], Asked::FirstWrong, 0, [TO_ZERO, "\n", "packets 2, bytes 58, bytes a packet 29\nconversations 1\n"]),
+    (&["wrong", "missing"], Asked::FirstWrong, 0, [ONLY_WRONG, FACTS, "packets 1, bytes 29, bytes a packet 29\n"]),
+    (&["right", "wrong", "missing"], Asked::SummaryOfOne, 0, ["", FACTS_ALONE, "packets 1, bytes 29, bytes a packet 29\n"]),
     // Neither the capture after the last packet nor its heading is part of the report.
     (&["right", "wrong", "missing", "right"], Asked::AllOfTwo, 0, [OF_TWO, "\n", "packets 2, bytes 58, bytes a packet 29\nconversations 2\n"]),
     (&["right", "missing", "wrong"], Asked::CheckedAll, 4, [WITH_MISSING, "\n", "packets 2, bytes 58, bytes a packet 29\nconversations 2\n"]),

@@ -235,7 +235,7 @@ fn top_of(matches: &ArgMatches<'_>) -> usize
     matches.get_one("top").unwrap_or(BUSIEST)
 }
 
-/// The number of packets after which the report ends, if a number is requested.
+/// The number of lines after which the report ends, if a number is requested.
 fn count_of(matches: &ArgMatches<'_>) -> Option<u64>
     ensures { HasNumberOr matches.now (codes "count") 64 Some None result }
 {
@@ -604,7 +604,7 @@ fn protocol<'a>(alloc: Global) -> Arg<'a>
     )
 }
 
-/// The option that ends the report after a number of packets.
+/// The option that ends the report after a number of lines.
 fn count<'a>(alloc: Global) -> Arg<'a>
     ensures rule { rule_of result ≡ count_rule }
     ensures local { result.global ≡ false }
@@ -613,7 +613,7 @@ fn count<'a>(alloc: Global) -> Arg<'a>
         alloc,
         "count",
         "N",
-        "End after N packets; packets that are not selected do not count",
+        "End after N lines, also of --wrong; with --summary after N selected packets",
     )
     .short('c')
     .value_parser(value_parser!(u64).range(1..))

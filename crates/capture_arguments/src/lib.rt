@@ -22,6 +22,5 @@ mod unknown;
 mod words;
 
 pub use arguments::{Options, no_capture, output_is_capture, requested_options};
-pub use filters::is_filter;
 pub use memory::Memory;
 pub use words::{Arguments, OwnArguments, words_of};

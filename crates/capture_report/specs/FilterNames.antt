@@ -1,6 +1,6 @@
 -- Filters of tcpdump among the names of captures.
 use Rattle.std.specs.Prelude.{◌≡◌, ℕ, Bool, false, List, [], ◌∷◌, MatchBool, Option, Some, None}
-use Rattle.capture_arguments.specs.Filters.{is_filter}
+use Rattle.capture_request.specs.Filters.{is_filter}
 
 -- Whether this name begins like a filter and is the name of no file. `Lacks` is the statement about a name and the answer whether no file
 -- has this name.

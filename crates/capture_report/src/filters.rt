@@ -5,7 +5,7 @@ ghost use Rattle.std.specs.Option.{option_map};
 ghost use Rattle.capture_report.specs.FilterNames.{FindsFilter, IsMissingFilter};
 
 use crate::file_system::FileSystem;
-use capture_arguments::is_filter;
+use capture_request::is_filter;
 use std::io;
 
 /// The first of these names that begins like a filter of tcpdump and is the name of no file, with the error of the operating system. Then

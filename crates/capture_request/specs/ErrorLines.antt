@@ -1,9 +1,9 @@
 -- The lines of errors.
 use Rattle.std.specs.Prelude.{◌≡◌, List, [], ◌∷◌, ℕ, ◌++◌, ◌==◌, codes, if◌then◌else◌, Option, Some, None, MatchOption, Result, Ok, Err}
 use Rattle.std.specs.Io.KnownBytes.{Appends}
-use Rattle.std.specs.List.{before_first, concat, list_any}
-use Rattle.std.specs.Str.{bytes_eq}
+use Rattle.std.specs.List.{concat}
 use Rattle.capture_request.specs.Compressions.{compression_name, compression_of}
+use Rattle.capture_request.specs.Filters.{is_filter}
 use Rattle.capture_request.specs.Names.{shown_name}
 use Rattle.capture_request.specs.declared.compression.Compression.{Compression}
 use Rattle.capture_request.specs.declared.capture_error.CaptureError.{CaptureError}
@@ -27,25 +27,9 @@ line_start (Some name) = codes "capture_report: " ++ (name ++ codes ": ")
 abbrev pub IsLineOf : Option (List ℕ) → (List ℕ → Type 0) → List ℕ → Type 0
 IsLineOf name IsText line = (text : List ℕ) × IsText text × (line ≡ line_start name ++ (text ++ codes "\n"))
 
--- the words with which a filter of tcpdump can begin (pcap-filter(7))
-abbrev pub filter_words : List (List ℕ)
-filter_words =
-    codes "tcp" ∷ codes "udp" ∷ codes "icmp" ∷ codes "icmp6" ∷ codes "ip" ∷ codes "ip6" ∷ codes "arp" ∷ codes "ether" ∷ codes "host" ∷ codes "net"
-    ∷ codes "port" ∷ codes "portrange" ∷ codes "src" ∷ codes "dst" ∷ codes "not" ∷ codes "proto" ∷ []
-
--- the code of a space
-abbrev pub space : ℕ
-space = 32
-
--- the part of a name before its first space; without a space it is the whole name
-abbrev pub first_word : List ℕ → List ℕ
-first_word name = before_first (λ byte. byte == space) name
-
--- The hint that lists the options that select packets. The hint is empty unless the first word of the name is one of `filter_words`. An
--- example of a name with a hint is `tcp port 80`.
+-- the hint that lists the options that select packets; it is empty unless the name begins like a filter, for example `tcp port 80`
 abbrev pub hint_of : List ℕ → List ℕ
-hint_of name =
-    if list_any (λ word. bytes_eq word (first_word name)) filter_words then codes "; filters are --host, --port and --protocol" else []
+hint_of name = if is_filter name then codes "; filters are --host, --port and --protocol" else []
 
 -- `text` is the text for a capture that can't be opened: the text of an error, and then the hint for this name
 abbrev pub EndsInHint : List ℕ → List ℕ → Type 0
@@ -61,8 +45,8 @@ IsOneLine IsLine lines = (line : List ℕ) × IsLine line × (lines ≡ line ∷
 abbrev pub IsOpenErrorLine : List ℕ → List ℕ → Type 0
 IsOpenErrorLine name line = IsLineOf (Some (shown_name name)) (EndsInHint name) line
 
--- The lines that are written when the report of the capture with this name ends. There is no line if the capture was read to its end, or to
--- the last requested packet. Otherwise there is one line with the error.
+-- The lines that are written when the report of the capture with this name ends. There is no line if the capture was read to its end, or as
+-- far as was requested. Otherwise there is one line with the error.
 abbrev pub AreEndLines : Option (List ℕ) → Result Reached CaptureError → List (List ℕ) → Type 0
 AreEndLines name (Ok reached) lines = lines ≡ []
 AreEndLines name (Err error) lines = IsOneLine (IsLineOf name (IsErrorText error)) lines

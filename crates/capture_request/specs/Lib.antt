@@ -2,6 +2,7 @@ pub mod Compressions
 pub mod Endings
 pub mod ErrorLines
 pub mod ExitStatuses
+pub mod Filters
 pub mod Limits
 pub mod Lines
 pub mod Names

@@ -155,7 +155,7 @@ EndsAtItem number before left still_left after (Err (Read its_number offset erro
 EndsAtItem number before left still_left after other = ⊥
 
 -- The report of a capture ended with this result. `count` is the number of packets read from this capture, plus the number of packets
--- counted in the captures before it. If the requested number of packets was counted, or if no further packet can be counted, nothing was
+-- counted in the captures before it. If the requested number was reached, or if no further packet can be counted, nothing was
 -- read after the last packet. Otherwise the item after the last packet ended the report. `number` is the number that the next packet would
 -- have had. `after` is the reader at the end.
 abbrev pub HasEnded : ℕ → ℕ → CaptureReader → Option (List ℕ) → Option (List ℕ) → CaptureReader → Result Reached CaptureError → Type 0

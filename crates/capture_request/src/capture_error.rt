@@ -2,10 +2,11 @@ ghost use Rattle.std.specs.Prelude.{◌≡◌, IfOk, IsOk, string_bytes};
 ghost use Rattle.std.specs.Option.{option_map};
 ghost use Rattle.capture_request.specs.Compressions.{compression_of};
 ghost use Rattle.capture_request.specs.Endings.{exit_status};
-ghost use Rattle.capture_request.specs.ErrorLines.{AreEndLines, IsErrorText, IsLineOf, IsOneLine, IsOpenErrorLine, WritesSome, first_word, hint_of};
+ghost use Rattle.capture_request.specs.ErrorLines.{AreEndLines, IsErrorText, IsLineOf, IsOneLine, IsOpenErrorLine, WritesSome, hint_of};
 ghost use Rattle.capture_request.specs.Names.{shown_name};
 
 use crate::compression::Compression;
+use crate::filter::is_filter;
 use crate::shown_name::without_mark;
 use crate::{ExitStatus, Reached};
 use capture_facts::ShownText;
@@ -56,7 +57,7 @@ pub enum CaptureError {
     },
     /// The sum of two numbers has reached the limit of 2^64 - 2: the number of packets read from this capture, and the number of packets
     /// counted in the captures before it.
-    #[error("2^64 - 2 packets were counted, and no more can be counted.")]
+    #[error("The limit of 2^64 - 2 packets is reached, and no further packet is read.")]
     TooManyPackets,
 }
 
@@ -95,8 +96,8 @@ impl CaptureError {
     }
 }
 
-/// Writes the line of the error that ended the report of a capture. If the capture was read to its end, or to the last requested packet,
-/// the call writes nothing.
+/// Writes the line of the error that ended the report of a capture. If the capture was read to its end, or as far as was requested, the
+/// call writes nothing.
 pub fn write_end<E: Write>(
     errors: &mut E,
     alloc: Global,
@@ -160,26 +161,6 @@ fn text_of(alloc: Global, error: &CaptureError) -> Result<String, AllocError>
     }
 }
 
-/// The words with which a filter of tcpdump can begin (pcap-filter(7)).
-static FILTER_WORDS: [&str; 16] = [
-    "tcp",
-    "udp",
-    "icmp",
-    "icmp6",
-    "ip",
-    "ip6",
-    "arp",
-    "ether",
-    "host",
-    "net",
-    "port",
-    "portrange",
-    "src",
-    "dst",
-    "not",
-    "proto",
-];
-
 /// The hint that follows the error if a capture can't be opened, and its name begins like a filter of tcpdump.
 const FILTER_HINT: &str = "; filters are --host, --port and --protocol";
 
@@ -213,23 +194,12 @@ fn open_error_line(alloc: Global, name: &str, error: &io::Error) -> Result<Strin
     format!(in alloc; "capture_report: {shown}: {text}{hint}\n")
 }
 
-/// Returns the hint for a name, which lists the options that select packets. The hint is empty unless the first word of the name is in
-/// `FILTER_WORDS`.
+/// Returns the hint for a name, which lists the options that select packets. The hint is empty unless the name begins like a filter.
 fn hint_of(name: &str) -> &'static str
     ensures { result.now ≡ hint_of name.now }
 {
-    if FILTER_WORDS.contains(&first_word(name)) {
+    if is_filter(name) {
         return FILTER_HINT;
     }
     ""
-}
-
-/// Returns the part of a name before its first space, or the whole name if it contains no space.
-fn first_word(name: &str) -> &str
-    ensures { result.now ≡ first_word name.now }
-{
-    match name.split_once(' ') {
-        Some((word, _)) => word,
-        None => name,
-    }
 }

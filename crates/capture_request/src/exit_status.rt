@@ -4,7 +4,7 @@ ghost use Rattle.capture_request.specs.ExitStatuses.{exit_number};
 /// The result of a run, as the exit status of the program. If several results apply, the exit status is the greatest of their numbers.
 #[derive(Clone, Copy, Debug, PartialEq, Eq)]
 pub enum ExitStatus {
-    /// 0: all captures were read to their ends, or to the last requested packet.
+    /// 0: all captures were read to their ends, or as far as was requested.
     Success,
     /// 1: a capture can't be read to its end.
     Unfinished,

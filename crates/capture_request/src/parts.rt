@@ -30,8 +30,8 @@ pub struct Parts {
     pub top: usize,
     /// Whether the exit status reports that a packet has a wrong checksum or was refused.
     pub check: bool,
-    /// The requested number of chosen packets, or `None` if no number is requested. The report ends after this many chosen packets, and
-    /// reads no further packet.
+    /// The requested number of lines, or `None` if no number is requested. The report ends after this many lines, and reads no further
+    /// packet. If no lines are requested, it ends after this many chosen packets.
     pub limit: Option<u64>,
 }
 

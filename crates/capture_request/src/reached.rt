@@ -3,6 +3,6 @@
 pub enum Reached {
     /// The end of the capture.
     End,
-    /// The last requested packet. The rest of the capture is not read.
+    /// The packet with the last requested line. The rest of the capture is not read.
     Limit,
 }

@@ -10,7 +10,7 @@ use Rattle.capture_request.proofs.LineLemmas.{writes-more, writes-nothing, write
 use Rattle.capture_run.specs.Captures.{Given, IsRun, Progress, ReportsEach, ReportsHeaded, ReportsNamed, TellsFirst, WritesReport, WritesRun, at_start, captures_of, heading_of, progress_of}
 use Rattle.capture_request.specs.ErrorLines.{line_name}
 use Rattle.capture_request.specs.ExitStatuses.{final_status}
-use Rattle.capture_request.specs.Limits.{is_full}
+use Rattle.capture_request.specs.Limits.{is_full, limited}
 use Rattle.capture_run.specs.PacketsText.{end_text}
 use Rattle.capture_run.specs.declared.capture_reports.CaptureReports.{CaptureReports}
 use Rattle.capture_request.specs.declared.exit_status.ExitStatus.{ExitStatus}
@@ -58,7 +58,7 @@ reports_one Reads parts before after text lines one =
 
 -- if the requested number of packets was counted, the next capture is skipped
 pub left_out : (Reads : List ℕ → Given → Type 0) (parts : Parts) (count place : ℕ) (name : List ℕ) (before : Progress)
-    (a e : Option (List ℕ)) (AreWhole : Type 0) → is_full parts.limit before.summary.packets ≡ true
+    (a e : Option (List ℕ)) (AreWhole : Type 0) → is_full parts.limit (limited parts.lines before.summary) ≡ true
     → WritesReport a a e e AreWhole (ReportsHeaded Reads parts count place name before before)
 left_out Reads parts count place name before a e AreWhole full = record {
   text = [];
@@ -70,7 +70,7 @@ left_out Reads parts count place name before a e AreWhole full = record {
 
 -- the report of a capture, with its heading
 pub headed : (Reads : List ℕ → Given → Type 0) (parts : Parts) (count place : ℕ) (name : List ℕ) (before : Progress)
-    (a b c e f : Option (List ℕ)) (result : Result CaptureReports WriteError) → is_full parts.limit before.summary.packets ≡ false
+    (a b c e f : Option (List ℕ)) (result : Result CaptureReports WriteError) → is_full parts.limit (limited parts.lines before.summary) ≡ false
     → Appends a b (heading_of parts count place name)
     → IfOk result (λ after. WritesReport b c e f (IsNone after.unwritten) (ReportsNamed Reads parts (line_name count name) name before (progress_of after)))
     → IfOk result (λ after. WritesReport a c e f (IsNone after.unwritten) (ReportsHeaded Reads parts count place name before (progress_of after)))
@@ -191,7 +191,7 @@ pub run_result : {X : Type 0} (Reads : List ℕ → Given → Type 0) (parts : P
     → reports.unwritten ≡ None
     → WritesReport a b e f (IsNone reports.unwritten)
     (ReportsEach Reads start.parts (length names) 0 (captures_of (map named names)) (progress_of start) (progress_of reports))
-    → Appends b c (if reports.is_empty then [] else end_text reports.parts reports.capture reports.summary)
+    → Appends b c (if reports.is_empty then [] else end_text reports.parts (length names) reports.capture reports.summary)
     → status ≡ final_status reports.parts.check reports.status reports.summary
     → WritesRun a c e f (IsRun Reads parts (map named names) status)
 run_result Reads parts names named start reports status a b c e f same tables first empty no_capture kept told each end final =
@@ -199,13 +199,13 @@ run_result Reads parts names named start reports status a b c e f same tables fi
     let all : ReportsEach Reads parts (length (map named names)) 0 (captures_of (map named names)) at_start (progress_of reports) each.text each.lines =
     rw (same, is_start, sym (length-map names named)) at each.is_report in
     let whole : each.tells.written ≡ concat each.lines = each.tells.whole (rw told refl) in (
-      each.text ++ (if reports.is_empty then [] else end_text parts reports.capture reports.summary),
+      each.text ++ (if reports.is_empty then [] else end_text parts (length names) reports.capture reports.summary),
       each.lines,
       record {
         after = progress_of reports;
         captures = each.text;
         reports = all;
-        whole = refl;
+        whole = rw (length-map names named) refl;
         is_final = rw (kept ∙ same) at final;
       },
       Appends-trans a b c each.text _ each.appends (rw (kept ∙ same) at end),

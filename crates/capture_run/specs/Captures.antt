@@ -1,5 +1,5 @@
 -- The report of a run: the packets of each capture, and then the summary of all captures.
-use Rattle.std.specs.Prelude.{◌≡◌, ◌↔◌, ℕ, ◌+◌, ◌==◌, ◌&&◌, nat_lt, Bool, true, false, IsTrue, if◌then◌else◌, List, [], ◌∷◌, ◌++◌, codes, length, MatchBool, Option, Some, None, Result}
+use Rattle.std.specs.Prelude.{◌≡◌, ◌↔◌, ℕ, ◌+◌, ◌==◌, Bool, true, false, IsTrue, if◌then◌else◌, List, [], ◌∷◌, ◌++◌, codes, length, MatchBool, Option, Some, None, Result}
 use Rattle.std.specs.Io.KnownBytes.{Appends}
 use Rattle.std.specs.List.{concat}
 use Rattle.capture_file.specs.declared.reader.capture_reader.CaptureReader.{CaptureReader}
@@ -8,17 +8,15 @@ use Rattle.capture_summary.specs.SummaryTables.{SummaryTables, empty_tables}
 use Rattle.capture_request.specs.Endings.{status_of}
 use Rattle.capture_request.specs.ErrorLines.{AreEndLines, IsOneLine, IsOpenErrorLine, WritesLines, line_name}
 use Rattle.capture_request.specs.ExitStatuses.{final_status, greater}
-use Rattle.capture_request.specs.Limits.{EndsByLimit, IsWithin, is_full}
+use Rattle.capture_request.specs.Limits.{EndsByLimit, IsWithin, is_full, limited}
 use Rattle.capture_request.specs.Names.{shown_name, without_mark}
-use Rattle.capture_run.specs.PacketsText.{IsCaptureReport, end_text}
+use Rattle.capture_run.specs.PacketsText.{IsCaptureReport, end_text, has_headings}
 use Rattle.capture_run.specs.Runs.{EndsAtHeader}
 use Rattle.capture_run.specs.declared.capture_reports.CaptureReports.{CaptureReports}
 use Rattle.capture_request.specs.declared.exit_status.ExitStatus.{ExitStatus}
 use Rattle.capture_request.specs.declared.exit_status.ExitStatus.TheVariants.{Failed, Success}
 use Rattle.capture_request.specs.declared.parts.Format.{Format}
 use Rattle.capture_request.specs.declared.parts.Format.TheVariants as formats
-use Rattle.capture_request.specs.declared.parts.Lines.{Lines}
-use Rattle.capture_request.specs.declared.parts.Lines.TheVariants as lines
 use Rattle.capture_request.specs.declared.parts.Parts.{Parts}
 use Rattle.capture_request.specs.declared.capture_error.CaptureError.{CaptureError}
 use Rattle.capture_request.specs.declared.reached.Reached.{Reached}
@@ -70,8 +68,8 @@ pub record ReportsOpened (parts : Parts) (shown : Option (List ℕ)) (left : Opt
   pub are_lines : AreEndLines shown ended lines
   pub status : after.status ≡ greater before.status (status_of ended)
   pub empty : IsTrue after.is_empty ↔ (IsTrue before.is_empty × EndsAtHeader ended)
-  pub limit : EndsByLimit parts.limit after.summary.packets ended
-  pub within : IsWithin parts.limit before.summary.packets → IsWithin parts.limit after.summary.packets
+  pub limit : EndsByLimit parts.limit (limited parts.lines after.summary) ended
+  pub within : IsWithin parts.limit (limited parts.lines before.summary) → IsWithin parts.limit (limited parts.lines after.summary)
 
 -- The result of opening a capture by its name. The outer `Option` is `None` if the capture can't be opened. The inner `Option` contains the
 -- bytes of the opened input, or is `None` if they are unknown.
@@ -106,22 +104,16 @@ abbrev pub heading_in : Format → ℕ → List ℕ → List ℕ
 heading_in formats.Text place name = text_heading place name
 heading_in formats.Json place name = json_line (file_members (without_mark name))
 
--- whether lines of packets are requested
-abbrev pub has_lines : Lines → Bool
-has_lines lines.All = true
-has_lines lines.Wrong = true
-has_lines lines.None = false
-
 -- The heading before the packets of a capture. It is empty if at most one capture is named, or if no packet may have a line.
 abbrev pub heading_of : Parts → ℕ → ℕ → List ℕ → List ℕ
-heading_of parts count place name = if nat_lt 1 count && has_lines parts.lines then heading_in parts.format place name else []
+heading_of parts count place name = if has_headings parts.lines count then heading_in parts.format place name else []
 
 -- The capture with this name was reported. `count` is the number of named captures, and `place` is the place of this capture among them.
--- `text` is its heading and the text of its packets, and `lines` are the lines of its errors. If the requested number of packets was
--- already counted, the capture is skipped.
+-- `text` is its heading and the text of its packets, and `lines` are the lines of its errors. If the requested number was already reached,
+-- the capture is skipped.
 abbrev pub ReportsHeaded : (List ℕ → Given → Type 0) → Parts → ℕ → ℕ → List ℕ → Progress → Progress → List ℕ → List (List ℕ) → Type 0
 ReportsHeaded Reads parts count place name before after text lines =
-    MatchBool (is_full parts.limit before.summary.packets) ((after ≡ before) × (text ≡ []) × (lines ≡ []))
+    MatchBool (is_full parts.limit (limited parts.lines before.summary)) ((after ≡ before) × (text ≡ []) × (lines ≡ []))
     ((packets : List ℕ) × ReportsNamed Reads parts (line_name count name) name before after packets lines
     × (text ≡ heading_of parts count place name ++ packets))
 
@@ -146,7 +138,7 @@ pub record IsRun (Reads : List ℕ → Given → Type 0) (parts : Parts) (names 
   pub after : Progress
   pub captures : List ℕ
   pub reports : ReportsEach Reads parts (length names) 0 (captures_of names) at_start after captures lines
-  pub whole : text ≡ captures ++ (if after.is_empty then [] else end_text parts after.capture after.summary)
+  pub whole : text ≡ captures ++ (if after.is_empty then [] else end_text parts (length names) after.capture after.summary)
   pub is_final : status ≡ final_status parts.check after.status after.summary
 
 -- ---- the writers of a report and of the lines of its errors

@@ -1,5 +1,5 @@
 -- The text of a report: the line of each packet that has a line, in the order of the packets, then an empty line, and then the summary.
-use Rattle.std.specs.Prelude.{◌≡◌, ℕ, ◌+◌, ◌||◌, nat_lt, Bool, false, if◌then◌else◌, List, [], ◌∷◌, ◌++◌, codes, is_none, Option, Some, None, Result, Ok}
+use Rattle.std.specs.Prelude.{◌≡◌, ℕ, ◌+◌, ◌||◌, nat_lt, Bool, false, if◌then◌else◌, List, [], ◌∷◌, ◌++◌, codes, Option, Some, None, Result, Ok}
 use Rattle.std.specs.Option.{option_or}
 use Rattle.capture_file.specs.CapturePackets.{BeginsInput, FilePacket}
 use Rattle.capture_file.specs.declared.reader.capture_reader.CaptureReader.{CaptureReader}
@@ -46,12 +46,12 @@ pub record WritesPacket (parts : Parts) (number : ℕ) (first now_first : Option
 
 -- The report of the packets of a capture, after its beginning. `packets` are all packets that were read until the report ended. The chosen
 -- packets were counted, and `text` consists of their texts. The first packet has number 1, whether it is chosen or not. If a number of
--- packets is requested, no packet is read after the last requested packet. `reader` is the reader before the packets, and `last` is the
--- reader after them.
+-- lines is requested, no packet is read after the last requested line. `reader` is the reader before the packets, and `last` is the reader
+-- after them.
 pub record WritesPackets (reader last : CaptureReader) (parts : Parts) (first : Option PacketTime) (left still_left : Option (List ℕ)) (ended : Result Reached CaptureError) (before after : SummaryTables) (text : List ℕ) : Type 0 where
   pub packets : List FilePacket
   pub read : ReadsUntil reader left still_left packets before.packets last ended
-  pub requested : ended ≡ Ok Limit → EndsWithRequested parts.limit parts.choice before packets
+  pub requested : ended ≡ Ok Limit → EndsWithRequested parts before packets
   pub counted : CountsEach parts.choice before packets after
   pub is_text : IsPacketsText parts 1 first packets text
 
@@ -75,23 +75,27 @@ has_packet_line lines.All tables = nat_lt 0 tables.packets
 has_packet_line lines.Wrong tables = has_fault tables
 has_packet_line lines.None tables = false
 
--- lines of packets are requested, and several captures were read, so headings were written; `capture` is `None` if several captures were
--- read
-abbrev pub has_headings : Lines → Option CaptureReader → Bool
-has_headings lines.All capture = is_none capture
-has_headings lines.Wrong capture = is_none capture
-has_headings lines.None capture = false
+-- captures have headings: lines of packets are requested, and several captures are named; `count` is the number of named captures
+abbrev pub has_headings : Lines → ℕ → Bool
+has_headings lines.All count = nat_lt 1 count
+has_headings lines.Wrong count = nat_lt 1 count
+has_headings lines.None count = false
 
--- the empty line before the summary; it is left out unless a packet has a line, or `has_headings` is true
-abbrev pub empty_line : Lines → Option CaptureReader → SummaryTables → List ℕ
-empty_line lines capture tables = if has_packet_line lines tables || has_headings lines capture then codes "\n" else []
+-- the empty line before the summary; it is left out unless a packet has a line, or captures have headings
+abbrev pub empty_line : Lines → ℕ → SummaryTables → List ℕ
+empty_line lines count tables = if has_packet_line lines tables || has_headings lines count then codes "\n" else []
 
--- The summary in a format. As text it consists of the empty line, the facts about the capture if only one was read, and the tables. As JSON
--- it is an object.
-abbrev pub summary_in : Format → Lines → ℕ → Option CaptureReader → SummaryTables → List ℕ
-summary_in formats.Text lines top capture tables = empty_line lines capture tables ++ (facts_text capture ++ summary_text top tables)
-summary_in formats.Json lines top capture tables = json_summary capture top tables
+-- The summary as text: the empty line, the facts about the capture if only one was read, and the tables. `count` is the number of named
+-- captures.
+abbrev pub text_of_summary : Parts → ℕ → Option CaptureReader → SummaryTables → List ℕ
+text_of_summary parts count capture tables =
+    empty_line parts.lines count tables ++ (facts_text capture ++ summary_text parts.top tables)
+
+-- the summary in the requested format: as text, or as a JSON object
+abbrev pub summary_in : Format → Parts → ℕ → Option CaptureReader → SummaryTables → List ℕ
+summary_in formats.Text parts count capture tables = text_of_summary parts count capture tables
+summary_in formats.Json parts count capture tables = json_summary capture parts.top tables
 
 -- the end of a report: the summary in the requested format; the text is empty if no summary is requested
-abbrev pub end_text : Parts → Option CaptureReader → SummaryTables → List ℕ
-end_text parts capture tables = if parts.summary then summary_in parts.format parts.lines parts.top capture tables else []
+abbrev pub end_text : Parts → ℕ → Option CaptureReader → SummaryTables → List ℕ
+end_text parts count capture tables = if parts.summary then summary_in parts.format parts count capture tables else []

@@ -6,7 +6,7 @@ ghost use Rattle.capture_request.specs.Endings.{status_of};
 ghost use Rattle.capture_run.specs.PacketsText.{IsCaptureReport, empty_line, end_text, has_headings, has_packet_line, summary_in};
 ghost use Rattle.capture_summary.specs.Ranking.{busiest_of};
 ghost use Rattle.capture_request.specs.ExitStatuses.{final_status, greater};
-ghost use Rattle.capture_request.specs.Limits.{EndsByLimit, IsWithin, is_full};
+ghost use Rattle.capture_request.specs.Limits.{EndsByLimit, IsWithin, is_full, limited};
 ghost use Rattle.capture_run.specs.Runs.{EndsAtHeader};
 ghost use Rattle.capture_request.specs.declared.exit_status.ExitStatus.TheVariants as ExitStatus;
 ghost use Rattle.capture_summary.specs.SummaryTables.{empty_tables};
@@ -89,8 +89,9 @@ impl CaptureReports {
         ensures parts { IfOk result (λ given. given.0.parts ≡ self.parts) }
         ensures unwritten { IfOk result (λ given. given.0.unwritten ≡ self.unwritten) }
         ensures empty { IfOk result (λ given. IsTrue given.0.is_empty ↔ (IsTrue self.is_empty × EndsAtHeader given.1)) }
-        ensures limit { IfOk result (λ given. EndsByLimit self.parts.limit given.0.summary.packets given.1) }
-        ensures within { IsWithin self.parts.limit self.summary.packets → IfOk result (λ given. IsWithin self.parts.limit given.0.summary.packets) }
+        ensures limit { IfOk result (λ given. EndsByLimit self.parts.limit (limited self.parts.lines given.0.summary) given.1) }
+        ensures within { IsWithin self.parts.limit (limited self.parts.lines self.summary)
+            → IfOk result (λ given. IsWithin self.parts.limit (limited self.parts.lines given.0.summary)) }
         ensures silent { self.parts.lines ≡ Lines.None → output.new ≡ output.old }
     {
         let CaptureReports {
@@ -123,12 +124,12 @@ impl CaptureReports {
         &self.parts
     }
 
-    /// Returns whether the requested number of packets was counted. In that case no further capture is read. The result is `false` if no
+    /// Returns whether the requested number of lines is reached. In that case no further capture is read. The result is `false` if no
     /// number is requested.
     pub fn is_full(&self) -> bool
-        ensures { result ≡ is_full self.now.parts.limit self.now.summary.packets }
+        ensures { result ≡ is_full self.now.parts.limit (limited self.now.parts.lines self.now.summary) }
     {
-        is_full(self.parts.limit, &self.summary)
+        is_full(&self.parts, &self.summary)
     }
 
     /// Notes that a capture can't be opened. The status becomes at least `Failed`.
@@ -163,50 +164,77 @@ impl CaptureReports {
         self.unwritten
     }
 
-    /// Writes the summary of all captures, if a summary is requested and the beginning of a capture was accepted. Then the call flushes the
-    /// output, and returns the exit status. The exit status is `Fault` if a check is requested, and a packet has a wrong checksum or was
-    /// refused. Otherwise the exit status is the greatest status of the reports.
+    /// Writes the summary of all captures, if a summary is requested and the beginning of a capture was accepted. `count` is the number of
+    /// named captures. Then the call flushes the output, and returns the exit status. The exit status is `Fault` if a check is requested, and
+    /// a packet has a wrong checksum or was refused. Otherwise the exit status is the greatest status of the reports.
     ///
     /// # Errors
     ///
     /// `Write` if writing fails, and `NoMemory` if no memory is left.
-    pub fn finish<W: Write>(&self, alloc: Global, output: &mut W) -> Result<ExitStatus, WriteError>
+    pub fn finish<W: Write>(
+        &self,
+        count: usize,
+        alloc: Global,
+        output: &mut W,
+    ) -> Result<ExitStatus, WriteError>
         ensures status { IfOk result (λ status. status ≡ final_status self.now.parts.check self.now.status self.now.summary) }
         ensures text { OnOk result (Appends (W.contents output.old) (W.contents output.new)
-            (if self.now.is_empty then [] else end_text self.now.parts self.now.capture self.now.summary)) }
+            (if self.now.is_empty then [] else end_text self.now.parts count self.now.capture self.now.summary)) }
     {
-        self.write_end(alloc, output)?;
+        self.write_end(count, alloc, output)?;
         output.flush()?;
         Ok(self.final_status())
     }
 
     /// Writes the summary, if a summary is requested and the beginning of a capture was accepted.
-    fn write_end<W: Write>(&self, alloc: Global, output: &mut W) -> Result<(), WriteError>
+    fn write_end<W: Write>(
+        &self,
+        count: usize,
+        alloc: Global,
+        output: &mut W,
+    ) -> Result<(), WriteError>
         ensures { OnOk result (Appends (W.contents output.old) (W.contents output.new)
-            (if self.now.is_empty then [] else end_text self.now.parts self.now.capture self.now.summary)) }
+            (if self.now.is_empty then [] else end_text self.now.parts count self.now.capture self.now.summary)) }
     {
         if self.is_empty || !self.parts.summary {
             return Ok(());
         }
         let busiest = self.summary.flows().busiest(alloc, self.parts.top)?;
-        self.write_summary(busiest.as_slice(), alloc, output)
+        self.write_summary(count, busiest.as_slice(), alloc, output)
     }
 
     /// Writes the summary in the requested format. The summary lists the conversations `busiest`.
     fn write_summary<W: Write>(
         &self,
+        count: usize,
         busiest: &[ConversationCount],
         alloc: Global,
         output: &mut W,
     ) -> Result<(), WriteError>
         ensures { busiest.now ≡ busiest_of self.now.parts.top self.now.summary.flows.rows → OnOk result (Appends (W.contents output.old) (W.contents output.new)
-            (summary_in self.now.parts.format self.now.parts.lines self.now.parts.top self.now.capture self.now.summary)) }
+            (summary_in self.now.parts.format self.now.parts count self.now.capture self.now.summary)) }
     {
         let (capture, summary) = (&self.capture, &self.summary);
         match self.parts.format {
-            Format::Text => write_text_summary(output, self.parts.lines, capture, summary, busiest),
+            Format::Text => self.write_text_summary(count, busiest, output),
             Format::Json => capture_json::write_summary(output, alloc, capture, summary, busiest),
         }
+    }
+
+    /// Writes the summary as text: the facts about the capture if only one capture was read, and then the tables. An empty line can come
+    /// first, as `write_empty_line` describes. `count` is the number of named captures.
+    fn write_text_summary<W: Write>(
+        &self,
+        count: usize,
+        busiest: &[ConversationCount],
+        output: &mut W,
+    ) -> Result<(), WriteError>
+        ensures { OnOk result (Appends (W.contents output.old) (W.contents output.new)
+            (empty_line self.now.parts.lines count self.now.summary
+            ++ (facts_text self.now.capture ++ tables_text busiest.now self.now.summary))) }
+    {
+        write_empty_line(output, self.parts.lines, count, &self.summary)?;
+        Ok(write_facts_and_tables(output, &self.capture, &self.summary, busiest)?)
     }
 
     /// Returns the exit status of the run. It is `Fault` if a check is requested, and a packet has a wrong checksum or was refused.
@@ -219,22 +247,6 @@ impl CaptureReports {
         }
         self.status
     }
-}
-
-/// Writes the summary as text: the facts about the capture if only one capture was read, and then the tables. An empty line can come first,
-/// as `write_empty_line` describes.
-fn write_text_summary<W: Write>(
-    output: &mut W,
-    lines: Lines,
-    capture: &Option<CaptureReader>,
-    summary: &Summary,
-    busiest: &[ConversationCount],
-) -> Result<(), WriteError>
-    ensures { OnOk result (Appends (W.contents output.old) (W.contents output.new)
-        (empty_line lines capture.now summary.now ++ (facts_text capture.now ++ tables_text busiest.now summary.now))) }
-{
-    write_empty_line(output, lines, capture, summary)?;
-    Ok(write_facts_and_tables(output, capture, summary, busiest)?)
 }
 
 /// Writes the facts about the capture, if only one capture was read, and then the tables.
@@ -254,12 +266,12 @@ fn write_facts_and_tables<W: Write>(
 fn write_empty_line<W: Write>(
     output: &mut W,
     lines: Lines,
-    capture: &Option<CaptureReader>,
+    count: usize,
     summary: &Summary,
 ) -> Result<(), WriteError>
-    ensures { OnOk result (Appends (W.contents output.old) (W.contents output.new) (empty_line lines capture.now summary.now)) }
+    ensures { OnOk result (Appends (W.contents output.old) (W.contents output.new) (empty_line lines count summary.now)) }
 {
-    if has_packet_line(lines, summary) || has_headings(lines, capture) {
+    if has_packet_line(lines, summary) || has_headings(lines, count) {
         return Ok(writeln!(output)?);
     }
     Ok(())
@@ -276,12 +288,12 @@ fn has_packet_line(lines: Lines, summary: &Summary) -> bool
     }
 }
 
-/// Returns whether lines of packets are requested, and several captures were read. In that case headings were written. `capture` is `None`
-/// if several captures were read.
-fn has_headings(lines: Lines, capture: &Option<CaptureReader>) -> bool
-    ensures { result ≡ has_headings lines capture.now }
+/// Returns whether captures have headings: lines of packets are requested, and several captures are named. `count` is the number of named
+/// captures.
+pub(crate) fn has_headings(lines: Lines, count: usize) -> bool
+    ensures { result ≡ has_headings lines count }
 {
-    lines != Lines::None && capture.is_none()
+    lines != Lines::None && count > 1
 }
 
 /// Returns the status with the greater number.

@@ -1,13 +1,13 @@
 ghost use Rattle.std.specs.Prelude.{◌≡◌, ◌-◌, ◌^◌, ◌<◌, None, OnOk, false};
 ghost use Rattle.std.specs.Option.{option_or};
-ghost use Rattle.capture_request.specs.Limits.{is_full};
+ghost use Rattle.capture_request.specs.Limits.{is_full, limited};
 ghost use Rattle.capture_request.specs.Lines.{HasNoLine, IfNoLine, has_line};
 ghost use Rattle.capture_request.specs.Report.{CountsChosen, CountsRead, CountsPacket, IsReadAs, IsTooLong, captured_info, too_long_info};
 ghost use Rattle.capture_run.specs.ReportText.{IsLineIn, IsTextOf, IsTextOfChosen, IsTextOfOne};
 ghost use Rattle.capture_words.specs.Written.{AppendsOne};
 ghost use Rattle.capture_request.specs.declared.parts.Lines.TheVariants as Lines;
 
-use crate::{Format, Parts, WriteError, packet_in_frame, packet_without_room};
+use crate::{Format, Lines, Parts, WriteError, packet_in_frame, packet_without_room};
 use capture_file::PacketTime;
 use capture_file::reader::{CapturedPacket, TooLongPacket};
 use capture_json::write_packet;
@@ -57,11 +57,11 @@ impl PacketReport {
         &self.summary
     }
 
-    /// Returns whether the requested number of packets was counted. The result is `false` if no number is requested.
+    /// Returns whether the requested number of lines is reached. The result is `false` if no number is requested.
     pub fn is_full(&self) -> bool
-        ensures { result ≡ is_full self.now.parts.limit self.now.summary.packets }
+        ensures { result ≡ is_full self.now.parts.limit (limited self.now.parts.lines self.now.summary) }
     {
-        is_full(self.parts.limit, &self.summary)
+        is_full(&self.parts, &self.summary)
     }
 
     /// Returns the counts at the end of the report.
@@ -181,13 +181,28 @@ impl PacketReport {
     }
 }
 
-/// Returns whether the number of counted packets has reached this limit. The result is `false` if there is no limit.
-pub(crate) fn is_full(limit: Option<u64>, summary: &Summary) -> bool
-    ensures { result ≡ is_full limit summary.now.packets }
+/// Returns whether the number of lines has reached the requested number. The result is `false` if no number is requested. If no lines are
+/// requested, the number of counted packets is compared.
+pub(crate) fn is_full(parts: &Parts, summary: &Summary) -> bool
+    ensures { result ≡ is_full parts.now.limit (limited parts.now.lines summary.now) }
 {
-    match limit {
-        Some(limit) => summary.packets() >= limit,
+    match parts.limit {
+        Some(limit) => limited(parts.lines, summary) >= u128::from(limit),
         None => false,
+    }
+}
+
+/// Returns the number that a requested number limits: how many of the counted packets have a line. If no lines are requested, it is the
+/// number of counted packets.
+fn limited(lines: Lines, summary: &Summary) -> u128
+    ensures { result ≡ limited lines summary.now }
+{
+    match lines {
+        Lines::All | Lines::None => u128::from(summary.packets()),
+        Lines::Wrong => {
+            let wrong = summary.verdict(VerdictKind::Wrong);
+            u128::from(wrong) + u128::from(summary.verdict(VerdictKind::Refused))
+        }
     }
 }
 

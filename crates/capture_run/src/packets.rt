@@ -4,7 +4,7 @@ ghost use Rattle.std.specs.Prelude.{◌≡◌, ◌<◌, ◌-◌, ◌^◌, ℕ, L
 ghost use Rattle.capture_file.specs.CapturePackets.{ArePacketsBeforeCut, BeginsInput, HasPackets, FilePacket, ReadsOne};
 ghost use Rattle.capture_file.specs.declared.reader.next_packet.NextPacket.{NextPacket};
 ghost use Rattle.capture_packet.specs.Frames.{max_packet_len};
-ghost use Rattle.capture_request.specs.Limits.{EndsByLimit, EndsWithoutLimit, IsWithin};
+ghost use Rattle.capture_request.specs.Limits.{EndsByLimit, EndsWithoutLimit, IsWithin, limited};
 ghost use Rattle.capture_run.specs.PacketsText.{IsCaptureReport, WritesPacket, WritesPackets};
 ghost use Rattle.capture_request.specs.Report.{CountsEach, IsReadToEnd, ReadsWholePackets, ReportsNext};
 ghost use Rattle.capture_run.specs.Runs.{RejectsBeginning};
@@ -17,7 +17,7 @@ use capture_file::reader::{CaptureReader, NextPacket};
 use std::io::{Read, Write};
 
 /// Reads a capture, counts its chosen packets, and writes the line of each chosen packet that has a line. The inner error is the reason why
-/// the capture is refused, or why no further packet can be read. After the last requested packet no byte is read. `capture` becomes the
+/// the capture is refused, or why no further packet can be read. After the last requested line no byte is read. `capture` becomes the
 /// reader after the packets, or `None` if the beginning of the capture is not accepted.
 pub(crate) fn report_packets<R: Read, W: Write>(
     packets: &mut PacketReport,
@@ -28,9 +28,9 @@ pub(crate) fn report_packets<R: Read, W: Write>(
 ) -> Result<Result<Reached, CaptureError>, WriteError>
     ensures report { IfOk result (λ ended. AppendsOne (W.contents output.old) (W.contents output.new)
         (IsCaptureReport packets.old.parts (R.remaining input.old) (R.remaining input.new) ended packets.old.summary packets.new.summary capture.new)) }
-    ensures limit { IfOk result (EndsByLimit packets.old.parts.limit packets.new.summary.packets) }
-    ensures within { IsWithin packets.old.parts.limit packets.old.summary.packets
-        → IfOk result (λ ended. IsWithin packets.old.parts.limit packets.new.summary.packets) }
+    ensures limit { IfOk result (EndsByLimit packets.old.parts.limit (limited packets.old.parts.lines packets.new.summary)) }
+    ensures within { IsWithin packets.old.parts.limit (limited packets.old.parts.lines packets.old.summary)
+        → IfOk result (λ ended. IsWithin packets.old.parts.limit (limited packets.old.parts.lines packets.new.summary)) }
     ensures silent { packets.old.parts.lines ≡ Lines.None → output.new ≡ output.old }
 {
     packets.start_capture();
@@ -77,9 +77,9 @@ fn report_each_packet<R: Read, W: Write>(
         → R.remaining input.old ≡ Some (take cut whole) → HasPackets max_packet_len reader.old whole all next
         → (before_cut : List FilePacket) × ArePacketsBeforeCut max_packet_len reader.old whole cut all before_cut
         × CountsEach packets.old.parts.choice packets.old.summary before_cut packets.new.summary) }
-    ensures limit { IfOk result (EndsByLimit packets.old.parts.limit packets.new.summary.packets) }
-    ensures within { IsWithin packets.old.parts.limit packets.old.summary.packets
-        → IfOk result (λ ended. IsWithin packets.old.parts.limit packets.new.summary.packets) }
+    ensures limit { IfOk result (EndsByLimit packets.old.parts.limit (limited packets.old.parts.lines packets.new.summary)) }
+    ensures within { IsWithin packets.old.parts.limit (limited packets.old.parts.lines packets.old.summary)
+        → IfOk result (λ ended. IsWithin packets.old.parts.limit (limited packets.old.parts.lines packets.new.summary)) }
     ensures after_packets { IfErr result (λ error.
         ReadsWholePackets reader.old (R.remaining input.old) (R.remaining input.new) reader.new) }
     ensures silent { packets.old.parts.lines ≡ Lines.None → output.new ≡ output.old }

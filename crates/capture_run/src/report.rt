@@ -8,11 +8,10 @@ ghost use Rattle.capture_run.specs.Captures.{Gives, IsRun, ReportsEach, ReportsH
 ghost use Rattle.capture_request.specs.ErrorLines.{line_name};
 ghost use Rattle.capture_request.specs.Names.{shown_name};
 
-use crate::capture_reports::CaptureReports;
+use crate::capture_reports::{CaptureReports, has_headings};
 use crate::named_capture::NamedCapture;
 use crate::{
-    ExitStatus, Format, Lines, MAX_PACKET_LEN, Open, Outputs, Parts, STANDARD_INPUT, Sources,
-    WriteError,
+    ExitStatus, Format, MAX_PACKET_LEN, Open, Outputs, Parts, STANDARD_INPUT, Sources, WriteError,
 };
 use capture_facts::ShownText;
 use capture_json::write_file_name;
@@ -26,7 +25,7 @@ use std::io::Write;
 /// provides the keys for hashing flows. With random keys, no capture can be crafted to slow down the search for a flow. Packets are read
 /// into `buffer`. A packet that is longer than the buffer is not read, but it is counted if it is chosen.
 ///
-/// If a number of packets is requested, the run ends after the last requested packet, and reads no further capture.
+/// If a number of lines is requested, the run ends after the last requested line, and reads no further capture.
 ///
 /// If a capture can't be opened, or can't be read to its end, the call writes a line with its name and the error to `outputs.errors`. Then
 /// the call reports the next capture. The exit status is `Fault` if a check is requested, and a packet has a wrong checksum or was refused.
@@ -54,7 +53,7 @@ pub fn run<O: Open, W: Write, E: Write>(
 {
     let reports = CaptureReports::new(outputs.alloc, state, parts);
     let reports = report_captures(sources, reports, buffer, outputs)?;
-    let status = reports.finish(outputs.alloc, &mut outputs.report)?;
+    let status = reports.finish(sources.names.len(), outputs.alloc, &mut outputs.report)?;
     match reports.into_unwritten() {
         Some(error) => Err(WriteError::Write(error)),
         None => Ok(status),
@@ -120,7 +119,7 @@ fn report_each_capture<O: Open, W: Write, E: Write>(
 }
 
 /// Reports a capture. A heading precedes its packets if several captures are named and packets may have lines. The capture is skipped if
-/// the requested number of packets was already counted.
+/// the requested number was already reached.
 fn report_headed<O: Open, W: Write, E: Write>(
     capture: &NamedCapture<'_>,
     opener: &O,
@@ -194,7 +193,7 @@ fn write_heading_if_any<W: Write>(
     ensures { OnOk result (Appends (W.contents output.old) (W.contents output.new)
         (heading_of parts.now capture.now.count capture.now.place capture.now.name.now)) }
 {
-    if capture.count <= 1 || parts.lines == Lines::None {
+    if !has_headings(parts.lines, capture.count) {
         return Ok(());
     }
     write_heading(output, alloc, parts.format, capture.place, capture.name)

@@ -161,23 +161,23 @@ file_refused options error given start after left still_left held now_held count
     subst (λ given. PassesFile options (Err given) start after left still_left held now_held counts now_counts) (sym is)
     (first_error options error start after left still_left held now_held counts now_counts stops)
 
-at_beginning_below : (limit : Option ℕ) (chosen : ℕ) (error : SelectionError) → EndsAtLimit limit chosen (Err error)
-    → EndsAtLimit limit chosen (Err (at_beginning error))
-at_beginning_below limit chosen (Write error) ends = tt
-at_beginning_below limit chosen (Capture (Read number offset error)) ends = ends
-at_beginning_below limit chosen (Capture (RecordCutOff number offset required len)) ends = tt
-at_beginning_below limit chosen (Capture (Refused error)) ends = tt
-at_beginning_below limit chosen (Capture (Header error)) ends = tt
-at_beginning_below limit chosen (Capture (ReadHeader error)) ends = tt
-at_beginning_below limit chosen (Capture TooManyPackets) ends = tt
+at_beginning_below : (limit : Option ℕ) (written : ℕ) (error : SelectionError) → EndsAtLimit limit written (Err error)
+    → EndsAtLimit limit written (Err (at_beginning error))
+at_beginning_below limit written (Write error) ends = tt
+at_beginning_below limit written (Capture (Read number offset error)) ends = ends
+at_beginning_below limit written (Capture (RecordCutOff number offset required len)) ends = tt
+at_beginning_below limit written (Capture (Refused error)) ends = tt
+at_beginning_below limit written (Capture (Header error)) ends = tt
+at_beginning_below limit written (Capture (ReadHeader error)) ends = tt
+at_beginning_below limit written (Capture TooManyPackets) ends = tt
 
--- the error of the first block, if fewer packets were chosen before it than requested
+-- the error of the first block, if fewer packets were written before it than requested
 pub first_below : (options : Parts) (error given : SelectionError) (start : Blocks) (left still_left held now_held : Option (List ℕ))
     (counts now_counts : Counts)
-    → is_full options.limit counts.chosen ≡ false → given ≡ at_beginning error
+    → is_full options.limit counts.written ≡ false → given ≡ at_beginning error
     → (IsWriteError error ⊎ StopsBy (blocks_of options) error start left still_left held now_held counts now_counts)
-    → EndsAtLimit options.limit now_counts.chosen (Err given)
+    → EndsAtLimit options.limit now_counts.written (Err given)
 first_below options error given start left still_left held now_held counts now_counts below is ends =
-    subst (λ given. EndsAtLimit options.limit now_counts.chosen (Err given)) (sym is)
-    (at_beginning_below options.limit now_counts.chosen error
+    subst (λ given. EndsAtLimit options.limit now_counts.written (Err given)) (sym is)
+    (at_beginning_below options.limit now_counts.written error
     (error_below (block_selection options) options.limit error start left still_left held now_held counts now_counts below ends))

@@ -235,23 +235,23 @@ nothing_if true written bytes is unwritten = absurd (cc unwritten)
 nothing_if false written bytes is unwritten = is
 
 -- a number of packets is within the limit after another packet, if the limit was not reached before
-pub within_one : (limit : Option ℕ) (chosen now_chosen : ℕ) → is_full limit chosen ≡ false → now_chosen ≤ chosen + 1 → IsWithin limit now_chosen
-within_one None chosen now_chosen below one = tt
-within_one (Some limit) chosen now_chosen below one = grind (arith, nat_tests)
+pub within_one : (limit : Option ℕ) (written now_written : ℕ) → is_full limit written ≡ false → now_written ≤ written + 1 → IsWithin limit now_written
+within_one None written now_written below one = tt
+within_one (Some limit) written now_written below one = grind (arith, nat_tests)
 
 -- ---- a requested number of packets
 
--- if no packet is counted, the number of packets stays below the limit
-same_below : (limit : Option ℕ) (counts now_counts : Counts) → is_full limit counts.chosen ≡ false → now_counts ≡ counts
-    → is_full limit now_counts.chosen ≡ false
-same_below limit counts now_counts below same = subst (λ given. is_full limit given.chosen ≡ false) (sym same) below
+-- if no packet is counted, the number of written packets stays below the limit
+same_below : (limit : Option ℕ) (counts now_counts : Counts) → is_full limit counts.written ≡ false → now_counts ≡ counts
+    → is_full limit now_counts.written ≡ false
+same_below limit counts now_counts below same = subst (λ given. is_full limit given.written ≡ false) (sym same) below
 
--- an error in a part before which fewer packets were chosen than requested
+-- an error in a part before which fewer packets were written than requested
 pub error_below : (selection : Selection) (limit : Option ℕ) (error : SelectionError) (state : selection.State) (left still_left held now_held : Option (List ℕ))
     (counts now_counts : Counts)
-    → is_full limit counts.chosen ≡ false
+    → is_full limit counts.written ≡ false
     → (IsWriteError error ⊎ StopsBy (format_of selection) error state left still_left held now_held counts now_counts)
-    → EndsAtLimit limit now_counts.chosen (Err error)
+    → EndsAtLimit limit now_counts.written (Err error)
 error_below selection limit (Write error) state left still_left held now_held counts now_counts below ends = tt
 error_below selection limit (Capture error) state left still_left held now_held counts now_counts below (inl failed) = absurd failed
 error_below selection limit (Capture (Read number offset error)) state left still_left held now_held counts now_counts below (inr stops) =
@@ -267,26 +267,26 @@ error_below selection limit (Capture TooManyPackets) state left still_left held 
 -- the same of a result
 pub ends_below : (selection : Selection) (limit : Option ℕ) (result : Result Reached SelectionError) (error : SelectionError) (state : selection.State)
     (left still_left held now_held : Option (List ℕ)) (counts now_counts : Counts)
-    → is_full limit counts.chosen ≡ false
+    → is_full limit counts.written ≡ false
     → (IsWriteError error ⊎ StopsBy (format_of selection) error state left still_left held now_held counts now_counts)
-    → result ≡ Err error → EndsAtLimit limit now_counts.chosen result
+    → result ≡ Err error → EndsAtLimit limit now_counts.written result
 ends_below selection limit result error state left still_left held now_held counts now_counts below ends fails =
-    subst (λ given. EndsAtLimit limit now_counts.chosen given) (sym fails)
+    subst (λ given. EndsAtLimit limit now_counts.written given) (sym fails)
     (error_below selection limit error state left still_left held now_held counts now_counts below ends)
 
 -- there is no part after the last of fewer packets than requested
 pub none_below : (selection : Selection) (limit : Option ℕ) (is_any : Bool) (before after : selection.State) (left still_left held now_held : Option (List ℕ))
     (counts now_counts : Counts)
-    → is_full limit counts.chosen ≡ false
+    → is_full limit counts.written ≡ false
     → PassesAny (format_of selection) (Ok is_any) before after left still_left held now_held counts now_counts → is_any ≡ false
-    → is_full limit now_counts.chosen ≡ false
+    → is_full limit now_counts.written ≡ false
 none_below selection limit true before after left still_left held now_held counts now_counts below one is = absurd (cc is)
 none_below selection limit false before after left still_left held now_held counts now_counts below none is =
     same_below limit counts now_counts below none.3
 
 -- if nothing is counted after the limit is reached, the limit is still reached
-pub still_full : (limit : Option ℕ) (first counts : Counts) → (is_full limit first.chosen ≡ true → counts ≡ first)
-    → is_full limit counts.chosen ≡ false → is_full limit first.chosen ≡ true → ⊥
+pub still_full : (limit : Option ℕ) (first counts : Counts) → (is_full limit first.written ≡ true → counts ≡ first)
+    → is_full limit counts.written ≡ false → is_full limit first.written ≡ true → ⊥
 still_full limit first counts same below full =
-    let still : is_full limit counts.chosen ≡ true = subst (λ given. is_full limit given.chosen ≡ true) (sym (same full)) full in
+    let still : is_full limit counts.written ≡ true = subst (λ given. is_full limit given.written ≡ true) (sym (same full)) full in
     cc (sym still ∙ below)

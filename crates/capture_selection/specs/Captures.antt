@@ -33,7 +33,7 @@ SelectsBlocks options result left still_left held now_held counts now_counts =
     IsPcapng left
     × (((start : Blocks) × (after : Blocks) × IsFileStart start
     × PassesFile options result start after left still_left held now_held counts now_counts)
-    ⊎ ((is_full options.limit counts.chosen ≡ true) × SelectsNothing held now_held counts now_counts × (result ≡ Ok Limit)))
+    ⊎ ((is_full options.limit counts.written ≡ true) × SelectsNothing held now_held counts now_counts × (result ≡ Ok Limit)))
 
 -- The selection of a capture up to this result. If the header of a classic capture is refused or can't be read, nothing was written. A
 -- pcapng file does not cause an error for the header of a classic capture. If a write failed, nothing is stated.

@@ -115,12 +115,12 @@ format_of selection = record {
   max_parts = max_packets;
 }
 
--- If the result states that the limit was reached, the requested number of packets was chosen. Otherwise fewer packets were chosen. Nothing
+-- If the result states that the limit was reached, the requested number of packets was written. Otherwise fewer were written. Nothing
 -- is stated about errors of the header, about failed writes, or about too many packets.
 abbrev pub EndsAtLimit : Option ℕ → ℕ → Result Reached SelectionError → Type 0
-EndsAtLimit limit chosen (Ok reached) = EndsByLimit limit chosen (Ok reached)
-EndsAtLimit limit chosen (Err (Capture error)) = EndsByLimit limit chosen (Err error)
-EndsAtLimit limit chosen (Err (Write error)) = ⊤
+EndsAtLimit limit written (Ok reached) = EndsByLimit limit written (Ok reached)
+EndsAtLimit limit written (Err (Capture error)) = EndsByLimit limit written (Err error)
+EndsAtLimit limit written (Err (Write error)) = ⊤
 
 -- ---- bytes that are copied by pieces
 

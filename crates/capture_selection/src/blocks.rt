@@ -107,13 +107,13 @@ pub(crate) fn select_blocks<R: Read, W: Write>(
 ) -> Result<Reached, SelectionError>
     requires begin { AreFirst begin.now (R.remaining copier.old.input) }
     requires some { 1 ≤ length begin.now }
-    requires below { is_full parts.now.limit counts.old.chosen ≡ false }
+    requires below { is_full parts.now.limit counts.old.written ≡ false }
     ensures passes { (left : Option (List ℕ)) → Consumes left (R.remaining copier.old.input) begin.now → PassesFile parts.now result
         file.old file.new left (R.remaining copier.new.input)
         (W.contents copier.old.output) (W.contents copier.new.output) counts.old counts.new }
     ensures ends { result ≡ Ok End → IsAtEnd (R.remaining copier.new.input) }
-    ensures limit { EndsAtLimit parts.now.limit counts.new.chosen result }
-    ensures within { IsWithin parts.now.limit counts.new.chosen }
+    ensures limit { EndsAtLimit parts.now.limit counts.new.written result }
+    ensures within { IsWithin parts.now.limit counts.new.written }
 {
     let outcome = match select_block(copier, begin, file, parts) {
         Ok(outcome) => outcome,
@@ -135,8 +135,8 @@ fn select_others<R: Read, W: Write>(
         (W.contents copier.old.output) (W.contents copier.new.output) counts.old counts.new }
     ensures ends { result ≡ Ok End → IsAtEnd (R.remaining copier.new.input) }
     ensures past { 1 ≤ file.old.reader.offset → IsPastFirst result }
-    ensures limit { EndsAtLimit parts.now.limit counts.new.chosen result }
-    ensures within { IsWithin parts.now.limit counts.old.chosen → IsWithin parts.now.limit counts.new.chosen }
+    ensures limit { EndsAtLimit parts.now.limit counts.new.written result }
+    ensures within { IsWithin parts.now.limit counts.old.written → IsWithin parts.now.limit counts.new.written }
 {
     for _block in 0..u64::MAX {
         if counts.is_full(parts.limit) {
@@ -160,7 +160,7 @@ fn select_next<R: Read, W: Write>(
     ensures passes { PassesAny (blocks_of parts.now) result file.old file.new (R.remaining copier.old.input) (R.remaining copier.new.input)
         (W.contents copier.old.output) (W.contents copier.new.output) counts.old counts.new }
     ensures ends { result ≡ Ok false → IsAtEnd (R.remaining copier.new.input) }
-    ensures one { counts.new.chosen ≤ counts.old.chosen + 1 }
+    ensures one { counts.new.written ≤ counts.old.written + 1 }
 {
     let mut first = [0u8; MIN_BLOCK_LEN];
     let len = read_into(&mut copier.input, &mut first, file.place())?;

@@ -26,7 +26,7 @@ use streams::fill;
 /// unchanged unless it contains a packet that is left out. The only change is that each section length is set to -1, which means that it is
 /// not specified (draft-ietf-opsawg-pcapng, section 4.1).
 ///
-/// If a number of packets is requested, the capture is read up to the last requested packet. The result states how far it was read.
+/// If a number of lines is requested, the capture is read up to the packet with the last of them. The result states how far it was read.
 ///
 /// # Errors
 ///
@@ -43,9 +43,9 @@ pub fn write_selected<R: Read, W: Write>(
         (W.contents copier.old.output) (W.contents copier.new.output)
         counts.old counts.new }
     ensures ends { result ≡ Ok End → IsAtEnd (R.remaining copier.new.input) }
-    ensures limit { EndsAtLimit parts.now.limit counts.new.chosen result }
-    ensures full { is_full parts.now.limit counts.old.chosen ≡ true → counts.new ≡ counts.old }
-    ensures within { IsWithin parts.now.limit counts.old.chosen → IsWithin parts.now.limit counts.new.chosen }
+    ensures limit { EndsAtLimit parts.now.limit counts.new.written result }
+    ensures full { is_full parts.now.limit counts.old.written ≡ true → counts.new ≡ counts.old }
+    ensures within { IsWithin parts.now.limit counts.old.written → IsWithin parts.now.limit counts.new.written }
 {
     let mut begin = [0u8; MIN_BLOCK_LEN];
     let len = match fill(&mut copier.input, &mut begin) {
@@ -76,9 +76,9 @@ fn select_capture<R: Read, W: Write>(
         (W.contents copier.old.output) (W.contents copier.new.output)
         counts.old counts.new }
     ensures ends { result ≡ Ok End → IsAtEnd (R.remaining copier.new.input) }
-    ensures limit { EndsAtLimit parts.now.limit counts.new.chosen result }
-    ensures full { is_full parts.now.limit counts.old.chosen ≡ true → counts.new ≡ counts.old }
-    ensures within { IsWithin parts.now.limit counts.old.chosen → IsWithin parts.now.limit counts.new.chosen }
+    ensures limit { EndsAtLimit parts.now.limit counts.new.written result }
+    ensures full { is_full parts.now.limit counts.old.written ≡ true → counts.new ≡ counts.old }
+    ensures within { IsWithin parts.now.limit counts.old.written → IsWithin parts.now.limit counts.new.written }
 {
     let header = match copier.copy_header(begin) {
         Ok(Ok(header)) => header,

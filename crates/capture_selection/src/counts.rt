@@ -10,9 +10,9 @@ use crate::Outcome;
 pub struct Counts {
     /// The packets that were read.
     pub read: u64,
-    /// The packets that are chosen, with or without a line in the report. The requested number of packets limits this number.
+    /// The packets that are chosen, with or without a line in the report.
     pub chosen: u64,
-    /// The packets that were written.
+    /// The packets that were written. A requested number of lines limits this number.
     pub written: u64,
 }
 
@@ -27,7 +27,7 @@ impl Counts {
     /// Counts a packet with this outcome.
     pub fn add(&mut self, outcome: Outcome)
         ensures counted { self.new ≡ counted self.old outcome }
-        ensures one { self.new.chosen ≤ self.old.chosen + 1 }
+        ensures one { self.new.written ≤ self.old.written + 1 }
     {
         self.read = self.read.saturating_add(1);
         if outcome != Outcome::Excluded {
@@ -40,18 +40,18 @@ impl Counts {
     /// Counts a packet with this outcome, or nothing if the outcome is `None`.
     pub(crate) fn add_if(&mut self, outcome: Option<Outcome>)
         ensures counted { self.new ≡ fold counted self.old (option_to_list outcome) }
-        ensures one { self.new.chosen ≤ self.old.chosen + 1 }
+        ensures one { self.new.written ≤ self.old.written + 1 }
     {
         if let Some(outcome) = outcome {
             self.add(outcome);
         }
     }
-    /// Whether the number of chosen packets has reached this limit. If there is no limit, the result is `false`.
+    /// Whether the number of written packets has reached this limit. If there is no limit, the result is `false`.
     pub fn is_full(&self, limit: Option<u64>) -> bool
-        ensures { result ≡ is_full limit self.now.chosen }
+        ensures { result ≡ is_full limit self.now.written }
     {
         match limit {
-            Some(limit) => self.chosen >= limit,
+            Some(limit) => self.written >= limit,
             None => false,
         }
     }

@@ -65,9 +65,9 @@ pub(crate) fn select_records<R: Read, W: Write>(
         (R.remaining copier.new.input)
         (W.contents copier.old.output) (W.contents copier.new.output) counts.old counts.new }
     ensures ends { result ≡ Ok End → IsAtEnd (R.remaining copier.new.input) }
-    ensures limit { EndsAtLimit parts.now.limit counts.new.chosen result }
-    ensures full { is_full parts.now.limit counts.old.chosen ≡ true → counts.new ≡ counts.old }
-    ensures within { IsWithin parts.now.limit counts.old.chosen → IsWithin parts.now.limit counts.new.chosen }
+    ensures limit { EndsAtLimit parts.now.limit counts.new.written result }
+    ensures full { is_full parts.now.limit counts.old.written ≡ true → counts.new ≡ counts.old }
+    ensures within { IsWithin parts.now.limit counts.old.written → IsWithin parts.now.limit counts.new.written }
 {
     for _record in 1..u64::MAX {
         if counts.is_full(parts.limit) {
@@ -92,7 +92,7 @@ fn select_record<R: Read, W: Write>(
         (R.remaining copier.new.input)
         (W.contents copier.old.output) (W.contents copier.new.output) counts.old counts.new }
     ensures ends { result ≡ Ok false → IsAtEnd (R.remaining copier.new.input) }
-    ensures one { counts.new.chosen ≤ counts.old.chosen + 1 }
+    ensures one { counts.new.written ≤ counts.old.written + 1 }
 {
     let mut first = [0u8; RecordHeader::LEN];
     let len = read_into(&mut copier.input, &mut first, records.place)?;

@@ -13,7 +13,7 @@ from ..build import COOKED2, ETHERNET, IPV4, capture, frame, ipv4, udp
 from ..kinds import every_kind
 from ..program import version
 from .choices import is_chosen
-from .report import PROGRAM, lines_of, run, without_facts
+from .report import PROGRAM, lines_of, parts_of, run, without_facts
 
 
 def check_files(tally):
@@ -83,7 +83,9 @@ def check_files(tally):
             files = [json.loads(line).get("file") for line in lines_of(run_in("right.pcap", name, "--packets", "--json").stdout)]
             tally.expect(f"{name} in JSON", [file for file in files if file], ["right.pcap", shown if error else name])
         check_filters(tally, run_in, right, its_lines[1], kept)
+        check_headings(tally, run_in)
         check_count(tally, run_in, its_lines[0].splitlines(), its_lines[1].splitlines())
+        check_wrong_count(tally, run_in)
     terminal, its_end = pty.openpty()
     done = subprocess.run([PROGRAM.path], stdin=its_end, capture_output=True, timeout=60)
     tally.expect("a terminal as standard input", (done.returncode, done.stdout, "[FILE]..." in done.stderr.decode()), (2, b"", True))
@@ -100,6 +102,7 @@ def check_filters(tally, run_in, right, its_lines, kept):
         (("tcp", "port", "80", "--packets"), "tcp"), (("-r", "right.pcap", "port", "53"), "port"), (("right.pcap", "host", "10.0.0.1"), "host"),
         (("right.pcap", "none.pcap", "udp"), "udp"), (("tcp port 80",), "tcp port 80"), (("-w", "-", "udp"), "udp"), (("--json", "right.pcap", "net"), "net"),
         (("right.pcap", b"a\xff.pcap", "not"), "not"), (("-l", "right.pcap", "src"), "src"), (("host " + "x" * 300,), "host " + "x" * 300),
+        (("right.pcap", "vlan", "10"), "vlan"), (("less", "64"), "less"), (("greater", "64"), "greater"), (("sctp",), "sctp"),
     ]:
         done = run_in(*arguments, data=right)
         error = "File name too long (os error 36)" if len(word) > 255 else "No such file or directory (os error 2)"
@@ -126,8 +129,39 @@ def check_filters(tally, run_in, right, its_lines, kept):
         tally.expect("a named pipe with the name of a filter", (process.stdout.read().decode(), process.wait(20)), (its_lines, 0))
 
 
+def check_headings(tally, run_in):
+    """An empty line separates the headings from the summary, also if only one capture can be read and no packet has a line."""
+    summary = without_facts(run_in("--summary", "right.pcap"))
+    for names in (("right.pcap", "none.pcap"), ("none.pcap", "right.pcap"), ("text", "right.pcap", "none.pcap")):
+        for arguments in (("--wrong",), ("--wrong", "--port", "53")):
+            done = run_in(*arguments, *names)
+            wanted = "\n\n".join(f"==> {name} <==" for name in names) + "\n\n"
+            tally.expect(f"{arguments} of {names}", (done.returncode, done.stdout.decode().startswith(f"{wanted}file type classic, ")), (3, True))
+    done = run_in("--wrong", "right.pcap", "none.pcap")
+    tally.expect("the summary of one of two captures", without_facts(done).endswith(f"==> none.pcap <==\n\n{summary}"), True)
+    done = run_in("--wrong", "right.pcap")
+    tally.expect("no empty line without headings", done.stdout.decode().startswith("file type classic, "), True)
+
+
+def check_wrong_count(tally, run_in):
+    """With --wrong only the lines that are written count, and with --summary the packets that are selected."""
+    wrong = lines_of(run_in("--wrong", "--packets", "all.pcap").stdout)
+    for count in (1, 2, 5, len(wrong)):
+        done = run_in("-c", str(count), "--wrong", "--packets", "all.pcap")
+        tally.expect(f"-c {count} --wrong", (done.returncode, lines_of(done.stdout)), (0, wrong[:count]))
+        done = run_in("-c", str(count), "--wrong", "right.pcap", "all.pcap", "none.pcap")
+        wanted = ["==> right.pcap <==", "", "==> all.pcap <==", *wrong[:count], ""]
+        last = parts_of(wrong[count - 1])[0]
+        tally.expect(f"-c {count} --wrong of three", (done.returncode, lines_of(done.stdout)[:len(wanted)], done.stderr), (0, wanted, b""))
+        tally.expect(f"packets of -c {count} --wrong", f"\npackets {int(last) + 2}, bytes " in done.stdout.decode(), True)
+        done = run_in("-c", str(count), "--summary", "all.pcap")
+        tally.expect(f"-c {count} --summary", (done.returncode, without_facts(done).startswith(f"packets {count}, bytes ")), (0, True))
+    done = run_in("-c", str(len(wrong) + 1), "--wrong", "--packets", "all.pcap", "none.pcap")
+    tally.expect("-c above all wrong lines", (done.returncode, lines_of(done.stdout)), (3, ["==> all.pcap <==", *wrong, "", "==> none.pcap <=="]))
+
+
 def check_count(tally, run_in, every, right):
-    """The report ends after a number of packets that are chosen, and reads no further capture. These are the lines of two captures."""
+    """The report ends after a number of lines, and reads no further capture. These are the lines of two captures."""
     for count in (1, 3, len(every) - 1, len(every)):
         done = run_in("-c", str(count), "--packets", "all.pcap")
         tally.expect(f"-c {count}", (done.returncode, lines_of(done.stdout)), (0, every[:count]))

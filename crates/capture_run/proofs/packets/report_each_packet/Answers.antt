@@ -133,7 +133,7 @@ loop-number-preserved g c =
       c.report_next.ensures.buffer ∙ len,
       c.report_next.ensures.parts ∙ parts,
       λ none. c.report_next.ensures.silent (ap (λ ps. ps.lines) parts ∙ none) ∙ silent none,
-      λ _. within_step initial.parts.limit initial.parts.choice next.packet before after (rw parts at (sym c.is_full.ensures ∙ c.if-is_full.false))
+      λ _. within_step initial.parts next.packet before after (rw parts at (sym c.is_full.ensures ∙ c.if-is_full.false))
           next.counted,
       one.is_first ∙ sym (first-push initial.first packets next.packet),
       inr (packets, next.packet, before, refl, counted, rw parts at (sym c.is_full.ensures ∙ c.if-is_full.false)),

@@ -1,7 +1,7 @@
 use Rattle.std.proofs.Common.{◌≡◌, ◌+◌, ◌≤◌, List, length}
 use Rattle.capture_file.specs.CapturePackets.{FilePacket, ReadsPackets}
 use Rattle.capture_packet.specs.Frames.{max_packet_len}
-use Rattle.capture_request.specs.Limits.{EndsWithRequested, IsWithin}
+use Rattle.capture_request.specs.Limits.{EndsWithRequested, IsWithin, limited}
 use Rattle.capture_run.specs.PacketsText.{IsPacketsText, first_time}
 use Rattle.capture_request.specs.Report.{CountsEach}
 use Rattle.capture_words.specs.Written.{AppendsOne}
@@ -19,8 +19,9 @@ invariant-loop-number g l =
     × (length l.buffer ≡ length l.initial.buffer)
     × (l.packets.parts ≡ l.initial.packets.parts)
     × (l.initial.packets.parts.lines ≡ lines.None → l.output ≡ l.initial.output)
-    × (IsWithin l.initial.packets.parts.limit l.initial.packets.summary.packets → IsWithin l.initial.packets.parts.limit l.packets.summary.packets)
+    × (IsWithin l.initial.packets.parts.limit (limited l.initial.packets.parts.lines l.initial.packets.summary)
+    → IsWithin l.initial.packets.parts.limit (limited l.initial.packets.parts.lines l.packets.summary))
     × (l.packets.first ≡ first_time l.initial.packets.first packets)
-    × EndsWithRequested l.initial.packets.parts.limit l.initial.packets.parts.choice l.initial.packets.summary packets
+    × EndsWithRequested l.initial.packets.parts l.initial.packets.summary packets
     × AppendsOne (g.W.Write.contents l.initial.output) (g.W.Write.contents l.output)
     (IsPacketsText l.initial.packets.parts 1 l.initial.packets.first packets)

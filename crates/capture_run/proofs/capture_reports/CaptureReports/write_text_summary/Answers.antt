@@ -1,5 +1,5 @@
 use Rattle.std.proofs.KnownBytes.{Appends-trans}
-use Rattle.capture_run.proofs.capture_reports.write_text_summary.Goals as goal
+use Rattle.capture_run.proofs.capture_reports.CaptureReports.write_text_summary.Goals as goal
 
 -- the facts and the tables follow the empty line
 pub returns : goal.returns
