@@ -1,5 +1,6 @@
 //! Tests of the crate `capture_summary`.
 
 mod choice;
+mod endpoints;
 mod kinds;
 mod summary;

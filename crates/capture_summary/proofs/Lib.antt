@@ -1,5 +1,8 @@
 mod ConversationLemmas
 mod CountedPacketsLemmas
+mod EndpointOrder
+mod EndpointRows
+mod EndpointTable
 mod FlowLemmas
 mod FlowPlacesLemmas
 mod NetworkLemmas

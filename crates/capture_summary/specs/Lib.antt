@@ -1,6 +1,7 @@
 pub mod Choice
 pub mod Conversations
 pub mod CountedPackets
+pub mod Endpoints
 pub mod FlowOf
 pub mod FlowPlaces
 pub mod FlowTable

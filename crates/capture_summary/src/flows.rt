@@ -1,7 +1,7 @@
 ghost use Rattle.std.specs.Prelude.{◌≡◌, ◌<◌, ◌-◌, ◌^◌, ◌+◌, IfOk, OnOk, OnErr};
 ghost use Rattle.capture_summary.specs.FlowTable.{packets_counted, table_counted};
 
-use crate::{ConversationCount, Count, Flow, ranking};
+use crate::{ConversationCount, Count, EndpointCount, Flow, endpoints, ranking};
 use capture_file::PacketTime;
 use std::alloc::{AllocError, Global};
 use std::collections::HashMap;
@@ -43,6 +43,7 @@ impl Model for Flows {
 impl Flows {
     ghost use Rattle.std.specs.Prelude.{[], ◌∷◌, ◌++◌, length, None};
     ghost use Rattle.capture_summary.specs.Conversations.{new_row, row_counted};
+    ghost use Rattle.capture_summary.specs.Endpoints.{AreBusiestEndpoints, busiest_endpoints};
     ghost use Rattle.capture_summary.specs.FlowTable.{max_conversations, place_of};
     ghost use Rattle.capture_summary.specs.Ranking.{AreBusiest, busiest_of};
     ghost use Rattle.capture_summary.specs.Tables.{no_packets};
@@ -135,6 +136,21 @@ impl Flows {
         ensures ranked { IfOk result (λ busiest. AreBusiest top self.now.rows busiest.items) }
     {
         ranking::busiest(alloc, &self.counts, top)
+    }
+
+    /// The addresses of the conversations that have a row, at most `top` of them, each with the count of all packets of its conversations.
+    /// A packet counts for both of its addresses, or once if they are equal. The address with the most packets comes first. Of two addresses
+    /// with the same number of packets, the address with more bytes comes first. If these numbers are also equal, the lower address comes
+    /// first. Every IPv4 address is lower than every IPv6 address.
+    ///
+    /// # Errors
+    ///
+    /// `AllocError` if no memory is left, and for no other reason.
+    pub fn endpoints(&self, alloc: Global, top: usize) -> Result<Vec<EndpointCount>, AllocError>
+        ensures busiest { IfOk result (λ endpoints. endpoints.items ≡ busiest_endpoints top self.now.rows) }
+        ensures endpoints { IfOk result (λ endpoints. AreBusiestEndpoints top self.now.rows endpoints.items) }
+    {
+        endpoints::busiest(alloc, &self.counts, top)
     }
 
     /// Counts the first packet of a conversation.

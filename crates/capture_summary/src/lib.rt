@@ -4,10 +4,13 @@
 //! write its tables.
 #![tactic(auto)]
 
+mod busiest;
 mod capture_info;
 mod choice;
 mod conversation_count;
 mod count;
+mod endpoint_count;
+mod endpoints;
 mod flow;
 mod flows;
 #[doc(hidden)]
@@ -24,11 +27,13 @@ mod summary;
 mod time_span;
 mod verdict_kind;
 
+pub use busiest::Busiest;
 pub use capture_info::{CaptureInfo, FrameLen};
 pub use capture_protocols::{Protocol, ip_protocol_name, network_protocol_name};
 pub use choice::{Choice, ChosenProtocol, Hosts, MAX_CHOSEN, PortRange, Ports, Protocols};
 pub use conversation_count::ConversationCount;
 pub use count::Count;
+pub use endpoint_count::EndpointCount;
 pub use flow::{Flow, FlowProtocol};
 pub use flows::{Flows, MAX_CONVERSATIONS};
 pub use link_kind::LinkKind;

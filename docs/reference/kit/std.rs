@@ -47,6 +47,8 @@ pub mod cmp {
 }
 
 pub mod collections {
+    pub struct BTreeMap<K, V>(core::marker::PhantomData<(K, V)>);
+
     pub struct HashMap<K, V, S>(core::marker::PhantomData<(K, V, S)>);
 }
 
