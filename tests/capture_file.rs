@@ -1,5 +1,6 @@
 //! Tests of the crate `capture_file`.
 
 mod classic;
+mod interfaces;
 mod pcapng;
 mod reader;

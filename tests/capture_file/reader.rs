@@ -27,7 +27,7 @@ type PacketRow = (u64, u64, u32, &'static [u8]);
 /// The packets of each of these files.
 static PACKETS: [PacketRow; 2] = [(5, 6, 9, b"abc"), (7, 8, 5, b"defgh")];
 
-/// The packet of a row, with the byte order and the place of another packet.
+/// The packet of a row, with the byte order, the place and the interface of another packet.
 fn packet_of(row: &PacketRow, place: &CapturedPacket) -> CapturedPacket {
     let (seconds, fraction, original_len, captured) = *row;
     let time = PacketTime {
@@ -43,6 +43,7 @@ fn packet_of(row: &PacketRow, place: &CapturedPacket) -> CapturedPacket {
         start: place.start,
         captured_len: captured.len(),
         original_len,
+        interface: place.interface,
     }
 }
 

@@ -2,6 +2,7 @@ pub mod CapturePacketsExist
 pub mod CapturePacketsLaws
 pub mod CapturePacketsLemmas
 mod ClassicExamples
+pub mod InterfaceLaws
 pub mod OpeningLemmas
 pub mod PacketsOfBlocksLaws
 pub mod PacketsOfBlocksLemmas

@@ -7,7 +7,7 @@ use Rattle.std.specs.Prelude.{slice_get, slice_range}
 use Rattle.net_base.specs.Bytes.{IsBytes, be_number}
 use Rattle.capture_file.proofs.SectionLaws.{Given}
 use Rattle.capture_file.specs.CapturePackets.{FilePacket, packet_in}
-use Rattle.capture_texts.specs.Numbers.{number_at}
+use Rattle.capture_texts.specs.Numbers.{number_at, short_at}
 use Rattle.capture_file.specs.Packets.{packet_of_block, packet_start}
 use Rattle.capture_file.specs.PacketsOfBlocks.{interfaces_after, simple_packet, timed_packet, whole_result}
 use Rattle.capture_file.specs.Pcapng.{is_section_header, order_of}
@@ -170,11 +170,11 @@ module _ (before : Section) (header : BlockHeader) (body buffer : List ℕ)
   taken_timed : (after : Section) (given : Given) (interface : InterfaceDescription) (packet : PacketBlock) (number : ℕ)
       → packet_start header.block_type ≡ 28 → IsTimedPacket header.byte_order number body packet
       → given ≡ Ok (Some (packet_of_block header interface packet)) → After after
-      → Taken given after (Ok (Some (timed_packet header body interface)))
+      → Taken given after (Ok (Some (timed_packet header body number interface)))
   taken_timed after given interface packet number start is gives unchanged = (
     packet_of_block header interface packet,
     gives,
-    grind (arith, start, is.captured, is.timestamp, is.original_len, at 20 (number_at header.byte_order body 12)),
+    grind (arith, start, is.of_interface, is.captured, is.timestamp, is.original_len, at 20 (number_at header.byte_order body 12)),
     unchanged,
   )
 
@@ -186,7 +186,7 @@ module _ (before : Section) (header : BlockHeader) (body buffer : List ℕ)
     packet_of_block header interface packet,
     gives,
     let len = captured_len (number_at header.byte_order body 0) interface.snap_len in
-        grind (arith, start, is.captured, is.timestamp, is.original_len, at 4 len),
+        grind (arith, start, is.of_interface, is.captured, is.timestamp, is.original_len, at 4 len),
     unchanged,
   )
 
@@ -196,12 +196,14 @@ module _ (before : Section) (header : BlockHeader) (body buffer : List ℕ)
       → slice_get before.interfaces.items packet.interface ≡ Some interface
       → given ≡ Ok (Some (packet_of_block header interface packet)) → after ≡ before → Taken given after result
   taken_packet after given interface packet accepted (inl is) found gives unchanged =
-      let gives_packet : result ≡ Ok (Some (timed_packet header body interface)) = grind (arith, nat_tests, is.1.of_interface) in
+      let gives_packet : result ≡ Ok (Some (timed_packet header body (number_at header.byte_order body 0) interface)) =
+      grind (arith, nat_tests, is.1.of_interface) in
       subst (Taken given after) (sym gives_packet)
       (taken_timed after given interface packet _ (ap packet_start is.0) is.1 gives
       (after_packet after (λ section. cc (is.0, section)) (λ description. cc (is.0, description)) unchanged))
   taken_packet after given interface packet accepted (inr (inl is)) found gives unchanged =
-      let gives_packet : result ≡ Ok (Some (timed_packet header body interface)) = grind (arith, nat_tests, is.1.of_interface) in
+      let gives_packet : result ≡ Ok (Some (timed_packet header body (short_at header.byte_order body 0) interface)) =
+      grind (arith, nat_tests, is.1.of_interface) in
       subst (Taken given after) (sym gives_packet)
       (taken_timed after given interface packet _ (ap packet_start is.0) is.1 gives
       (after_packet after (λ section. cc (is.0, section)) (λ description. cc (is.0, description)) unchanged))

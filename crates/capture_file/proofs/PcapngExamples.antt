@@ -134,13 +134,21 @@ enhanced_packet =
       start = 28;
       captured_len = 4;
       original_len = 60;
+      interface = Some 0;
     }) (1 ∷ 2 ∷ 3 ∷ 4 ∷ [])
 
 -- the packet in the simple packet block, whose time is not known
 abbrev simple_packet : FilePacket
 simple_packet =
-    kept (record { link_type = Ok Ethernet; byte_order = LittleEndian; time = None; start = 12; captured_len = 4; original_len = 4 })
-    (5 ∷ 6 ∷ 7 ∷ 8 ∷ [])
+    kept (record {
+      link_type = Ok Ethernet;
+      byte_order = LittleEndian;
+      time = None;
+      start = 12;
+      captured_len = 4;
+      original_len = 4;
+      interface = Some 0;
+    }) (5 ∷ 6 ∷ 7 ∷ 8 ∷ [])
 
 -- the two packets belong to the interface that was described before them
 two_packets : packets_of_blocks 64 BigEndian [] 0 (section ∷ interface ∷ enhanced ∷ simple ∷ []) []

@@ -85,7 +85,7 @@ same_packet header interfaces body a b is is_other = grind (arith, nat_tests)
 -- two captured packets of one block are equal
 same_captured : (header : BlockHeader) (interface other : InterfaceDescription) (a b : PacketBlock) → interface ≡ other → SamePacket a b
     → packet_of_block header interface a ≡ packet_of_block header other b
-same_captured header interface other a b same is = cc (same, is.timestamp, is.original_len, ap length is.captured)
+same_captured header interface other a b same is = cc (same, is.interface, is.timestamp, is.original_len, ap length is.captured)
 
 -- ---- a block
 

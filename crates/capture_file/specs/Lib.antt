@@ -1,6 +1,7 @@
 pub mod BlockTexts
 pub mod CapturePackets
 pub mod Classic
+pub mod Interfaces
 pub mod Laws
 pub mod Opening
 pub mod PacketTimes

@@ -60,6 +60,7 @@ packet_of_record capture header = record {
   start = 0;
   captured_len = header.captured_len;
   original_len = header.original_len;
+  interface = None;
 }
 
 -- the packet of a record that is longer than the buffer
@@ -103,22 +104,23 @@ pub record ReadsRecordPacket (before : ClassicReader) (left still_left : Option 
 abbrev pub packet_start : ℕ → ℕ
 packet_start type = if type == simple_packet_type then body_at + simple_captured_at else body_at + timed_captured_at
 
--- A packet that was captured on this interface. Its byte order is the byte order of its block. The whole block is at the front of the
--- buffer.
-abbrev pub interface_packet : BlockHeader → InterfaceDescription → Option ℕ → ℕ → ℕ → CapturedPacket
-interface_packet header interface timestamp captured_len original_len = record {
+-- A packet that was captured on this interface, which has this number in its section. The byte order of the packet is the byte order of its
+-- block. The whole block is at the front of the buffer.
+abbrev pub interface_packet : BlockHeader → ℕ → InterfaceDescription → Option ℕ → ℕ → ℕ → CapturedPacket
+interface_packet header number interface timestamp captured_len original_len = record {
   link_type = link_type_or_number interface.link_type;
   byte_order = header.byte_order;
   time = option_map (timestamp_time interface) timestamp;
   start = packet_start header.block_type;
   captured_len = captured_len;
   original_len = original_len;
+  interface = Some number;
 }
 
 -- the packet in a packet block; the packet was captured on this interface, and the whole block is at the front of the buffer
 abbrev pub packet_of_block : BlockHeader → InterfaceDescription → PacketBlock → CapturedPacket
 packet_of_block header interface packet =
-    interface_packet header interface packet.timestamp (length packet.captured.now) packet.original_len
+    interface_packet header packet.interface interface packet.timestamp (length packet.captured.now) packet.original_len
 
 -- the packet in a block that is longer than the buffer; only the length of the block is known
 abbrev pub long_block : BlockHeader → TooLongPacket

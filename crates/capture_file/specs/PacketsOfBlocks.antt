@@ -34,19 +34,19 @@ abbrev pub body_of : List ℕ → List ℕ
 body_of block = slice_range block body_at (length block - trailer_len)
 
 -- The packet in the body of an enhanced packet block (section 4.3) or of an obsolete packet block (appendix A). The packet was captured on
--- this interface.
-abbrev pub timed_packet : BlockHeader → List ℕ → InterfaceDescription → FilePacket
-timed_packet header body interface =
+-- this interface, which has this number.
+abbrev pub timed_packet : BlockHeader → List ℕ → ℕ → InterfaceDescription → FilePacket
+timed_packet header body number interface =
     let order = header.byte_order in
     let timestamp = number_at order body 4 * 2 ^ 32 + number_at order body 8 in
     let captured = slice_range body timed_captured_at (timed_captured_at + number_at order body timed_captured_len_at) in
-    kept (interface_packet header interface (Some timestamp) (length captured) (number_at order body 16)) captured
+    kept (interface_packet header number interface (Some timestamp) (length captured) (number_at order body 16)) captured
 
 -- the packet in the body of a simple packet block (section 4.4); the packet was captured on this interface
 abbrev pub simple_packet : BlockHeader → List ℕ → InterfaceDescription → FilePacket
 simple_packet header body interface =
     let captured = slice_range body simple_captured_at (simple_end header.byte_order interface.snap_len body) in
-    kept (interface_packet header interface None (length captured) (number_at header.byte_order body 0)) captured
+    kept (interface_packet header 0 interface None (length captured) (number_at header.byte_order body 0)) captured
 
 -- The packet in the body of a packet block. An enhanced or obsolete packet block states the number of the packet's interface. The packet of
 -- a simple packet block always belongs to interface 0. `None` if the section does not describe the interface, or if the block has another
@@ -55,8 +55,8 @@ abbrev pub packet_in_body : BlockHeader → List InterfaceDescription → List �
 packet_in_body header interfaces body =
     let order = header.byte_order in
     let type = header.block_type in
-    if type == enhanced_packet_type then option_map (timed_packet header body) (slice_get interfaces (number_at order body 0))
-    else if type == obsolete_packet_type then option_map (timed_packet header body) (slice_get interfaces (short_at order body 0))
+    if type == enhanced_packet_type then option_map (timed_packet header body (number_at order body 0)) (slice_get interfaces (number_at order body 0))
+    else if type == obsolete_packet_type then option_map (timed_packet header body (short_at order body 0)) (slice_get interfaces (short_at order body 0))
     else if type == simple_packet_type then option_map (simple_packet header body) (slice_get interfaces 0)
     else None
 

@@ -7,6 +7,7 @@ pub mod laws;
 mod next_packet;
 mod open_error;
 mod packet_error;
+mod packet_interface;
 mod pcapng_reader;
 
 pub use capture_reader::{CaptureReader, ClassicReader};
@@ -14,4 +15,5 @@ pub use captured_packet::CapturedPacket;
 pub use next_packet::{NextPacket, TooLongPacket};
 pub use open_error::OpenError;
 pub use packet_error::{PacketError, PlacedPacketError};
+pub use packet_interface::PacketInterface;
 pub use pcapng_reader::{MAX_INTERFACES, PcapngReader, Section};

@@ -250,7 +250,15 @@ abbrev time : PacketTime
 time = record { seconds = 1; fraction = 2; resolution = PowerOfTen 6; offset = pos 0 }
 
 abbrev captured : CapturedPacket
-captured = record { link_type = Err 147; byte_order = LittleEndian; time = Some time; start = 0; captured_len = 1; original_len = 1 }
+captured = record {
+  link_type = Err 147;
+  byte_order = LittleEndian;
+  time = Some time;
+  start = 0;
+  captured_len = 1;
+  original_len = 1;
+  interface = None;
+}
 
 -- the packet in the file, and the packet that is counted
 abbrev in_file : FilePacket

@@ -27,6 +27,9 @@ pub struct CapturedPacket {
     pub captured_len: usize,
     /// The original length: the length of the packet on its link, in bytes.
     pub original_len: u32,
+    /// The number of the interface on which the packet was captured. A section of a pcapng file numbers its interfaces from 0, and the packet
+    /// of a simple packet block belongs to interface 0. `None` for a classic capture.
+    pub interface: Option<u32>,
 }
 
 impl CapturedPacket {
@@ -41,6 +44,7 @@ impl CapturedPacket {
             start: 0,
             captured_len: header.captured_len as usize,
             original_len: header.original_len,
+            interface: None,
         }
     }
 
@@ -65,6 +69,7 @@ impl CapturedPacket {
             start,
             captured_len: packet.captured.len(),
             original_len: packet.original_len,
+            interface: Some(packet.interface),
         }
     }
 

@@ -2,6 +2,7 @@
 //! the calls.
 ghost use Rattle.std.specs.Prelude.{◌<◌, ◌^◌, ℕ, List, length};
 ghost use Rattle.capture_file.specs.CapturePackets.{AreFirstPackets, ArePacketsBeforeCut, HasPackets};
+ghost use Rattle.capture_file.specs.Interfaces.{KeepsOwnTexts};
 ghost use Rattle.capture_file.specs.Laws.{AreUnique, Exist, RemainAtCut};
 ghost use Rattle.capture_file.specs.PacketsOfBlocks.{FilesHavePacketsOfBlocks, ReadPacketsOfBlocks};
 ghost use Rattle.capture_file.specs.Places.{OffsetsArePlaces};
@@ -26,6 +27,12 @@ pub fn cut_packets()
 pub fn packets_of_blocks()
     ensures read { (room : ℕ) → ReadPacketsOfBlocks room }
     ensures file { (room : ℕ) → FilesHavePacketsOfBlocks room }
+{}
+
+/// Each interface of the current section and the texts with its number come from the same block. So the name of an interface never comes
+/// from an earlier section. This holds at the beginning of a file and after each packet.
+pub fn own_texts()
+    ensures { (room : ℕ) → KeepsOwnTexts room }
 {}
 
 /// If a file has fewer than 2^64 bytes, the offset of a reader is the number of bytes before the next record or block.
