@@ -5,6 +5,7 @@ mod built_packets;
 mod clones;
 mod echo_replies;
 mod flows;
+mod fragments;
 mod hop_limits;
 mod icmp_errors;
 mod readme;

@@ -3,7 +3,8 @@
 //! `write_packet_ipv6` write a packet from a transport header and a payload. `answer_echo` turns an echo request into its reply, and
 //! `is_reply_to` recognises the reply. `flow` returns addresses and ports. `translate_ipv4` and `translate_ipv6` replace addresses and
 //! ports. `write_checksum` writes the right checksum into a packet, `lower_hop_limit` lowers its hop limit, and `lower_maximum_segment_size`
-//! lowers the maximum segment size of a SYN. `icmpv4_error_about` and `icmpv6_error_about` write an ICMP error about a packet.
+//! lowers the maximum segment size of a SYN. `icmpv4_error_about` and `icmpv6_error_about` write an ICMP error about a packet. The module
+//! `reassembly` puts packets together from their fragments.
 
 mod echo_reply;
 mod flow_ends;
@@ -15,6 +16,7 @@ mod ipv6_translation;
 mod message_place;
 mod packet_flow;
 mod partial_checksum;
+pub mod reassembly;
 mod reply_to;
 mod segment_size;
 mod skipped_headers;
