@@ -30,6 +30,7 @@ pub mod IcmpErrors
 pub mod Ipv4Translations
 pub mod Ipv6Translations
 pub mod Packets
+pub mod Reassembled
 pub mod ReplyTo
 pub mod SegmentSizes
 pub mod SkippedHeaders

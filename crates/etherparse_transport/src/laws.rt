@@ -1,11 +1,13 @@
-//! Laws of the types: a clone is the same value, and `==` holds exactly if two values are the same. Each law is the contract of a function,
-//! so that it is checked with the calls.
+//! Laws of the types: a clone is the same value, and `==` holds exactly if two values are the same. Also a law of packets that are put
+//! together from their fragments. Each law is the contract of a function, so that it is checked with the calls.
 //!
 //! # Errors
 //!
 //! No call returns an error: each clone succeeds.
 
 ghost use Rattle.std.specs.Prelude.{◌≡◌, ◌↔◌, IsTrue, IsOkAnd};
+ghost use Rattle.etherparse_transport.specs.Reassembled.{KeepsVerdict};
+ghost use Rattle.reassembly.specs.PacketCuts.{IsIpv4Cut, IsIpv6Cut};
 
 use crate::TransportHeader;
 use crate::err::packet::{AnswerEchoError, BuildSliceWriteError, TransportChecksumError};
@@ -73,3 +75,10 @@ pub fn equal_answer_echo_error(a: &AnswerEchoError, b: &AnswerEchoError) -> bool
 {
     a == b
 }
+
+/// A packet that is put together from its fragments has the verdict of the packet that was fragmented (RFC 791, section 3.2; RFC 8200,
+/// section 4.5). The fragments may arrive in any order and repeatedly.
+pub fn reassembled_packets_keep_their_verdict()
+    ensures ipv4 { KeepsVerdict IsIpv4Cut }
+    ensures ipv6 { KeepsVerdict IsIpv6Cut }
+{}
