@@ -11,11 +11,12 @@ use Rattle.ip_part.specs.Ip.{Carries, IsAfterHeaders, IsOverIpv4, counted, count
 use Rattle.ip_part.specs.Ip as ip
 use Rattle.ip_part.specs.Protocols.{proto_over}
 use Rattle.ip_part.specs.declared.ip_error.IpError.{IpError}
-use Rattle.ip_part.specs.declared.ip_error.IpError.TheVariants.{HeaderCutOff, HeaderLength, Version}
+use Rattle.ip_part.specs.declared.ip_error.IpError.TheVariants.{HeaderCutOff, HeaderLength, TotalLength, Version}
 use Rattle.ip_part.specs.declared.proto.Proto.TheVariants as protos
 use Rattle.ip_part.proofs.HeadersLemmas.{ended}
 use Rattle.ip_part.specs.declared.transport.TransportInIp.{TransportInIp}
 use Rattle.ip_part.specs.declared.proto.Proto.{Proto}
+use Rattle.net_base.specs.Bytes.{be_number}
 use Rattle.net_base.specs.IpHeaders.{BeginsWithIpv4Header, BeginsWithIpv6Header, ipv4_fragment_offset, ipv4_header_len, ipv4_header_of, ipv6_header_of, version}
 use Rattle.word_sum.specs.Checksum.{folded}
 use Rattle.word_sum.proofs.ChecksumLemmas.{folded-add}
@@ -26,7 +27,7 @@ use Rattle.etherparse_transport.specs.Packets.{number_of}
 use Rattle.etherparse_transport.specs.Ipv4Translations.{IsIpv4Place, has_source_route, ipv4_addresses, ipv4_flow_message, ipv4_is_later_fragment, ipv4_message_refusal, ipv4_place_refusal, ipv4_proto, ipv4_quoted, ipv4_quoted_refusal, ipv4_refusal_by, covers_ipv4_addresses, message_in_ipv4, sum_of_ipv4}
 use Rattle.etherparse_transport.specs.Ipv6Translations.{IsIpv6Place, ipv6_addresses, ipv6_flow_message, ipv6_is_later_fragment, ipv6_message_refusal, ipv6_place_refusal, ipv6_proto, ipv6_protocol, ipv6_quoted, ipv6_quoted_refusal, ipv6_refusal_by, covers_ipv6_addresses, message_in_ipv6, sum_of_ipv6}
 use Rattle.etherparse_transport.specs.Translations.{AreUpdatedAlike, counted_after, message_refusal, quoted_in, translated_in, with_bytes}
-use Rattle.std.specs.Prelude.{is_none, nat_lt}
+use Rattle.std.specs.Prelude.{is_none, nat_lt, unwrap_or}
 use Rattle.std.specs.Option.{option_map}
 use Rattle.net_base.specs.Refusals.{first_of, refused_if}
 use Rattle.net_base.specs.declared.ip_number.IpNumber.{IpNumber}
@@ -98,16 +99,6 @@ unfolding headers_or
 first_is_last packet found carries last =
     ap (headers_or (first_headers packet)) (sym carries.read
     ∙ ended (length (counted found.is_length_missing packet)) (first_headers packet) (counted found.is_length_missing packet) last)
-
-ipv4_headers_len : (packet : List ℕ) (found : TransportInIp) (carries : Carries packet found) → version packet ≡ 4
-    → (slice_index (ip.ipv4_header packet) 9 == 51) ≡ false → carries.headers.len ≡ ipv4_header_len packet
-ipv4_headers_len packet found carries is other =
-    let four : Headers = ip.ipv4_headers (ipv4_header_len packet) (ip.ipv4_header packet) in
-    let first : first_headers packet ≡ four =
-    ap (λ v. if v == 4 then four else ip.ipv6_headers (ip.is_jumbogram packet) (ip.ipv6_header packet)) is in
-    let last : is_extended four ≡ false =
-    ap (λ b. (b && (ipv4_fragment_offset (ip.ipv4_header packet) == 0)) && is_extension (slice_index (ip.ipv4_header packet) 9)) other in
-    ap (λ headers. headers.len) (first_is_last packet found carries (ap is_extended first ∙ last) ∙ first)
 
 -- taking as many bytes as `take n` takes gives the first n bytes
 first_bytes : (n : ℕ) (bytes : List ℕ) → take (length (take n bytes)) bytes ≡ take n bytes
@@ -209,54 +200,166 @@ icmpv6_quoted_range message quoted long is = quoted_by_kind _ _ (slice_index mes
 
 -- ---- the place of a message
 
--- a packet is found to be a later fragment exactly if its fragment offset is not 0
-ipv4_later_is : (packet : List ℕ) (found : TransportInIp) → IsOverIpv4 packet found → 20 ≤ ipv4_header_len packet
-    → found.is_later_fragment ≡ not (ipv4_fragment_offset packet == 0)
-ipv4_later_is packet found over five =
+-- the message of an IPv4 packet is between the end of the header and this end
+pub record IsMessageEnd (packet : List ℕ) (end : ℕ) : Type 0 where
+  pub message : slice_range packet (ipv4_header_len packet) end ≡ message_in_ipv4 false packet
+  pub ordered : ipv4_header_len packet ≤ end
+  pub there : end ≤ length packet
+
+pub ipv4_place_is : (bytes packet : List ℕ) (place : Place) → BeginsWithIpv4Header packet → place.start ≡ length (ip.ipv4_header packet)
+    → slice_range packet (ipv4_header_len packet) place.end ≡ bytes → ipv4_header_len packet ≤ place.end → place.end ≤ length packet
+    → place.proto ≡ ipv4_proto (ip.ipv4_header packet) → place.is_later_fragment ≡ ipv4_is_later_fragment (ip.ipv4_header packet)
+    → IsIpv4Place bytes packet place
+ipv4_place_is bytes packet place begins start_is message ordered there known later =
     let n : ℕ = ipv4_header_len packet in
-    over.is_later_fragment
-    ∙ ap (λ high. not (((0 * 256 + high) * 256 + slice_index (take n packet) 7) % 2 ^ 13 == 0)) (get_or-take n packet 6 0 (omega (arith, five)))
-    ∙ ap (λ low. not (((0 * 256 + slice_index packet 6) * 256 + low) % 2 ^ 13 == 0)) (get_or-take n packet 7 0 (omega (arith, five)))
-
--- an accepted IPv4 packet, with the protocol that its header names
-pub record IsIpv4Found (packet : List ℕ) (found : TransportInIp) (proto : Option Proto) : Type 0 where
-  pub carries : Carries packet found
-  pub missing : found.is_length_missing ≡ ip.lacks_len packet
-  pub begins : BeginsWithIpv4Header packet
-  pub over : IsOverIpv4 packet found
-  pub known : proto ≡ proto_over (by_value found.addresses) (slice_index (ip.ipv4_header packet) 9)
-  pub has_port : Bool
-  pub accepted : (is_none proto && (has_port || covers_ipv4_addresses (slice_index (ip.ipv4_header packet) 9))) ≡ false
-
-pub ipv4_place_is : (packet : List ℕ) (found : TransportInIp) (proto : Option Proto) (place : Place) → IsIpv4Found packet found proto
-    → place.start ≡ length (ip.ipv4_header packet) → place.end ≡ place.start + length found.payload.now → place.proto ≡ proto
-    → place.is_later_fragment ≡ found.is_later_fragment → IsIpv4Place (message_in_ipv4 false packet) packet place
-ipv4_place_is packet found proto place at start_is end is later =
-    let start : place.start ≡ ipv4_header_len packet = start_is ∙ length-take-le (ipv4_header_len packet) packet at.begins.whole in
-    let known : proto ≡ proto_over (Ipv4 [] []) (slice_index (ip.ipv4_header packet) 9) =
-    at.known ∙ ap (λ addresses. proto_over addresses (slice_index (ip.ipv4_header packet) 9)) at.over.addresses in
-    let len : at.carries.headers.len ≡ place.start =
-    ipv4_headers_len packet found at.carries at.begins.is_version_4 (ipv4_accepts at.has_port [] [] _ proto known at.accepted) ∙ sym start in
+    let start : place.start ≡ n = start_is ∙ length-take-le n packet begins.whole in
     record {
-      is_ipv4 = at.begins.is_version_4;
+      is_ipv4 = begins.is_version_4;
       start = start;
-      message = ap (slice_range packet place.start) end ∙ message_range place.start packet found at.carries len at.missing
-          ∙ ap (λ n. counted_after false n packet) start;
-      header = omega (arith, start, at.begins.five_words);
-      ordered = omega (arith, end);
-      there = omega (
-        arith,
-        end,
-        len,
-        ap length at.carries.payload,
-        length-drop at.carries.headers.len (counted found.is_length_missing packet),
-        at.carries.within,
-        length-take (counted_len found.is_length_missing packet) packet,
-      );
-      proto = is ∙ known
-          ∙ ap (proto_over (Ipv4 [] [])) (get_or-take (ipv4_header_len packet) packet 9 0 (omega (arith, at.begins.five_words)));
-      later = later ∙ ipv4_later_is packet found at.over at.begins.five_words;
+      message = ap (λ start. slice_range packet start place.end) start ∙ message;
+      header = omega (arith, start, begins.five_words);
+      ordered = omega (arith, start, ordered);
+      there = there;
+      proto = known ∙ ap (proto_over (Ipv4 [] [])) (get_or-take n packet 9 0 (omega (arith, begins.five_words)));
+      later = later
+          ∙ ap (λ high. not (((0 * 256 + high) * 256 + slice_index (take n packet) 7) % 2 ^ 13 == 0)) (get_or-take n packet 6 0 (omega (arith, begins.five_words)))
+          ∙ ap (λ low. not (((0 * 256 + slice_index packet 6) * 256 + low) % 2 ^ 13 == 0)) (get_or-take n packet 7 0 (omega (arith, begins.five_words)));
     }
+
+long_enough : (len least : ℕ) → least ≤ len → nat_lt len least ≡ false
+long_enough len least there = grind (arith, nat_tests)
+
+-- no rule refuses the header
+header_accepted : (short small cut wrong : Bool) (error error_too error_three error_four : IpError) → short ≡ false → small ≡ false → cut ≡ false → wrong ≡ false
+    → first_of (first_of (refused_if short error ∷ refused_if small error_too ∷ refused_if cut error_three ∷ []) ∷ refused_if wrong error_four ∷ []) ≡ None
+header_accepted true small cut wrong error error_too error_three error_four is is_too is_three is_four = absurd (cc is)
+header_accepted false true cut wrong error error_too error_three error_four is is_too is_three is_four = absurd (cc is_too)
+header_accepted false false true wrong error error_too error_three error_four is is_too is_three is_four = absurd (cc is_three)
+header_accepted false false false true error error_too error_three error_four is is_too is_three is_four = absurd (cc is_four)
+header_accepted false false false false error error_too error_three error_four is is_too is_three is_four = refl
+
+-- the total length is below the length of this header, and not 0
+is_too_short : List ℕ → ℕ → Bool
+is_too_short header len = not (be_number header 2 2 == 0) && nat_lt (be_number header 2 2) len
+
+ipv4_accepted : (packet header : List ℕ) → header ≡ ip.ipv4_header packet → BeginsWithIpv4Header packet
+    → (not (be_number header 2 2 == 0) && nat_lt (be_number header 2 2) (length header)) ≡ false → ip.ipv4_refusal packet ≡ None
+unfolding is_too_short
+ipv4_accepted packet header is begins stated =
+    let n : ℕ = ipv4_header_len packet in
+    let len : length header ≡ n = ap length is ∙ length-take-le n packet begins.whole in
+    let long : is_too_short (ip.ipv4_header packet) n ≡ false =
+    sym (ap (λ header. is_too_short header n) is) ∙ sym (ap (is_too_short header) len) ∙ stated in
+    header_accepted (nat_lt (length packet) 20) (nat_lt n 20) (nat_lt (length packet) n) (is_too_short (ip.ipv4_header packet) n) _ _ _ _
+    (long_enough (length packet) 20 begins.shortest) (long_enough n 20 begins.five_words) (long_enough (length packet) n begins.whole) long
+
+-- A packet that begins with an IPv4 header is accepted if its total length counts the header, and no authentication header may follow.
+pub lax_accepts : (packet header : List ℕ) → header ≡ ip.ipv4_header packet → BeginsWithIpv4Header packet
+    → (not (be_number header 2 2 == 0) && nat_lt (be_number header 2 2) (length header)) ≡ false → (slice_index header 9 == 51) ≡ false
+    → ip.lax_refusal packet ≡ None
+lax_accepts packet header is begins stated other =
+    let four : Headers = ip.ipv4_headers (ipv4_header_len packet) (ip.ipv4_header packet) in
+    let after : Option IpError = if version packet == 6 then ip.ipv6_refusal packet else Some (Version (version packet)) in
+    let some : (length packet == 0) ≡ false = grind (arith, nat_tests, begins.shortest) in
+    let accepted : ip.header_refusal packet ≡ None =
+    ap (λ empty. if empty then Some (HeaderCutOff 1 0) else if version packet == 4 then ip.ipv4_refusal packet else after) some
+    ∙ ap (λ v. if v == 4 then ip.ipv4_refusal packet else after) begins.is_version_4 ∙ ipv4_accepted packet header is begins stated in
+    let first : first_headers packet ≡ four =
+    ap (λ v. if v == 4 then four else ip.ipv6_headers (ip.is_jumbogram packet) (ip.ipv6_header packet)) begins.is_version_4 in
+    let last : is_extended four ≡ false =
+    ap (λ b. (b && (ipv4_fragment_offset (ip.ipv4_header packet) == 0)) && is_extension (slice_index (ip.ipv4_header packet) 9))
+    (sym (ap (λ header. slice_index header 9 == 51) is) ∙ other) in
+    let bytes : List ℕ = counted (ip.lacks_len packet) packet in
+    let read : ip.headers_of (ip.lacks_len packet) packet ≡ Ok (first_headers packet) =
+    ended (length bytes) (first_headers packet) bytes (ap is_extended first ∙ last) in
+    ap (λ refusal. first_of (refusal ∷ ip.error_of (ip.headers_of (ip.lacks_len packet) packet) ∷ [])) accepted
+    ∙ ap (λ read. first_of (None ∷ ip.error_of read ∷ [])) read
+
+-- the number of bytes that an IPv4 packet counts, whether or not it states a length
+counted_if : (unstated : Bool) (packet : List ℕ) → version packet ≡ 4
+    → counted_len (is_none (if unstated then None else Some (ip.total_len packet))) packet ≡ (if unstated then length packet else ip.total_len packet)
+counted_if true packet is = refl
+counted_if false packet is =
+    ap (λ v. if v == 4 then ip.total_len packet else 40 + unwrap_or (ip.jumbo_len packet) (ip.payload_len packet)) is
+
+-- the number of bytes that an IPv4 packet counts
+counted_by : (unstated : Bool) (packet : List ℕ) → unstated ≡ (ip.total_len packet == 0) → version packet ≡ 4
+    → counted_len (ip.lacks_len packet) packet ≡ (if unstated then length packet else ip.total_len packet)
+counted_by unstated packet test is =
+    let six : Option ℕ = ip.ipv6_stated_len (ip.jumbo_len packet) (ip.payload_len packet) (ip.next_header packet) in
+    let four : ip.stated_len packet ≡ (if unstated then None else Some (ip.total_len packet)) =
+    ap (λ v. if v == 4 then ip.ipv4_stated_len packet else six) is
+    ∙ ap (λ unstated. if unstated then None else Some (ip.total_len packet)) (sym test) in
+    ap (λ stated. counted_len (is_none stated) packet) four ∙ counted_if unstated packet is
+
+-- if a test does not refuse, the rule after it counts
+else_none : {E : Type 0} (test : Bool) (error : E) (rule : Option E) → (if test then Some error else rule) ≡ None → rule ≡ None
+else_none true error rule none = absurd (cc none)
+else_none false error rule none = none
+
+-- a packet that is read has a total length that counts the header, or a total length of 0
+pub header_counted : (packet : List ℕ) → BeginsWithIpv4Header packet → ip.lax_refusal packet ≡ None
+    → (not (ip.total_len packet == 0) && nat_lt (ip.total_len packet) (ipv4_header_len packet)) ≡ false
+header_counted packet begins accepted =
+    let header = (none_first (ip.header_refusal packet) _ accepted).0 in
+    let by_version : ℕ → Option IpError = λ v. if length packet == 0 then Some (HeaderCutOff 1 0) else if v == 4 then ip.ipv4_refusal packet
+    else if v == 6 then ip.ipv6_refusal packet else Some (Version (version packet)) in
+    let rules : ip.ipv4_refusal packet ≡ None =
+    else_none (length packet == 0) (HeaderCutOff 1 0) (ip.ipv4_refusal packet) (sym (ap by_version begins.is_version_4) ∙ header) in
+    let total = (none_first (ip.ipv4_header_refusal packet) _ rules).1 in
+    none_if _ (TotalLength (ip.total_len packet) (ipv4_header_len packet)) (none_first (refused_if _ (TotalLength (ip.total_len packet) (ipv4_header_len packet))) _ total).0
+
+-- if a packet counts this number of bytes, its message ends after as many bytes as are present
+message_ends : (packet : List ℕ) (end n : ℕ) → counted_len (ip.lacks_len packet) packet ≡ n → ipv4_header_len packet ≤ n → end ≤ length packet
+    → ipv4_header_len packet + length (drop (ipv4_header_len packet) (take n packet)) ≡ end → IsMessageEnd packet end
+message_ends packet end n counts ordered there count =
+    let len : ℕ = ipv4_header_len packet in
+    record {
+      message = sym (ap (slice_range packet len) count) ∙ message_is_range len n packet ordered ∙ sym (ap (λ n. drop len (take n packet)) counts);
+      ordered = omega (arith, count);
+      there = there;
+    }
+
+ends_with_packet_if : (unstated : Bool) (packet : List ℕ) → unstated ≡ (ip.total_len packet == 0) → BeginsWithIpv4Header packet
+    → (unstated || nat_lt (length packet) (ip.total_len packet)) ≡ true → IsMessageEnd packet (length packet)
+ends_with_packet_if true packet test begins cut =
+    let len : ℕ = ipv4_header_len packet in
+    let n : ℕ = length packet in
+    message_ends packet (length packet) n (counted_by true packet test begins.is_version_4) begins.whole (omega arith)
+    (omega (arith, begins.whole, length-drop len (take n packet), length-take-le n packet (omega arith)))
+ends_with_packet_if false packet test begins cut =
+    let len : ℕ = ipv4_header_len packet in
+    let n : ℕ = ip.total_len packet in
+    let below : length packet ≤ n = grind (arith, nat_tests, cut) in
+    message_ends packet (length packet) n (counted_by false packet test begins.is_version_4) (omega (arith, begins.whole, below)) (omega arith)
+    (ap (λ bytes. len + length (drop len bytes)) (take_all n packet below) ∙ omega (arith, begins.whole, length-drop len packet))
+
+ends_with_total_if : (unstated : Bool) (packet : List ℕ) → unstated ≡ (ip.total_len packet == 0) → BeginsWithIpv4Header packet
+    → (not unstated && nat_lt (ip.total_len packet) (ipv4_header_len packet)) ≡ false
+    → (unstated || nat_lt (length packet) (ip.total_len packet)) ≡ false → IsMessageEnd packet (ip.total_len packet)
+ends_with_total_if true packet test begins counts whole = absurd (cc whole)
+ends_with_total_if false packet test begins counts whole =
+    let len : ℕ = ipv4_header_len packet in
+    let n : ℕ = ip.total_len packet in
+    let there : n ≤ length packet = grind (arith, nat_tests, whole) in
+    let ordered : len ≤ n = grind (arith, nat_tests, counts) in
+    message_ends packet n n (counted_by false packet test begins.is_version_4) ordered there
+    (omega (arith, ordered, length-drop len (take n packet), length-take-le n packet there))
+
+pub ends_with_packet : (packet header : List ℕ) (total : ℕ) → header ≡ ip.ipv4_header packet → total ≡ be_number header 2 2 → BeginsWithIpv4Header packet
+    → (total == 0 || nat_lt (length packet) total) ≡ true → IsMessageEnd packet (length packet)
+ends_with_packet packet header total is states begins cut =
+    let same : total ≡ ip.total_len packet = states ∙ ap (λ header. be_number header 2 2) is in
+    ends_with_packet_if _ packet refl begins (sym (ap (λ total. total == 0 || nat_lt (length packet) total) same) ∙ cut)
+
+pub ends_with_total : (packet header : List ℕ) (total : ℕ) → header ≡ ip.ipv4_header packet → total ≡ be_number header 2 2 → BeginsWithIpv4Header packet
+    → ip.lax_refusal packet ≡ None → (total == 0) ≡ false → nat_lt (length packet) total ≡ false → IsMessageEnd packet total
+ends_with_total packet header total is states begins accepted some whole =
+    let same : total ≡ ip.total_len packet = states ∙ ap (λ header. be_number header 2 2) is in
+    subst (IsMessageEnd packet) (sym same)
+    (ends_with_total_if false packet (sym some ∙ ap (λ total. total == 0) same) begins
+    (ap (λ unstated. not unstated && nat_lt (ip.total_len packet) (ipv4_header_len packet)) (sym some ∙ ap (λ total. total == 0) same) ∙ header_counted packet begins accepted)
+    (sym (ap (nat_lt (length packet)) same) ∙ whole))
 
 -- ---- the place of a message in a quoted packet
 
@@ -272,19 +375,8 @@ pub quoted_place_is : (packet : List ℕ) (place : Place) → BeginsWithIpv4Head
     → IsIpv4Place (message_in_ipv4 true packet) packet place
 quoted_place_is packet place begins start_is end known later =
     let n : ℕ = ipv4_header_len packet in
-    let start : place.start ≡ n = start_is ∙ length-take-le n packet begins.whole in
-    record {
-      is_ipv4 = begins.is_version_4;
-      start = start;
-      message = ap (λ start. slice_range packet start place.end) start ∙ ap (slice_range packet n) end ∙ rest_is_range n packet begins.whole;
-      header = omega (arith, start, begins.five_words);
-      ordered = omega (arith, start, end, begins.whole);
-      there = omega (arith, end);
-      proto = known ∙ ap (proto_over (Ipv4 [] [])) (get_or-take n packet 9 0 (omega (arith, begins.five_words)));
-      later = later
-          ∙ ap (λ high. not (((0 * 256 + high) * 256 + slice_index (take n packet) 7) % 2 ^ 13 == 0)) (get_or-take n packet 6 0 (omega (arith, begins.five_words)))
-          ∙ ap (λ low. not (((0 * 256 + slice_index packet 6) * 256 + low) % 2 ^ 13 == 0)) (get_or-take n packet 7 0 (omega (arith, begins.five_words)));
-    }
+    ipv4_place_is (message_in_ipv4 true packet) packet place begins start_is (ap (slice_range packet n) end ∙ rest_is_range n packet begins.whole)
+    (omega (arith, end, begins.whole)) (omega (arith, end)) known later
 
 -- the rules for a quoted packet after its header
 quoted_rules : Bool → List ℕ → List (Option TranslateError)
@@ -303,9 +395,6 @@ quoted_header_accepted false true cut error error_too error_three rules v is is_
 quoted_header_accepted false false true error error_too error_three rules v is is_too is_three is_version = absurd (cc is_three)
 quoted_header_accepted false false false error error_too error_three rules v is is_too is_three is_version =
     ap (λ v. first_of (refused_if (not (v == 4)) OtherVersion ∷ rules)) is_version
-
-long_enough : (len least : ℕ) → least ≤ len → nat_lt len least ≡ false
-long_enough len least there = grind (arith, nat_tests)
 
 -- the errors of a quoted packet that begins with a header
 quoted_after_header : (has_port : Bool) (packet : List ℕ) → BeginsWithIpv4Header packet → ipv4_place_refusal true has_port packet ≡ first_of (quoted_rules has_port packet)
@@ -475,11 +564,6 @@ second_accepts : {E : Type 0} (first second : Bool) (error error_too : E) (rules
     → (if first then Some error else first_of (refused_if second error_too ∷ rules)) ≡ None → second ≡ false
 second_accepts true second error error_too rules none = absurd (cc none)
 second_accepts false second error error_too rules none = none_if second error_too (none_first (refused_if second error_too) rules none).0
-
--- if a test does not refuse, the rule after it counts
-else_none : {E : Type 0} (test : Bool) (error : E) (rule : Option E) → (if test then Some error else rule) ≡ None → rule ≡ None
-else_none true error rule none = absurd (cc none)
-else_none false error rule none = none
 
 -- a packet that is read has a whole IPv4 header
 not_version_4 : (is : Bool) (packet : List ℕ) → is ≡ (version packet == 4) → ip.lax_refusal packet ≡ None → ¬ BeginsWithIpv4Header packet

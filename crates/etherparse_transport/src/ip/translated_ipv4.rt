@@ -1,12 +1,15 @@
-ghost use Rattle.std.specs.Prelude.{◌≡◌, ◌≢◌, ◌↔◌, ℕ, slice_index, ◌≤◌, ◌+◌, ◌%◌, ◌&&◌, ◌||◌, is_none, IfErr, IfOk, IfSome, MatchOption, None, Some, false, true, length, slice_range};
-ghost use Rattle.net_base.specs.Bytes.{IsBytes};
-ghost use Rattle.net_base.specs.IpHeaders.{ipv4_header_len, ipv4_header_of};
+ghost use Rattle.std.specs.Prelude.{◌≡◌, ◌≢◌, ◌↔◌, ◌==◌, Bool, ℕ, slice_index, ◌≤◌, ◌+◌, ◌%◌, ◌&&◌, ◌||◌, is_none, IfErr, IfOk, IfSome, MatchOption, None, Some, false, true, length, nat_lt, not, slice_range};
+ghost use Rattle.std.specs.Option.{option_map};
+ghost use Rattle.ip_part.specs.Ip.{ipv4_header, lax_refusal};
+ghost use Rattle.net_base.specs.Bytes.{IsBytes, be_number};
+ghost use Rattle.net_base.specs.IpHeaders.{BeginsWithIpv4Header, ipv4_header_len, ipv4_header_of};
 ghost use Rattle.net_base.specs.Refusals.{RefusesExactly};
 ghost use Rattle.word_sum.specs.Checksum.{all_ones, total};
 ghost use Rattle.word_sum.specs.ChecksumChange.{added_value, removed_value};
 ghost use Rattle.etherparse_transport.specs.Translations.{IsAcceptedAlike, IsReadWith, has_port, with_bytes, with_quote};
 ghost use Rattle.etherparse_transport.specs.WaysBack.{IsIpv4Restored, IsIpv4RestoredWith, IsIpv4Translation, ipv4_flow_back, ipv4_quoted_back, ipv4_way_back};
 ghost use Rattle.etherparse_transport.specs.Ipv4Translations as specs;
+ghost use Rattle.etherparse_transport.specs.declared.err.packet.translate_error.TranslateError.TheVariants.{Ip};
 
 use crate::checksum_change::ChecksumChange;
 use crate::err::packet::TranslateError;
@@ -153,35 +156,115 @@ fn translate_ipv4_by(
 
 /// The place of the message in an IPv4 packet. The message begins after the IP header.
 // perf: the steps of the translation are compiled into one function, which takes 25.6 instead of 34.3 ns for a UDP packet, and 42.4 instead
-// of 57.4 ns for an ICMP error (27 Nov 2026).
+// of 57.4 ns for an ICMP error (27 Nov 2026). The IPv4 header is read once. `transport_in_ip_lax` also looks for the final destination, so
+// it is called only for a packet that it may refuse.
 #[inline(always)]
 fn ipv4_place(packet: &[u8], new: &Ipv4Translation) -> Result<Place, TranslateError>
     ensures refused { RefusesExactly result (specs.ipv4_place_refusal false (has_port new.now.source_port new.now.destination_port) packet.now) }
     ensures place { IfOk result (λ place. specs.IsIpv4Place (specs.message_in_ipv4 false packet.now) packet.now place) }
     ensures bytes { IsBytes packet.now }
 {
-    let found = match transport_in_ip_lax(packet) {
-        Ok(found) => found,
-        Err(error) => return Err(TranslateError::Ip(error)),
-    };
     let Some(header) = Ipv4HeaderSlice::from_slice(packet) else {
-        return Err(TranslateError::OtherVersion);
+        return Err(no_ipv4_header(packet));
     };
-    let start = header.slice().len();
+    check_after_header(packet, &header)?;
     if contain_source_route(header.options()) {
         return Err(TranslateError::SourceRoute);
     }
     let protocol = header.protocol();
-    let proto = proto_over(found.addresses, protocol);
+    let proto = ipv4_proto(&header);
     if is_ipv4_refused(proto, protocol, new) {
         return Err(TranslateError::Protocol(protocol));
     }
+    let start = header.slice().len();
+    let is_later_fragment = header.fragments_offset() != 0;
     Ok(Place {
         start,
-        end: start + found.payload.len(),
+        end: message_end(packet, &header),
         proto,
-        is_later_fragment: found.is_later_fragment,
+        is_later_fragment,
     })
+}
+
+/// The error for a packet that does not begin with an IPv4 header.
+// perf: the memory for the result of the call below is filled with zeros in this function. Without this function, that takes time for each
+// packet.
+#[inline(always)]
+fn no_ipv4_header(packet: &[u8]) -> TranslateError
+    requires { ¬ BeginsWithIpv4Header packet.now }
+    ensures { (has_port : Bool) → specs.ipv4_place_refusal false has_port packet.now ≡ Some result }
+{
+    error_or_other_version(packet)
+}
+
+/// The error of `transport_in_ip_lax`, or `OtherVersion` for a packet that does not begin with an IPv4 header.
+#[inline(never)]
+fn error_or_other_version(packet: &[u8]) -> TranslateError
+    requires { ¬ BeginsWithIpv4Header packet.now }
+    ensures { (has_port : Bool) → specs.ipv4_place_refusal false has_port packet.now ≡ Some result }
+{
+    match transport_in_ip_lax(packet) {
+        Ok(_) => TranslateError::OtherVersion,
+        Err(error) => TranslateError::Ip(error),
+    }
+}
+
+/// Refuses a packet that begins with this IPv4 header, if `transport_in_ip_lax` refuses the packet.
+#[inline(always)]
+fn check_after_header(packet: &[u8], header: &Ipv4HeaderSlice<'_>) -> Result<(), TranslateError>
+    requires begins { BeginsWithIpv4Header packet.now }
+    requires header { header.now ≡ ipv4_header packet.now }
+    ensures { RefusesExactly result (option_map Ip (lax_refusal packet.now)) }
+{
+    if is_total_len_too_short(header) || header.protocol() == ip_number::AUTHENTICATION_HEADER {
+        return check_headers(packet);
+    }
+    Ok(())
+}
+
+/// Whether the total length is below the length of the header, and not 0.
+#[inline(always)]
+fn is_total_len_too_short(header: &Ipv4HeaderSlice<'_>) -> bool
+    ensures { result ≡ (not (be_number header.now 2 2 == 0) && nat_lt (be_number header.now 2 2) (length header.now)) }
+{
+    let total_len = usize::from(header.total_len());
+    total_len != 0 && total_len < header.slice().len()
+}
+
+/// Refuses a packet that `transport_in_ip_lax` refuses.
+#[inline(always)]
+fn check_headers(packet: &[u8]) -> Result<(), TranslateError>
+    ensures { RefusesExactly result (option_map Ip (lax_refusal packet.now)) }
+{
+    check_all_headers(packet)
+}
+
+/// Refuses a packet that `transport_in_ip_lax` refuses.
+#[inline(never)]
+fn check_all_headers(packet: &[u8]) -> Result<(), TranslateError>
+    ensures { RefusesExactly result (option_map Ip (lax_refusal packet.now)) }
+{
+    match transport_in_ip_lax(packet) {
+        Ok(_) => Ok(()),
+        Err(error) => Err(TranslateError::Ip(error)),
+    }
+}
+
+/// The end of the message after this IPv4 header: the total length, or the end of the packet if the packet is cut off or states no length.
+#[inline(always)]
+fn message_end(packet: &[u8], header: &Ipv4HeaderSlice<'_>) -> usize
+    requires begins { BeginsWithIpv4Header packet.now }
+    requires header { header.now ≡ ipv4_header packet.now }
+    requires read { lax_refusal packet.now ≡ None }
+    ensures message { slice_range packet.now (ipv4_header_len packet.now) result ≡ specs.message_in_ipv4 false packet.now }
+    ensures ordered { ipv4_header_len packet.now ≤ result }
+    ensures there { result ≤ length packet.now }
+{
+    let total_len = usize::from(header.total_len());
+    if total_len == 0 || packet.len() < total_len {
+        return packet.len();
+    }
+    total_len
 }
 
 /// Whether a packet is refused because of its protocol: it is not UDP, TCP or ICMPv4, and a port is passed or the protocol covers the
