@@ -3,8 +3,9 @@
 //! `write_packet_ipv6` write a packet from a transport header and a payload. `answer_echo` turns an echo request into its reply, and
 //! `is_reply_to` recognises the reply. `flow` returns addresses and ports. `translate_ipv4` and `translate_ipv6` replace addresses and
 //! ports. `write_checksum` writes the right checksum into a packet, `lower_hop_limit` lowers its hop limit, and `lower_maximum_segment_size`
-//! lowers the maximum segment size of a SYN. `icmpv4_error_about` and `icmpv6_error_about` write an ICMP error about a packet. The module
-//! `reassembly` puts packets together from their fragments.
+//! lowers the maximum segment size of a SYN. `icmpv4_error_about` and `icmpv6_error_about` write an ICMP error about a packet.
+//! `ipv4_to_ipv6` and `ipv6_to_ipv4` translate packets between IPv4 and IPv6. The module `reassembly` puts packets together from their
+//! fragments.
 
 mod echo_reply;
 mod flow_ends;
@@ -35,6 +36,12 @@ pub use icmp_error::{icmpv4_error_about, icmpv6_error_about};
 pub use ip_part::{
     FixedHeader, IpAddresses, IpError, TransportInIp, fixed_header, proto_over, transport_in_ip,
     transport_in_ip_lax,
+};
+pub use ip_translation::{
+    AddressError, PacketTranslationError, Prefix64, Prefix64Error, Prefixes, TranslationError,
+    header_to_ipv4, header_to_ipv6, icmpv4_error, icmpv4_mtu, icmpv4_pointer, icmpv6_error,
+    icmpv6_mtu, icmpv6_pointer, ipv4_to_ipv6, ipv6_to_ipv4, pseudo_header_change,
+    pseudo_header_change_to_ipv4,
 };
 pub use ipv4_translation::Ipv4Translation;
 pub use ipv6_translation::Ipv6Translation;
