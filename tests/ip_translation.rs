@@ -484,9 +484,71 @@ fn packets_are_translated_back(rt: HostRuntime) {
     }
 }
 
+/// The UDP packet of `PACKETS_BACK` after hop-by-hop options of 8 bytes, a routing header of 24 bytes, and destination options of 8 bytes.
+#[rattlefmt::skip]
+static EXTENDED: [u8; 91] = [
+    0x6B, 0x90, 0, 0, 0, 0x33, 0, 0x3F, 0x20, 1, 0x0D, 0xB8, 0xC0, 0, 2, 0x21, 0, 0, 0, 0,
+    0, 0, 0, 0, 0x20, 1, 0x0D, 0xB8, 1, 0x22, 3, 0x44, 0, 0, 0, 0, 0xC6, 0x33, 0x64, 7,
+    43, 0, 1, 4, 0, 0, 0, 0,
+    60, 2, 0, 0, 0, 0, 0, 0, 0xFE, 0x80, 0, 0, 0, 0, 0, 0, 0, 0, 0, 0, 0, 0, 0, 1,
+    0x11, 0, 1, 4, 0, 0, 0, 0,
+    0, 0x15, 4, 0xD2, 0, 0x0B, 0xEA, 0x59, 0x61, 0x62, 0x63,
+];
+
+#[test]
+fn extension_headers_are_skipped(rt: HostRuntime) {
+    let mut buffer = [0xEE; 80];
+    let len = expect_ok(&rt, ipv6_to_ipv4(&EXTENDED, &PREFIXES, 0xBEEF, &mut buffer));
+    expect_bytes(&rt, bytes_to(&rt, &buffer, len), PACKETS_BACK[0].1);
+    expect_equal(&rt, &buffer[79], &0xEE);
+}
+
+/// Changes of `EXTENDED` that are refused: the place of a byte, and its new value.
+#[rattlefmt::skip]
+static NO_EXTENDED: [(usize, u8, PacketTranslationError, &str); 5] = [
+    (51, 1, PacketTranslationError::SegmentsLeft { pointer: 51 },
+        "Translation Error: a routing header has segments left at byte 51."),
+    (49, 5, PacketTranslationError::ExtensionHeaderCutOff { number: 43, required_len: 48, len: 43 },
+        "Translation Error: the IPv6 extension header 43 has 48 bytes, and there are 43."),
+    (5, 0x23, PacketTranslationError::ExtensionHeaderCutOff { number: 60, required_len: 8, len: 3 },
+        "Translation Error: the IPv6 extension header 60 has 8 bytes, and there are 3."),
+    (40, 44, PacketTranslationError::Header(TranslationError::ExtensionHeader(44)),
+        "Translation Error: the IPv6 extension header 44 is not translated."),
+    (5, 0x34, PacketTranslationError::CutOff { total_len: 92, len: 91 },
+        "Translation Error: the total length is 92, and there are 91 bytes."),
+];
+
+#[test]
+fn extension_headers_are_refused(rt: HostRuntime) {
+    for (place, value, error, text) in &NO_EXTENDED {
+        let mut packet = EXTENDED;
+        packet[*place] = *value;
+        let mut buffer = [0xEE; 80];
+        let outcome = ipv6_to_ipv4(&packet, &PREFIXES, 0, &mut buffer);
+        expect_at(&rt, text, &outcome.err().as_ref(), &Some(error));
+        expect_bytes(&rt, &buffer, &[0xEE; 80]);
+        expect_text(&rt, error, text);
+    }
+}
+
+/// The payload of a packet of another protocol has at most 65,515 bytes. Extension headers do not count.
+#[test]
+fn long_payloads_are_refused(rt: HostRuntime) {
+    let mut packet = [0; 65_556];
+    packet[..40].copy_from_slice(&TRANSLATED);
+    packet[4..7].copy_from_slice(&[0xFF, 0xEC, 50]);
+    let mut buffer = [0; 65_535];
+    let outcome = ipv6_to_ipv4(&packet, &PREFIXES, 0, &mut buffer);
+    let error = PacketTranslationError::Header(TranslationError::PayloadLength(65_516));
+    expect_equal(&rt, &outcome, &Err(error));
+    packet[6] = 60;
+    packet[40] = 50;
+    expect_equal(&rt, &ipv6_to_ipv4(&packet, &PREFIXES, 0, &mut buffer), &Ok(65_528));
+}
+
 /// What is no translated packet. The buffer has 30 bytes, and the last row needs 31.
 #[rattlefmt::skip]
-static NO_PACKETS_BACK: [(&[u8], PacketTranslationError, &str); 11] = [
+static NO_PACKETS_BACK: [(&[u8], PacketTranslationError, &str); 10] = [
     (&[
         0x45, 0xB9, 0, 0x1F, 0xBE, 0xEF, 0, 0, 0x3E, 0x11, 0xD0, 0xC9, 0xC0, 0, 2, 0x21, 0xC6, 0x33, 0x64, 7,
         0, 0x15, 4, 0xD2, 0, 0x0B, 0x4A, 0x32, 0x61, 0x62, 0x63,
@@ -500,13 +562,6 @@ static NO_PACKETS_BACK: [(&[u8], PacketTranslationError, &str); 11] = [
     ],
         PacketTranslationError::Header(TranslationError::ExtensionHeader(44)),
         "Translation Error: the IPv6 extension header 44 is not translated."),
-    (&[
-        0x6B, 0x90, 0, 0, 0xFF, 0xEC, 0x11, 0x3F, 0x20, 1, 0x0D, 0xB8, 0xC0, 0, 2, 0x21, 0, 0, 0, 0,
-        0, 0, 0, 0, 0x20, 1, 0x0D, 0xB8, 1, 0x22, 3, 0x44, 0, 0, 0, 0, 0xC6, 0x33, 0x64, 7,
-        0, 0x15, 4, 0xD2, 0, 0x0B, 0xEA, 0x59, 0x61, 0x62, 0x63,
-    ],
-        PacketTranslationError::Header(TranslationError::PayloadLength(65516)),
-        "Translation Error: the payload length 65516 is above 65515."),
     (&[
         0x6B, 0x90, 0, 0, 0, 0x0B, 0x11, 1, 0x20, 1, 0x0D, 0xB8, 0xC0, 0, 2, 0x21, 0, 0, 0, 0,
         0, 0, 0, 0, 0x20, 1, 0x0D, 0xB8, 1, 0x22, 3, 0x44, 0, 0, 0, 0, 0xC6, 0x33, 0x64, 7,

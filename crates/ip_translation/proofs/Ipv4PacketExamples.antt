@@ -2,7 +2,8 @@
 use Rattle.std.proofs.Common.{◌≡◌, List, ℕ, [], ◌∷◌, ◌++◌, Some, None, refl}
 use Rattle.word_sum.specs.Checksum.{folded}
 use Rattle.ip_translation.specs.PacketsToIpv4.{packet_refusal, translated_packet}
-use Rattle.ip_translation.specs.declared.packet_translation_error.PacketTranslationError.TheVariants.{Header, NoUdpChecksum, Space}
+use Rattle.ip_translation.specs.SkippedHeaders.{skipped_from}
+use Rattle.ip_translation.specs.declared.packet_translation_error.PacketTranslationError.TheVariants.{ExtensionHeaderCutOff, Header, NoUdpChecksum, SegmentsLeft, Space}
 use Rattle.ip_translation.specs.declared.prefix64.Prefix64.TheVariants.{Bits32, Bits96}
 use Rattle.ip_translation.specs.declared.prefixes.Prefixes.{Prefixes}
 use Rattle.ip_translation.specs.declared.translation_error.TranslationError.TheVariants.{ExtensionHeader}
@@ -44,16 +45,16 @@ tcp_segment_ipv4 =
     ∷ 0x50 ∷ 0x18 ∷ 0x20 ∷ 0 ∷ 0xca ∷ 0x0f ∷ 0 ∷ 0 ∷ 0x61 ∷ 0x62 ∷ 0x63 ∷ []
 
 udp_accepted : packet_refusal prefixes udp_packet 31 ≡ None
-unfolding prefixes udp_packet
+unfolding skipped_from prefixes udp_packet
 udp_accepted = refl
 
 -- two bytes of padding are ignored
 udp_translated : translated_packet prefixes 0xbeef (udp_packet ++ (1 ∷ 2 ∷ [])) ≡ udp_packet_ipv4
-unfolding folded prefixes udp_packet udp_packet_ipv4
+unfolding skipped_from folded prefixes udp_packet udp_packet_ipv4
 udp_translated = refl
 
 tcp_translated : translated_packet prefixes 0xbeef tcp_segment ≡ tcp_segment_ipv4
-unfolding folded prefixes tcp_segment tcp_segment_ipv4
+unfolding skipped_from folded prefixes tcp_segment tcp_segment_ipv4
 tcp_translated = refl
 
 -- an echo reply of zeros
@@ -71,22 +72,52 @@ echo_reply_ipv4 =
     ∷ 0xc6 ∷ 0x33 ∷ 0x64 ∷ 7 ∷ 0 ∷ 0 ∷ 0xff ∷ 0xff ∷ 0 ∷ 0 ∷ 0 ∷ 0 ∷ 0 ∷ []
 
 echo_translated : translated_packet prefixes 0xbeef echo_reply ≡ echo_reply_ipv4
-unfolding folded prefixes echo_reply echo_reply_ipv4
+unfolding skipped_from folded prefixes echo_reply echo_reply_ipv4
 echo_translated = refl
 
 no_space : packet_refusal prefixes udp_packet 30 ≡ Some (Space 31 30)
-unfolding prefixes udp_packet
+unfolding skipped_from prefixes udp_packet
 no_space = refl
 
 -- the UDP packet without a checksum
 no_checksum : packet_refusal prefixes (0x6b ∷ 0x90 ∷ 0 ∷ 0 ∷ 0 ∷ 0x0b ∷ 0x11 ∷ 0x3f ∷ 0x20 ∷ 1 ∷ 0x0d ∷ 0xb8 ∷ 0xc0 ∷ 0 ∷ 2 ∷ 0x21 ∷ 0 ∷ 0 ∷ 0 ∷ 0 ∷ 0 ∷ 0 ∷ 0 ∷ 0 ∷ 0x20 ∷ 1 ∷ 0x0d ∷ 0xb8 ∷ 1 ∷ 0x22 ∷ 3 ∷ 0x44 ∷ 0 ∷ 0 ∷ 0 ∷ 0 ∷ 0xc6 ∷ 0x33 ∷ 0x64 ∷ 7 ∷ 0 ∷ 0x15 ∷ 4 ∷ 0xd2 ∷ 0 ∷ 0x0b ∷ 0 ∷ 0 ∷ 0x61 ∷ 0x62 ∷ 0x63 ∷ []) 100 ≡ Some NoUdpChecksum
-unfolding prefixes
+unfolding skipped_from prefixes
 no_checksum = refl
 
 -- a fragment header
 fragment : packet_refusal prefixes (0x6b ∷ 0x90 ∷ 0 ∷ 0 ∷ 0 ∷ 0x0b ∷ 0x2c ∷ 0x3f ∷ 0x20 ∷ 1 ∷ 0x0d ∷ 0xb8 ∷ 0xc0 ∷ 0 ∷ 2 ∷ 0x21 ∷ 0 ∷ 0 ∷ 0 ∷ 0 ∷ 0 ∷ 0 ∷ 0 ∷ 0 ∷ 0x20 ∷ 1 ∷ 0x0d ∷ 0xb8 ∷ 1 ∷ 0x22 ∷ 3 ∷ 0x44 ∷ 0 ∷ 0 ∷ 0 ∷ 0 ∷ 0xc6 ∷ 0x33 ∷ 0x64 ∷ 7 ∷ 0 ∷ 0x15 ∷ 4 ∷ 0xd2 ∷ 0 ∷ 0x0b ∷ 0xea ∷ 0x59 ∷ 0x61 ∷ 0x62 ∷ 0x63 ∷ []) 100 ≡ Some (Header (ExtensionHeader 44))
-unfolding prefixes
+unfolding skipped_from prefixes
 fragment = refl
+
+-- the UDP packet after hop-by-hop options of 8 bytes, a routing header of 24 bytes with this number of segments left, and destination options
+-- of 8 bytes
+extended_packet : ℕ → List ℕ
+extended_packet segments_left =
+    0x6b ∷ 0x90 ∷ 0 ∷ 0 ∷ 0 ∷ 0x33 ∷ 0 ∷ 0x3f ∷ 0x20 ∷ 1 ∷ 0x0d ∷ 0xb8 ∷ 0xc0 ∷ 0 ∷ 2 ∷ 0x21
+    ∷ 0 ∷ 0 ∷ 0 ∷ 0 ∷ 0 ∷ 0 ∷ 0 ∷ 0 ∷ 0x20 ∷ 1 ∷ 0x0d ∷ 0xb8 ∷ 1 ∷ 0x22 ∷ 3 ∷ 0x44
+    ∷ 0 ∷ 0 ∷ 0 ∷ 0 ∷ 0xc6 ∷ 0x33 ∷ 0x64 ∷ 7 ∷ 43 ∷ 0 ∷ 1 ∷ 4 ∷ 0 ∷ 0 ∷ 0 ∷ 0
+    ∷ 60 ∷ 2 ∷ 0 ∷ segments_left ∷ 0 ∷ 0 ∷ 0 ∷ 0 ∷ 0xfe ∷ 0x80 ∷ 0 ∷ 0 ∷ 0 ∷ 0 ∷ 0 ∷ 0
+    ∷ 0 ∷ 0 ∷ 0 ∷ 0 ∷ 0 ∷ 0 ∷ 0 ∷ 1 ∷ 0x11 ∷ 0 ∷ 1 ∷ 4 ∷ 0 ∷ 0 ∷ 0 ∷ 0
+    ∷ 0 ∷ 0x15 ∷ 4 ∷ 0xd2 ∷ 0 ∷ 0x0b ∷ 0xea ∷ 0x59 ∷ 0x61 ∷ 0x62 ∷ 0x63 ∷ []
+
+extensions_accepted : packet_refusal prefixes (extended_packet 0) 31 ≡ None
+unfolding skipped_from prefixes extended_packet
+extensions_accepted = refl
+
+-- the three extension headers are skipped
+extensions_skipped : translated_packet prefixes 0xbeef (extended_packet 0) ≡ udp_packet_ipv4
+unfolding skipped_from folded prefixes extended_packet udp_packet_ipv4
+extensions_skipped = refl
+
+-- "segments left" is byte 3 of the routing header, which begins at byte 48
+segments_left : packet_refusal prefixes (extended_packet 1) 31 ≡ Some (SegmentsLeft 51)
+unfolding skipped_from prefixes extended_packet
+segments_left = refl
+
+-- the UDP packet, as if it were destination options
+cut_off_options : packet_refusal prefixes (0x6b ∷ 0x90 ∷ 0 ∷ 0 ∷ 0 ∷ 0x0b ∷ 60 ∷ 0x3f ∷ 0x20 ∷ 1 ∷ 0x0d ∷ 0xb8 ∷ 0xc0 ∷ 0 ∷ 2 ∷ 0x21 ∷ 0 ∷ 0 ∷ 0 ∷ 0 ∷ 0 ∷ 0 ∷ 0 ∷ 0 ∷ 0x20 ∷ 1 ∷ 0x0d ∷ 0xb8 ∷ 1 ∷ 0x22 ∷ 3 ∷ 0x44 ∷ 0 ∷ 0 ∷ 0 ∷ 0 ∷ 0xc6 ∷ 0x33 ∷ 0x64 ∷ 7 ∷ 0 ∷ 0x15 ∷ 4 ∷ 0xd2 ∷ 0 ∷ 0x0b ∷ 0xea ∷ 0x59 ∷ 0x61 ∷ 0x62 ∷ 0x63 ∷ []) 100 ≡ Some (ExtensionHeaderCutOff 60 176 11)
+unfolding skipped_from prefixes
+cut_off_options = refl
 
 -- "packet too big" with an MTU of 1420 bytes, about a TCP segment
 packet_too_big : List ℕ
@@ -109,9 +140,9 @@ packet_too_big_ipv4 =
     ∷ 0xca ∷ 0x0f ∷ 0 ∷ 0 ∷ 0x61 ∷ 0x62 ∷ 0x63 ∷ []
 
 error_accepted : packet_refusal prefixes packet_too_big 71 ≡ None
-unfolding folded prefixes packet_too_big
+unfolding skipped_from folded prefixes packet_too_big
 error_accepted = refl
 
 error_translated : translated_packet prefixes 0xbeef packet_too_big ≡ packet_too_big_ipv4
-unfolding folded prefixes packet_too_big packet_too_big_ipv4
+unfolding skipped_from folded prefixes packet_too_big packet_too_big_ipv4
 error_translated = refl

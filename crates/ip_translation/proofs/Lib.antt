@@ -1,4 +1,5 @@
 pub mod BackLemmas
+pub mod DirectLemmas
 pub mod EchoLemmas
 pub mod EmbeddedLemmas
 pub mod ErrorLemmas
@@ -10,4 +11,5 @@ pub mod MessageLemmas
 pub mod PacketExamples
 pub mod PseudoHeaderLemmas
 pub mod RuleLemmas
+pub mod SkippedLemmas
 pub mod WorkedExamples

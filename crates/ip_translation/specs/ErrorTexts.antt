@@ -5,7 +5,7 @@ use Rattle.std.specs.List.{concat}
 use Rattle.ip_translation.specs.declared.address_error.AddressError.{AddressError}
 use Rattle.ip_translation.specs.declared.address_error.AddressError.TheVariants.{NotEmbedded, NotGlobal}
 use Rattle.ip_translation.specs.declared.packet_translation_error.PacketTranslationError.{PacketTranslationError}
-use Rattle.ip_translation.specs.declared.packet_translation_error.PacketTranslationError.TheVariants.{CutOff, Header, IcmpExtension, IcmpMessage, IcmpPointer, NoIpv4Header, NoIpv6Header, NoQuotedHeader, NoUdpChecksum, QuotedHeader, QuotedIcmp, Space, TransportHeader, UdpLength}
+use Rattle.ip_translation.specs.declared.packet_translation_error.PacketTranslationError.TheVariants.{CutOff, ExtensionHeaderCutOff, Header, IcmpExtension, IcmpMessage, IcmpPointer, NoIpv4Header, NoIpv6Header, NoQuotedHeader, NoUdpChecksum, QuotedHeader, QuotedIcmp, SegmentsLeft, Space, TransportHeader, UdpLength}
 use Rattle.ip_translation.specs.declared.prefix64_error.Prefix64Error.{Prefix64Error}
 use Rattle.ip_translation.specs.declared.prefix64_error.Prefix64Error.TheVariants.{Len, ReservedOctet, SuffixBits}
 use Rattle.ip_translation.specs.declared.translation_error.TranslationError.{TranslationError}
@@ -64,3 +64,8 @@ packet_text (UdpLength length len) = concat (
 packet_text NoUdpChecksum = codes "Translation Error: a UDP packet over IPv6 has no checksum."
 packet_text (Space required_len len) = concat (
     codes "Space Error: " ∷ decimal required_len ∷ codes " bytes are needed, and there is room for " ∷ decimal len ∷ codes "." ∷ [])
+packet_text (ExtensionHeaderCutOff number required_len len) = concat (
+    codes "Translation Error: the IPv6 extension header " ∷ decimal number ∷ codes " has " ∷ decimal required_len
+    ∷ codes " bytes, and there are " ∷ decimal len ∷ codes "." ∷ [])
+packet_text (SegmentsLeft pointer) = concat (
+    codes "Translation Error: a routing header has segments left at byte " ∷ decimal pointer ∷ codes "." ∷ [])

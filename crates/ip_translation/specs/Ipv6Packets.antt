@@ -1,17 +1,47 @@
 -- The parts of an IPv6 packet, which the translations to IPv4 share.
-use Rattle.std.specs.Prelude.{ℕ, ◌+◌, ◌==◌, Bool, ◌&&◌, nat_le, List, length, slice_range}
+use Rattle.std.specs.Prelude.{ℕ, ◌+◌, ◌==◌, Bool, ◌&&◌, nat_le, List, [], ◌∷◌, drop, length, slice_range, Result}
 use Rattle.ip_part.specs.Ip.{ipv6_header}
 use Rattle.net_base.specs.IpHeaders.{version}
-use Rattle.ip_translation.specs.HeadersToIpv4.{payload_len}
+use Rattle.ip_translation.specs.HeadersToIpv4.{destination, hop_limit, next_header, payload_len, source, traffic_class}
+use Rattle.ip_translation.specs.HeadersToIpv6.{ipv6_header as built_header}
+use Rattle.ip_translation.specs.SkippedHeaders.{skipped_headers, unless_err}
+use Rattle.ip_translation.specs.declared.packet_translation_error.PacketTranslationError.{PacketTranslationError}
+use Rattle.ip_translation.specs.declared.skipped_headers.SkippedHeaders.{SkippedHeaders}
 
 -- the bytes begin with a whole IPv6 header (RFC 8200, section 3)
 abbrev pub begins_with_header : List ℕ → Bool
 begins_with_header packet = nat_le 40 (length packet) && version packet == 6
 
--- the message: the bytes after the header that the payload length counts; all later bytes are padding
-abbrev pub message_after : List ℕ → List ℕ → List ℕ
-message_after header packet = slice_range packet 40 (40 + payload_len header)
+-- the payload: the bytes after the header that its payload length counts; all later bytes are padding
+abbrev pub payload_after : List ℕ → List ℕ → List ℕ
+payload_after header packet = slice_range packet 40 (40 + payload_len header)
+
+-- the extension headers that are skipped in a packet with this header and this payload, or the error of one of them
+abbrev pub skipped_in : List ℕ → List ℕ → Result SkippedHeaders PacketTranslationError
+skipped_in header payload = skipped_headers (next_header header) payload
+
+-- the message: the bytes of the payload after the skipped headers
+abbrev pub message_in : List ℕ → List ℕ → List ℕ
+message_in header payload = drop (unless_err (skipped_in header payload)).len payload
+
+-- This header, but with the number of this header or protocol after it, and with a payload length that counts this message. The flow label
+-- is 0, since no translation reads it.
+abbrev pub header_before : List ℕ → ℕ → List ℕ → List ℕ
+header_before header number message =
+    built_header (traffic_class header) (length message) (number ∷ hop_limit header ∷ []) (source header) (destination header)
+
+-- the header of the packet without the skipped headers
+abbrev pub direct_in : List ℕ → List ℕ → List ℕ
+direct_in header payload = header_before header (unless_err (skipped_in header payload)).number (message_in header payload)
+
+-- the payload of a packet that begins with an IPv6 header
+abbrev pub payload_of : List ℕ → List ℕ
+payload_of packet = payload_after (ipv6_header packet) packet
 
 -- the message of a packet that begins with an IPv6 header
 abbrev pub message_of : List ℕ → List ℕ
-message_of packet = message_after (ipv6_header packet) packet
+message_of packet = message_in (ipv6_header packet) (payload_of packet)
+
+-- the header of a packet that begins with an IPv6 header, without the skipped headers
+abbrev pub direct_header : List ℕ → List ℕ
+direct_header packet = direct_in (ipv6_header packet) (payload_of packet)

@@ -13,4 +13,5 @@ pub mod PacketsToIpv6
 pub mod Prefixes
 pub mod PseudoHeaders
 pub mod QuotedPackets
+pub mod SkippedHeaders
 pub mod ThereAndBack

@@ -1,7 +1,7 @@
 -- The translation of IPv6 packets to IPv4 (RFC 7915, section 5), and the packets that are not translated.
 use Rattle.std.specs.Prelude.{◌≡◌, ◌≢◌, ◌↔◌, ℕ, ◌+◌, ◌-◌, ◌==◌, Bool, true, false, ◌&&◌, not, nat_le, nat_lt, if◌then◌else◌, List, [], ◌∷◌, ◌++◌, is_none, length, slice_index, Option, None}
 use Rattle.std.specs.Option.{option_map, unwrap_or}
-use Rattle.ip_part.specs.Ip.{ipv6_header}
+use Rattle.ip_part.specs.Ip.{error_of, ipv6_header}
 use Rattle.net_base.specs.IpNumbers.{icmpv6_number, tcp_number, udp_number}
 use Rattle.net_base.specs.Refusals.{first_of, refused_if}
 use Rattle.net_base.specs.StoredChecksum.{tcp_checksum_place, udp_checksum_place, with_checksum}
@@ -14,7 +14,7 @@ use Rattle.ip_translation.specs.PacketsToIpv6.{VerifiesAlike, header_len_refusal
 use Rattle.ip_translation.specs.declared.packet_translation_error.PacketTranslationError.{PacketTranslationError}
 use Rattle.ip_translation.specs.declared.packet_translation_error.PacketTranslationError.TheVariants.{CutOff, Header, NoIpv6Header, NoUdpChecksum, Space}
 use Rattle.ip_translation.specs.declared.prefixes.Prefixes.{Prefixes}
-pub use Rattle.ip_translation.specs.Ipv6Packets.{begins_with_header, message_after, message_of}
+pub use Rattle.ip_translation.specs.Ipv6Packets.{begins_with_header, direct_header, direct_in, header_before, message_in, message_of, payload_after, payload_of, skipped_in}
 
 -- ---- errors
 
@@ -63,19 +63,27 @@ refusal_of protocol prefixes message room =
     if is_icmp_error protocol message then error_packet_refusal prefixes message room
     else other_refusal protocol message room
 
--- the first error of a packet with this header; `room` is the length of the buffer
-abbrev pub refusal_after : List ℕ → Prefixes → List ℕ → ℕ → Option PacketTranslationError
-refusal_after header prefixes packet room = first_of (
+-- the first error of a packet that consists of this header and this message; `room` is the length of the buffer
+abbrev pub direct_refusal : List ℕ → Prefixes → List ℕ → ℕ → Option PacketTranslationError
+direct_refusal header prefixes message room = first_of (
     option_map Header (header_refusal prefixes header)
-    ∷ cut_off_refusal header (length packet)
-    ∷ refusal_of (next_header header) prefixes (message_after header packet) room
+    ∷ refusal_of (next_header header) prefixes message room
     ∷ [])
 
--- the first error of a packet, which must begin with an IPv6 header; `room` is the length of the buffer
+-- The first error of a packet with this header and this payload. An extension header is refused, or the packet without its extension headers
+-- is refused.
+abbrev pub payload_refusal : List ℕ → Prefixes → List ℕ → ℕ → Option PacketTranslationError
+payload_refusal header prefixes payload room = first_of (
+    error_of (skipped_in header payload)
+    ∷ direct_refusal (direct_in header payload) prefixes (message_in header payload) room
+    ∷ [])
+
+-- the first error of a packet, which must begin with an IPv6 header and must be whole; `room` is the length of the buffer
 abbrev pub packet_refusal : Prefixes → List ℕ → ℕ → Option PacketTranslationError
 packet_refusal prefixes packet room = first_of (
     refused_if (not (begins_with_header packet)) NoIpv6Header
-    ∷ refusal_after (ipv6_header packet) prefixes packet room
+    ∷ cut_off_refusal (ipv6_header packet) (length packet)
+    ∷ payload_refusal (ipv6_header packet) prefixes (payload_of packet) room
     ∷ [])
 
 -- ---- the translated message
@@ -113,7 +121,7 @@ error_packet header prefixes identification message =
     header_with prefixes identification (length (error_without_checksum prefixes message) + 20) (hop_limit header - 1) header
     ++ translated_error prefixes header message
 
--- the translation of a packet with this IPv6 header and this message; the IPv4 header has this identification
+-- the translation of a packet that consists of this IPv6 header and this message; the IPv4 header has this identification
 abbrev pub translation_of : List ℕ → Prefixes → ℕ → List ℕ → List ℕ
 translation_of header prefixes identification message =
     if is_icmp_error (next_header header) message then error_packet header prefixes identification message
@@ -124,9 +132,9 @@ abbrev pub translated_len : List ℕ → Prefixes → List ℕ → ℕ
 translated_len header prefixes message =
     20 + (if is_icmp_error (next_header header) message then length (error_without_checksum prefixes message) else length message)
 
--- the translation of a packet that begins with an IPv6 header
+-- The translation of a packet that begins with an IPv6 header. Its extension headers are skipped (RFC 7915, section 5.1).
 abbrev pub translated_packet : Prefixes → ℕ → List ℕ → List ℕ
-translated_packet prefixes identification packet = translation_of (ipv6_header packet) prefixes identification (message_of packet)
+translated_packet prefixes identification packet = translation_of (direct_header packet) prefixes identification (message_of packet)
 
 -- ---- a receiver's check
 

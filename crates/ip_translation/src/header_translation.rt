@@ -225,7 +225,7 @@ fn next_header(protocol: IpNumber) -> IpNumber
 }
 
 /// An IPv6 header with these fields. `next` contains the next header and the hop limit. The flow label is 0.
-fn ipv6_header(
+pub(crate) fn ipv6_header(
     traffic_class: u8,
     payload_len: u16,
     next: [u8; 2],

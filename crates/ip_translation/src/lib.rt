@@ -28,6 +28,7 @@ mod prefix64;
 mod prefix64_error;
 mod prefixes;
 mod quoted_packet;
+mod skipped_headers;
 mod translation_error;
 mod updated_message;
 

@@ -1,6 +1,6 @@
 ghost use Rattle.std.specs.Prelude.{◌≡◌, ◌≤◌, ◌<◌, ◌+◌, ◌++◌, ◌↔◌, [], IfErr, IfOk, MatchOption, drop, false, length, slice_index, true};
 ghost use Rattle.std.specs.Option.{option_map};
-ghost use Rattle.ip_part.specs.Ip.{ipv6_header};
+ghost use Rattle.ip_part.specs.Ip as ip;
 ghost use Rattle.net_base.specs.IpNumbers.{icmpv6_number, tcp_number, udp_number};
 ghost use Rattle.net_base.specs.PseudoHeader.{max_len_over_ipv4};
 ghost use Rattle.net_base.specs.Refusals.{RefusesExactly};
@@ -13,10 +13,12 @@ ghost use Rattle.ip_translation.specs.declared.packet_translation_error.PacketTr
 use crate::changed_message::store_changed_checksum;
 use crate::echo_translation::{icmpv6_pseudo_header, type_over_ipv4, write_echo};
 use crate::error_to_ipv4::error_to_ipv4;
+use crate::header_translation::ipv6_header;
 use crate::ipv4_header_translation::header_with;
 use crate::message_translation::{
     ICMP_LEN, TCP_LEN, UDP_CHECKSUM_AT, UDP_LEN, check_header_len, check_space, number,
 };
+use crate::skipped_headers::skip_headers;
 use crate::updated_message::{write_updated_tcp, write_updated_udp};
 use crate::{PacketTranslationError, Prefixes, header_to_ipv4, pseudo_header_change_to_ipv4};
 use arrayvec::ArrayVec;
@@ -31,9 +33,10 @@ const IPV6_LEN: usize = 40;
 /// Translates an IPv6 packet to IPv4 (RFC 7915, section 5). Writes the IPv4 packet to the front of `buffer`, and returns its length in
 /// bytes. The rest of the buffer is unchanged. Bytes that the payload length does not count are ignored.
 ///
-/// `header_to_ipv4` translates the header, with this identification. In a message of UDP or TCP only the checksum changes, since the pseudo
-/// header contains the addresses. An ICMPv6 echo message becomes an ICMP echo message (section 5.2). A message of any other protocol is
-/// unchanged.
+/// Hop-by-hop options, destination options, and routing headers without segments left are skipped: the packet is translated as if they were
+/// not there (section 5.1). `header_to_ipv4` translates the header, with this identification. In a message of UDP or TCP only the checksum
+/// changes, since the pseudo header contains the addresses. An ICMPv6 echo message becomes an ICMP echo message (section 5.2). A message of
+/// any other protocol is unchanged.
 ///
 /// An ICMPv6 error becomes the ICMP error that `icmpv4_error` names, with the pointer of `icmpv4_pointer` or the MTU of `icmpv4_mtu`
 /// (section 5.2). The packet that it quotes is translated with the exchanged prefixes, keeps its hop limit, and gets the identification 0
@@ -43,8 +46,10 @@ const IPV6_LEN: usize = 40;
 ///
 /// After an error the buffer is unchanged. The call checks these cases, in this order:
 /// - `NoIpv6Header` if the bytes do not begin with a whole IPv6 header.
-/// - `Header` if `header_to_ipv4` refuses the header.
 /// - `CutOff` if there are fewer bytes than the header and its payload length.
+/// - `ExtensionHeaderCutOff` if an extension header that is skipped ends after the payload, and `SegmentsLeft` if a routing header has
+///   segments left. These two are checked for each header, in the order of the packet.
+/// - `Header` if `header_to_ipv4` refuses the header of the packet without these extension headers.
 /// - `TransportHeader` if a UDP packet or an ICMP message is shorter than 8 bytes, or a TCP segment is shorter than 20 bytes.
 /// - `IcmpMessage` if an ICMPv6 message is not an echo message, and `icmpv4_error` returns `None`.
 /// - `IcmpExtension` if "destination unreachable" or "time exceeded" has an extension (RFC 4884): byte 4 of the message is not 0.
@@ -62,43 +67,99 @@ pub fn ipv6_to_ipv4(
     buffer: &mut [u8],
 ) -> Result<usize, PacketTranslationError>
     ensures refused { RefusesExactly result (specs.packet_refusal prefixes.now packet.now (length buffer.old)) }
-    ensures len { IfOk result (λ len. len ≡ specs.translated_len (ipv6_header packet.now) prefixes.now (specs.message_of packet.now)) }
+    ensures len { IfOk result (λ len. len ≡ specs.translated_len (specs.direct_header packet.now) prefixes.now (specs.message_of packet.now)) }
     ensures written { IfOk result (λ len. buffer.new ≡ specs.translated_packet prefixes.now identification packet.now ++ drop len buffer.old) }
     ensures unchanged { IfErr result (λ _. buffer.new ≡ buffer.old) }
     // A receiver accepts the message of the translated packet exactly if it accepts the message of the original packet.
-    ensures alike { IfOk result (λ _. specs.AreAcceptedAlike prefixes.now (ipv6_header packet.now) (specs.message_of packet.now)) }
+    ensures alike { IfOk result (λ _. specs.AreAcceptedAlike prefixes.now (specs.direct_header packet.now) (specs.message_of packet.now)) }
 {
     let Some(header) = front_header(packet) else {
         return Err(PacketTranslationError::NoIpv6Header);
     };
-    translate_after(&header, packet, prefixes, identification, buffer)
+    let payload = payload_after(&header, packet)?;
+    translate_payload(&header, payload, prefixes, identification, buffer)
 }
 
 /// The IPv6 header at the front of a packet.
 pub(crate) fn front_header<'a>(packet: &'a [u8]) -> Option<Ipv6HeaderSlice<'a>>
     ensures found { MatchOption result (specs.begins_with_header packet.now ≡ false)
-        (λ header. (specs.begins_with_header packet.now ≡ true) × (header ≡ ipv6_header packet.now)) }
+        (λ header. (specs.begins_with_header packet.now ≡ true) × (header ≡ ip.ipv6_header packet.now)) }
 {
     Ipv6HeaderSlice::from_slice(packet)
 }
 
-/// Translates a packet with this header.
-fn translate_after(
+/// Translates a packet with this header and this payload. Skips its extension headers.
+fn translate_payload(
     header: &Ipv6HeaderSlice<'_>,
-    packet: &[u8],
+    payload: &[u8],
     prefixes: &Prefixes,
     identification: u16,
     buffer: &mut [u8],
 ) -> Result<usize, PacketTranslationError>
-    ensures refused { RefusesExactly result (specs.refusal_after header.now prefixes.now packet.now (length buffer.old)) }
-    ensures len { IfOk result (λ len. len ≡ specs.translated_len header.now prefixes.now (specs.message_after header.now packet.now)) }
-    ensures written { IfOk result (λ len. buffer.new
-        ≡ specs.translation_of header.now prefixes.now identification (specs.message_after header.now packet.now) ++ drop len buffer.old) }
+    requires counted { length payload.now ≤ max_len_over_ipv4 }
+    ensures refused { RefusesExactly result (specs.payload_refusal header.now prefixes.now payload.now (length buffer.old)) }
+    ensures len { IfOk result (λ len. len
+        ≡ specs.translated_len (specs.direct_in header.now payload.now) prefixes.now (specs.message_in header.now payload.now)) }
+    ensures written { IfOk result (λ len. buffer.new ≡ specs.translation_of (specs.direct_in header.now payload.now) prefixes.now identification
+        (specs.message_in header.now payload.now) ++ drop len buffer.old) }
     ensures unchanged { IfErr result (λ _. buffer.new ≡ buffer.old) }
-    ensures alike { IfOk result (λ _. specs.AreAcceptedAlike prefixes.now header.now (specs.message_after header.now packet.now)) }
+    ensures alike { IfOk result (λ _. specs.AreAcceptedAlike prefixes.now (specs.direct_in header.now payload.now)
+        (specs.message_in header.now payload.now)) }
+{
+    let skipped = skip_headers(header.next_header().0, payload)?;
+    let message = &payload[skipped.len..];
+    let direct = header_before(header, skipped.number, message);
+    translate_direct(
+        &whole_header(direct.as_slice()),
+        message,
+        prefixes,
+        identification,
+        buffer,
+    )
+}
+
+/// This header, but with the number of this header or protocol after it, and with a payload length that counts this message.
+fn header_before(header: &Ipv6HeaderSlice<'_>, number: u8, message: &[u8]) -> ArrayVec<u8, IPV6_LEN>
+    requires counted { length message.now ≤ max_len_over_ipv4 }
+    ensures bytes { result.items ≡ specs.header_before header.now number message.now }
+    ensures len { length result.items ≡ 40 }
+    ensures front { specs.begins_with_header result.items ≡ true }
+{
+    ipv6_header(
+        header.traffic_class(),
+        message.len() as u16,
+        [number, header.hop_limit()],
+        header.source(),
+        header.destination(),
+    )
+}
+
+/// The IPv6 header that these bytes are.
+fn whole_header<'a>(bytes: &'a [u8]) -> Ipv6HeaderSlice<'a>
+    requires front { specs.begins_with_header bytes.now ≡ true }
+    requires len { length bytes.now ≡ 40 }
+    ensures { result ≡ bytes.now }
+{
+    front_header(bytes).unwrap()
+}
+
+/// Translates a packet that consists of this header and this message.
+fn translate_direct(
+    header: &Ipv6HeaderSlice<'_>,
+    message: &[u8],
+    prefixes: &Prefixes,
+    identification: u16,
+    buffer: &mut [u8],
+) -> Result<usize, PacketTranslationError>
+    requires counted { length message.now ≤ max_len_over_ipv4 }
+    ensures refused { RefusesExactly result (specs.direct_refusal header.now prefixes.now message.now (length buffer.old)) }
+    ensures len { IfOk result (λ len. len ≡ specs.translated_len header.now prefixes.now message.now) }
+    ensures written { IfOk result (λ len. buffer.new
+        ≡ specs.translation_of header.now prefixes.now identification message.now ++ drop len buffer.old) }
+    ensures unchanged { IfErr result (λ _. buffer.new ≡ buffer.old) }
+    ensures alike { IfOk result (λ _. specs.AreAcceptedAlike prefixes.now header.now message.now) }
 {
     let ipv4_header = translated_header(header, prefixes, identification)?;
-    let message = message_after(header, packet)?;
     if is_icmp_error(header.next_header(), message) {
         return translate_error(message, header, prefixes, identification, buffer);
     }
@@ -224,14 +285,14 @@ fn translated_header(
     }
 }
 
-/// The message: the bytes after this header that its payload length counts.
-fn message_after<'a>(
+/// The payload: the bytes after this header that its payload length counts.
+fn payload_after<'a>(
     header: &Ipv6HeaderSlice<'_>,
     packet: &'a [u8],
 ) -> Result<&'a [u8], PacketTranslationError>
     ensures refused { RefusesExactly result (specs.cut_off_refusal header.now (length packet.now)) }
-    ensures message { IfOk result (λ message. message.now ≡ specs.message_after header.now packet.now) }
-    ensures counted { IfOk result (λ message. length message.now ≤ max_len_over_ipv4) }
+    ensures payload { IfOk result (λ payload. payload.now ≡ specs.payload_after header.now packet.now) }
+    ensures counted { IfOk result (λ payload. length payload.now ≤ max_len_over_ipv4) }
 {
     let total_len = IPV6_LEN + usize::from(header.payload_length());
     if packet.len() < total_len {

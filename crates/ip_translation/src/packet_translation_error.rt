@@ -71,6 +71,21 @@ pub enum PacketTranslationError {
         /// The length of the buffer, in bytes.
         len: usize,
     },
+    /// An IPv6 extension header ends after the packet.
+    ExtensionHeaderCutOff {
+        /// The number of the extension header.
+        number: u8,
+        /// The length of the extension header, in bytes. It is 8 if the packet ends within the first 8 bytes of the header.
+        required_len: usize,
+        /// The number of bytes that the packet has for this header.
+        len: usize,
+    },
+    /// A routing header has segments left. The translator should report this to the sender: a parameter problem of ICMPv6 with code 0 and
+    /// this pointer (RFC 7915, section 5.1).
+    SegmentsLeft {
+        /// The place of the field "segments left", in bytes from the start of the packet.
+        pointer: usize,
+    },
 }
 
 impl PacketTranslationError {
@@ -151,6 +166,24 @@ impl PacketTranslationError {
                 Number(*required_len),
                 Words(" bytes are needed, and there is room for "),
                 Number(*len),
+                Words("."),
+            ]),
+            PacketTranslationError::ExtensionHeaderCutOff {
+                number,
+                required_len,
+                len,
+            } => ErrorText::from_parts(&[
+                Words("Translation Error: the IPv6 extension header "),
+                Number(usize::from(*number)),
+                Words(" has "),
+                Number(*required_len),
+                Words(" bytes, and there are "),
+                Number(*len),
+                Words("."),
+            ]),
+            PacketTranslationError::SegmentsLeft { pointer } => ErrorText::from_parts(&[
+                Words("Translation Error: a routing header has segments left at byte "),
+                Number(*pointer),
                 Words("."),
             ]),
         }

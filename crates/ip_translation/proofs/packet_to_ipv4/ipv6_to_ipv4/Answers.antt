@@ -4,33 +4,47 @@ use Rattle.net_base.specs.Refusals.{RefusesExactly, refused_if}
 use Rattle.ip_translation.specs.PacketsToIpv4 as specs
 use Rattle.ip_translation.specs.declared.packet_translation_error.PacketTranslationError.TheVariants.{NoIpv6Header}
 use Rattle.ip_part.specs.Ip.{ipv6_header}
-use Rattle.ip_translation.proofs.RuleLemmas.{last_of_two}
+use Rattle.ip_translation.proofs.RuleLemmas.{last_of_three}
 use Rattle.ip_translation.proofs.packet_to_ipv4.ipv6_to_ipv4.Goals as goal
 
 pub returns-clause-refused : goal.returns-clause-refused
 returns-clause-refused c =
     let packet : List ℕ = c.args.packet.now in
     let room : ℕ = length c.args.buffer.now in
-    subst (λ refusal. RefusesExactly c.translate_after.result refusal)
+    let whole : specs.cut_off_refusal (ipv6_header packet) (length packet) ≡ _ =
+    ap (λ header. specs.cut_off_refusal header (length packet)) (sym c.in-Some.ensures.found.1) ∙ c.in_ok-payload.ensures.refused in
+    subst (RefusesExactly c.translate_payload.result)
     (sym (
-    last_of_two (refused_if (not (specs.begins_with_header packet)) NoIpv6Header)
-    (specs.refusal_after (ipv6_header packet) c.args.prefixes.now packet room)
-    (ap (λ begins. refused_if (not begins) NoIpv6Header) c.in-Some.ensures.found.0)
-    ∙ ap (λ header. specs.refusal_after header c.args.prefixes.now packet room) (sym c.in-Some.ensures.found.1)))
-    c.translate_after.ensures.refused
+    last_of_three (refused_if (not (specs.begins_with_header packet)) NoIpv6Header)
+    (specs.cut_off_refusal (ipv6_header packet) (length packet))
+    (specs.payload_refusal (ipv6_header packet) c.args.prefixes.now (specs.payload_of packet) room)
+    (ap (λ begins. refused_if (not begins) NoIpv6Header) c.in-Some.ensures.found.0) whole
+    ∙ ap (λ header. specs.payload_refusal header c.args.prefixes.now (specs.payload_after header packet) room) (sym c.in-Some.ensures.found.1)
+    ∙ ap (λ payload. specs.payload_refusal c.in-Some.header c.args.prefixes.now payload room) (sym c.in_ok-payload.ensures.payload)))
+    c.translate_payload.ensures.refused
 
 pub returns-clause-len : goal.returns-clause-len
 returns-clause-len c =
-    subst (λ header. IfOk c.translate_after.result (λ len. len ≡ specs.translated_len header c.args.prefixes.now (specs.message_after header c.args.packet.now)))
-    c.in-Some.ensures.found.1 c.translate_after.ensures.len
+    let packet : List ℕ = c.args.packet.now in
+    subst (λ header. IfOk c.translate_payload.result (λ len. len ≡ specs.translated_len (specs.direct_in header (specs.payload_after header packet)) c.args.prefixes.now (specs.message_in header (specs.payload_after header packet))))
+    c.in-Some.ensures.found.1
+    (subst (λ payload. IfOk c.translate_payload.result (λ len. len ≡ specs.translated_len (specs.direct_in c.in-Some.header payload) c.args.prefixes.now (specs.message_in c.in-Some.header payload)))
+    c.in_ok-payload.ensures.payload c.translate_payload.ensures.len)
 
 pub returns-clause-written : goal.returns-clause-written
 returns-clause-written c =
-    subst (λ header. IfOk c.translate_after.result (λ len. c.translate_after.new.buffer
-    ≡ specs.translation_of header c.args.prefixes.now c.args.identification (specs.message_after header c.args.packet.now) ++ drop len c.args.buffer.now))
-    c.in-Some.ensures.found.1 c.translate_after.ensures.written
+    let packet : List ℕ = c.args.packet.now in
+    subst (λ header. IfOk c.translate_payload.result (λ len. c.translate_payload.new.buffer
+    ≡ specs.translation_of (specs.direct_in header (specs.payload_after header packet)) c.args.prefixes.now c.args.identification (specs.message_in header (specs.payload_after header packet)) ++ drop len c.args.buffer.now))
+    c.in-Some.ensures.found.1
+    (subst (λ payload. IfOk c.translate_payload.result (λ len. c.translate_payload.new.buffer
+    ≡ specs.translation_of (specs.direct_in c.in-Some.header payload) c.args.prefixes.now c.args.identification (specs.message_in c.in-Some.header payload) ++ drop len c.args.buffer.now))
+    c.in_ok-payload.ensures.payload c.translate_payload.ensures.written)
 
 pub returns-clause-alike : goal.returns-clause-alike
 returns-clause-alike c =
-    subst (λ header. IfOk c.translate_after.result (λ _. specs.AreAcceptedAlike c.args.prefixes.now header (specs.message_after header c.args.packet.now)))
-    c.in-Some.ensures.found.1 c.translate_after.ensures.alike
+    let packet : List ℕ = c.args.packet.now in
+    subst (λ header. IfOk c.translate_payload.result (λ _. specs.AreAcceptedAlike c.args.prefixes.now (specs.direct_in header (specs.payload_after header packet)) (specs.message_in header (specs.payload_after header packet))))
+    c.in-Some.ensures.found.1
+    (subst (λ payload. IfOk c.translate_payload.result (λ _. specs.AreAcceptedAlike c.args.prefixes.now (specs.direct_in c.in-Some.header payload) (specs.message_in c.in-Some.header payload)))
+    c.in_ok-payload.ensures.payload c.translate_payload.ensures.alike)

@@ -1,0 +1,116 @@
+ghost use Rattle.std.specs.Prelude.{◌≡◌, ◌≤◌, IfOk, length};
+ghost use Rattle.ip_part.specs.ExtensionHeaders as extensions;
+ghost use Rattle.net_base.specs.PseudoHeader.{max_len_over_ipv4};
+ghost use Rattle.net_base.specs.Refusals.{RefusesExactly};
+ghost use Rattle.ip_translation.specs.SkippedHeaders as specs;
+
+use crate::PacketTranslationError;
+use net_base::ip_number;
+
+/// The extension headers after an IPv6 header that a translation to IPv4 skips (RFC 7915, section 5.1).
+#[derive(Clone, Copy)]
+pub(crate) struct SkippedHeaders {
+    /// The number of the header or protocol after these headers.
+    pub(crate) number: u8,
+    /// The length of these headers, in bytes.
+    pub(crate) len: usize,
+}
+
+/// The length of an IPv6 header, in bytes (RFC 8200, section 3).
+const IPV6_LEN: usize = 40;
+
+/// The length of the shortest extension header, in bytes (RFC 8200, section 4).
+const MIN_LEN: usize = 8;
+
+/// The place of the number of segments left in a routing header, in bytes (RFC 8200, section 4.4).
+const SEGMENTS_LEFT_AT: usize = 3;
+
+/// The headers that are skipped in the payload after an IPv6 header. `first` is the next header of the IPv6 header.
+pub(crate) fn skip_headers(
+    first: u8,
+    payload: &[u8],
+) -> Result<SkippedHeaders, PacketTranslationError>
+    requires counted { length payload.now ≤ max_len_over_ipv4 }
+    ensures skipped { result ≡ specs.skipped_headers first payload.now }
+    ensures within { IfOk result (λ skipped. skipped.len ≤ length payload.now) }
+{
+    let mut skipped = SkippedHeaders {
+        number: first,
+        len: 0,
+    };
+    while is_skipped(skipped.number) {
+        let header = skipped_header(skipped, &payload[skipped.len..])?;
+        skipped = skipped_after(skipped, header);
+    }
+    Ok(skipped)
+}
+
+/// Whether this is the number of hop-by-hop options, of a routing header, or of destination options.
+fn is_skipped(number: u8) -> bool
+    ensures { result ≡ specs.is_skipped number }
+{
+    number == ip_number::IPV6_HEADER_HOP_BY_HOP.0
+        || number == ip_number::IPV6_ROUTE_HEADER.0
+        || number == ip_number::IPV6_DESTINATION_OPTIONS.0
+}
+
+/// The header after these headers, at the front of `rest`. Refuses a header that is cut off, and a routing header with segments left.
+fn skipped_header<'a>(
+    skipped: SkippedHeaders,
+    rest: &'a [u8],
+) -> Result<&'a [u8], PacketTranslationError>
+    requires counted { skipped.len ≤ max_len_over_ipv4 }
+    ensures refused { RefusesExactly result (specs.skipped_refusal skipped rest.now) }
+    ensures kept { IfOk result (λ header. header.now ≡ specs.skipped_header rest.now) }
+    ensures shortest { IfOk result (λ header. 8 ≤ length header.now) }
+    ensures within { IfOk result (λ header. length header.now ≤ length rest.now) }
+{
+    let len = rest.len();
+    let required_len = if len < MIN_LEN {
+        MIN_LEN
+    } else {
+        skipped_len(rest)
+    };
+    if len < required_len {
+        return Err(PacketTranslationError::ExtensionHeaderCutOff {
+            number: skipped.number,
+            required_len,
+            len,
+        });
+    }
+    if has_segments_left(skipped.number, rest) {
+        return Err(PacketTranslationError::SegmentsLeft {
+            pointer: IPV6_LEN + (skipped.len + SEGMENTS_LEFT_AT),
+        });
+    }
+    Ok(&rest[..required_len])
+}
+
+/// The length of the header at the front of `rest`, in bytes.
+fn skipped_len(rest: &[u8]) -> usize
+    requires there { 8 ≤ length rest.now }
+    ensures len { result ≡ specs.skipped_len rest.now }
+    ensures shortest { 8 ≤ result }
+{
+    (usize::from(rest[1]) + 1) * MIN_LEN
+}
+
+/// Whether the header at the front of `rest` is a routing header with segments left. `number` is its number.
+fn has_segments_left(number: u8, rest: &[u8]) -> bool
+    requires there { 8 ≤ length rest.now }
+    ensures { result ≡ extensions.has_segments_left number rest.now }
+{
+    number == ip_number::IPV6_ROUTE_HEADER.0 && rest[SEGMENTS_LEFT_AT] != 0
+}
+
+/// These headers and one more.
+fn skipped_after(skipped: SkippedHeaders, header: &[u8]) -> SkippedHeaders
+    requires counted { skipped.len ≤ max_len_over_ipv4 }
+    requires there { 8 ≤ length header.now }
+    ensures { result ≡ specs.skipped_after skipped header.now }
+{
+    SkippedHeaders {
+        number: header[0],
+        len: skipped.len + header.len(),
+    }
+}
