@@ -73,7 +73,8 @@ section =
 -- the body of an interface description block: Ethernet, a snap length of 262,144, then a name, a description and a comment in UTF-8
 interface : List ℕ
 interface =
-    1 ∷ 0 ∷ 0 ∷ 0 ∷ 0 ∷ 0 ∷ 4 ∷ 0 ∷ 2 ∷ 0 ∷ 4 ∷ 0 ∷ (codes "eth0" ++ 3 ∷ 0 ∷ 3 ∷ 0 ∷ (codes "LAN" ++ 0 ∷ 1 ∷ 0 ∷ 2 ∷ 0 ∷ 0xC3 ∷ 0xA9 ∷ 0 ∷ 0 ∷
+    1 ∷ 0 ∷ 0 ∷ 0 ∷ 0 ∷ 0 ∷ 4 ∷ 0 ∷ 2 ∷ 0 ∷ 4 ∷ 0
+    ∷ (codes "eth0" ++ 3 ∷ 0 ∷ 3 ∷ 0 ∷ (codes "LAN" ++ 0 ∷ 1 ∷ 0 ∷ 2 ∷ 0 ∷ 0xC3 ∷ 0xA9 ∷ 0 ∷ 0 ∷
     replicate 4 0))
 
 -- the texts of a file with these two blocks

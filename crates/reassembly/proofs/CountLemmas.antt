@@ -34,7 +34,8 @@ covered_first : (piece : Piece) (pieces : List Piece) (place : ℕ) → covers p
 covered_first piece pieces place there =
     ap (λ b. is_some (if b then Some (slice_index piece.bytes (place - piece.offset)) else byte_at pieces place)) there
 
-covered_later : (piece : Piece) (pieces : List Piece) (place : ℕ) → covers place piece ≡ false → is_known (piece ∷ pieces) place ≡ is_known pieces place
+covered_later : (piece : Piece) (pieces : List Piece) (place : ℕ) → covers place piece ≡ false
+    → is_known (piece ∷ pieces) place ≡ is_known pieces place
 covered_later piece pieces place other =
     ap (λ b. is_some (if b then Some (slice_index piece.bytes (place - piece.offset)) else byte_at pieces place)) other
 
@@ -100,7 +101,8 @@ count_most pieces (suc n) = omega (arith, count_most pieces n, one_at_most (is_k
 -- pieces that end at or before a place have at most as many bytes as there are before the place
 pub total_most : (buffer : List ℕ) (parts : List Part) (n : ℕ) → All (Fits buffer) parts → AreApart (pieces_in buffer parts)
     → All (EndsWithin n) parts → total_len (pieces_in buffer parts) ≤ n
-total_most buffer parts n fit apart within = omega (arith, count_total buffer parts n fit apart within, count_most (pieces_in buffer parts) n)
+total_most buffer parts n fit apart within =
+    omega (arith, count_total buffer parts n fit apart within, count_most (pieces_in buffer parts) n)
 
 known_if : (is : Bool) → 1 ≤ one_if is → is ≡ true
 known_if true most = refl
@@ -117,7 +119,8 @@ known_by_count pieces (suc n) place all below = step (nat_lt place n) refl (know
     before : count pieces n ≡ n
     before = omega (arith, all, count_most pieces n, one_at_most (is_known pieces n))
 
-    step : (is : Bool) → nat_lt place n ≡ is → (count pieces n ≡ n → place < n → is_known pieces place ≡ true) → is_known pieces place ≡ true
+    step : (is : Bool) → nat_lt place n ≡ is → (count pieces n ≡ n → place < n → is_known pieces place ≡ true)
+        → is_known pieces place ≡ true
     step true is earlier = earlier before (grind (arith, nat_tests, is))
     step false is earlier =
         let same : place ≡ n = grind (arith, nat_tests, is, below) in
@@ -149,9 +152,11 @@ byte_in_buffer buffer (part ∷ parts) place known = step (covers place (piece_i
         let below : place < part.offset + length (take part.len (drop part.offset buffer)) = grind (arith, nat_tests, is) in
         let inside : place - part.offset < part.len = omega (arith, start, below, length-take part.len (drop part.offset buffer)) in
         let there : part.offset + (place - part.offset) ≡ place = omega (arith, start) in
-        ap (λ b. if b then Some (slice_index (take part.len (drop part.offset buffer)) (place - part.offset)) else byte_at (pieces_in buffer parts) place) is
+        ap (λ b. if b then Some (slice_index (take part.len (drop part.offset buffer)) (place - part.offset))
+        else byte_at (pieces_in buffer parts) place) is
         ∙ ap Some (get_or-take part.len (drop part.offset buffer) (place - part.offset) 0 inside
         ∙ get_or-drop part.offset buffer (place - part.offset) 0 ∙ ap (slice_index buffer) there)
     step false is later =
-        ap (λ b. if b then Some (slice_index (take part.len (drop part.offset buffer)) (place - part.offset)) else byte_at (pieces_in buffer parts) place) is
+        ap (λ b. if b then Some (slice_index (take part.len (drop part.offset buffer)) (place - part.offset))
+        else byte_at (pieces_in buffer parts) place) is
         ∙ later (sym (covered_later (piece_in buffer part) (pieces_in buffer parts) place is) ∙ known)

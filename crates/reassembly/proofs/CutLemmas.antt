@@ -45,14 +45,16 @@ pub record IsPlaced (key : FragmentKey) (offset : ℕ) (payload : List ℕ) (fra
   pub start : offset ≤ fragment.offset
   pub some : 0 < length fragment.bytes
   pub end : fragment.offset + length fragment.bytes ≤ offset + length payload
-  pub more : fragment.more_fragments ≡ true → (fragment.offset + length fragment.bytes < offset + length payload) × (length fragment.bytes % 8 ≡ 0)
+  pub more : fragment.more_fragments ≡ true
+      → (fragment.offset + length fragment.bytes < offset + length payload) × (length fragment.bytes % 8 ≡ 0)
   pub last : fragment.more_fragments ≡ false → fragment.offset + length fragment.bytes ≡ offset + length payload
 
 true_is_false : {b : Bool} → b ≡ true → b ≡ false → ⊥
 true_is_false is other = absurd (cc (is, other))
 
 -- a cut consists of at least one fragment
-cut_some : (key : FragmentKey) (offset : ℕ) (payload : List ℕ) (fragments : List FragmentValue) → IsCutFrom key offset payload fragments → 0 < length payload
+cut_some : (key : FragmentKey) (offset : ℕ) (payload : List ℕ) (fragments : List FragmentValue) → IsCutFrom key offset payload fragments
+    → 0 < length payload
 cut_some key offset payload [] cut = absurd cut
 cut_some key offset payload (last ∷ []) cut = omega (arith, ap length cut.1, cut.0.some)
 cut_some key offset payload (first ∷ (next ∷ others)) cut =
@@ -180,7 +182,8 @@ covered key offset payload (last ∷ []) place cut start end = record {
   end = omega (arith, cut.0.offset_is, end, ap length cut.1);
 }
 covered key offset payload (first ∷ (next ∷ others)) place cut start end =
-    step (nat_lt place (offset + length first.bytes)) refl (λ behind below. covered key (offset + length first.bytes) cut.2.0 (next ∷ others) place cut.2.2 behind below)
+    step (nat_lt place (offset + length first.bytes)) refl
+    (λ behind below. covered key (offset + length first.bytes) cut.2.0 (next ∷ others) place cut.2.2 behind below)
   where
     len : length payload ≡ length first.bytes + length cut.2.0
     len = ap length cut.2.1 ∙ length-append first.bytes cut.2.0
@@ -289,7 +292,8 @@ unknown_none true e len pieces none last = refl
 unknown_none false e len pieces none last =
     ap (λ b. refused_if b BehindEnd) (ap (λ n. reaches n pieces) (last refl) ∙ none)
 
-end_none : (key : FragmentKey) (payload : List ℕ) (fragment : FragmentValue) (end : Option ℕ) (pieces : List Piece) → IsPlaced key 0 payload fragment
+end_none : (key : FragmentKey) (payload : List ℕ) (fragment : FragmentValue) (end : Option ℕ) (pieces : List Piece)
+    → IsPlaced key 0 payload fragment
     → EndsAt (length payload) end pieces → end_refusal end (reaches (end_of_fragment fragment) pieces) fragment ≡ None
 end_none key payload fragment None pieces at ends =
     unknown_none fragment.more_fragments (end_of_fragment fragment) (length payload) pieces ends (λ last. omega (arith, at.last last))
@@ -298,7 +302,8 @@ end_none key payload fragment (Some end) pieces at ends =
     (λ more. omega (arith, (at.more more).0)) (λ last. omega (arith, at.last last))
 
 conflict_none : (key : FragmentKey) (payload : List ℕ) (fragments : List FragmentValue) (fragment : FragmentValue) (pieces : List Piece)
-    → IsCut key payload fragments → IsOneOf fragments fragment → ArePieces fragments pieces → list_any (conflicts (piece_of fragment)) pieces ≡ false
+    → IsCut key payload fragments → IsOneOf fragments fragment → ArePieces fragments pieces
+    → list_any (conflicts (piece_of fragment)) pieces ≡ false
 conflict_none key payload fragments fragment [] cut is are = refl
 conflict_none key payload fragments fragment (piece ∷ pieces) cut is are =
     ap (λ b. b || list_any (conflicts (piece_of fragment)) pieces)
@@ -320,7 +325,8 @@ room_left fragments fragment pieces false is among few most =
     above 128 (length pieces) (omega (arith, one_missing fragments fragment pieces is among, few, most))
 
 accepted_one : (key : FragmentKey) (payload : List ℕ) (fragments : List FragmentValue) (fragment : FragmentValue) (state : State)
-    → IsCut key payload fragments → length payload ≤ 65535 → length fragments ≤ 128 → IsOneOf fragments fragment → Agrees key payload fragments state
+    → IsCut key payload fragments → length payload ≤ 65535 → length fragments ≤ 128 → IsOneOf fragments fragment
+    → Agrees key payload fragments state
     → refusal state fragment ≡ None
 accepted_one key payload fragments fragment state cut short most is agrees =
     let at : IsPlaced key 0 payload fragment = placed key 0 payload fragments fragment cut is in
@@ -340,7 +346,8 @@ accepted_one key payload fragments fragment state cut short most is agrees =
 
 -- ---- the state still agrees after it
 
-are_push : (fragments : List FragmentValue) (fragment : FragmentValue) (pieces : List Piece) → IsOneOf fragments fragment → ArePieces fragments pieces
+are_push : (fragments : List FragmentValue) (fragment : FragmentValue) (pieces : List Piece) → IsOneOf fragments fragment
+    → ArePieces fragments pieces
     → ArePieces fragments (pieces ++ piece_of fragment ∷ [])
 are_push fragments fragment [] is are = ((fragment, is, refl), tt)
 are_push fragments fragment (piece ∷ pieces) is are = (are.0, are_push fragments fragment pieces is are.1)
@@ -350,7 +357,8 @@ unless_less true b = omega arith
 unless_less false true = omega arith
 unless_less false false = omega arith
 
-missing_less : (fragments : List FragmentValue) (piece : Piece) (pieces : List Piece) → missing fragments (pieces ++ piece ∷ []) ≤ missing fragments pieces
+missing_less : (fragments : List FragmentValue) (piece : Piece) (pieces : List Piece)
+    → missing fragments (pieces ++ piece ∷ []) ≤ missing fragments pieces
 missing_less [] piece pieces = omega arith
 missing_less (first ∷ others) piece pieces =
     omega (
@@ -362,7 +370,8 @@ missing_less (first ∷ others) piece pieces =
 
 among_push : (piece : Piece) (pieces : List Piece) → is_among (pieces ++ piece ∷ []) piece ≡ true
 among_push piece pieces =
-    any_append (is_same piece) pieces (piece ∷ []) ∙ ap (λ b. is_among pieces piece || (b || false)) (same_piece piece) ∙ last (is_among pieces piece)
+    any_append (is_same piece) pieces (piece ∷ []) ∙ ap (λ b. is_among pieces piece || (b || false)) (same_piece piece)
+    ∙ last (is_among pieces piece)
   where
     last : (b : Bool) → (b || true) ≡ true
     last true = refl
@@ -400,7 +409,8 @@ pieces_agree fragments fragment pieces false is among are few = (
 )
 
 -- the end still holds after another piece
-reach_push : (len : ℕ) (pieces : List Piece) (piece : Piece) → reaches len pieces ≡ false → end_of piece < len → reaches len (pieces ++ piece ∷ []) ≡ false
+reach_push : (len : ℕ) (pieces : List Piece) (piece : Piece) → reaches len pieces ≡ false → end_of piece < len
+    → reaches len (pieces ++ piece ∷ []) ≡ false
 reach_push len pieces piece none before =
     any_append (λ piece. nat_le len (end_of piece)) pieces (piece ∷ [])
     ∙ ap (λ b. b || (nat_le len (end_of piece) || false)) none ∙ ap (λ b. b || false) (above len (end_of piece) before)
@@ -408,18 +418,21 @@ reach_push len pieces piece none before =
 end_agrees : (payload : List ℕ) (fragment : FragmentValue) (pieces : List Piece) (end : Option ℕ) (among more : Bool)
     → (more ≡ true → end_of_fragment fragment < length payload) → (more ≡ false → end_of_fragment fragment ≡ length payload)
     → EndsAt (length payload) end pieces
-    → EndsAt (length payload) (if more then end else Some (end_of_fragment fragment)) (if among then pieces else pieces ++ piece_of fragment ∷ [])
+    → EndsAt (length payload) (if more then end else Some (end_of_fragment fragment))
+    (if among then pieces else pieces ++ piece_of fragment ∷ [])
 end_agrees payload fragment pieces end among false before last ends = last refl
 end_agrees payload fragment pieces (Some end) among true before last ends = ends
 end_agrees payload fragment pieces None true true before last ends = ends
-end_agrees payload fragment pieces None false true before last ends = reach_push (length payload) pieces (piece_of fragment) ends (before refl)
+end_agrees payload fragment pieces None false true before last ends =
+    reach_push (length payload) pieces (piece_of fragment) ends (before refl)
 
 agrees_after : (key : FragmentKey) (payload : List ℕ) (fragments : List FragmentValue) (fragment : FragmentValue) (state : State)
     → IsCut key payload fragments → IsOneOf fragments fragment → Agrees key payload fragments state
     → Agrees key payload fragments (with_fragment state fragment)
 agrees_after key payload fragments fragment state cut is agrees =
     let at : IsPlaced key 0 payload fragment = placed key 0 payload fragments fragment cut is in
-    let pieces = pieces_agree fragments fragment state.pieces (is_among state.pieces (piece_of fragment)) is refl agrees.pieces agrees.few in
+    let pieces = pieces_agree fragments fragment state.pieces
+    (is_among state.pieces (piece_of fragment)) is refl agrees.pieces agrees.few in
     record {
       key_is = agrees.key_is;
       room = agrees.room;
@@ -432,7 +445,8 @@ agrees_after key payload fragments fragment state cut is agrees =
 -- ---- all arrivals
 
 accepted_from : (key : FragmentKey) (payload : List ℕ) (fragments arrivals : List FragmentValue) (state : State)
-    → IsCut key payload fragments → length payload ≤ 65535 → length fragments ≤ 128 → AreFrom fragments arrivals → Agrees key payload fragments state
+    → IsCut key payload fragments → length payload ≤ 65535 → length fragments ≤ 128 → AreFrom fragments arrivals
+    → Agrees key payload fragments state
     → AreAccepted state arrivals
 accepted_from key payload fragments [] state cut short most from agrees = tt
 accepted_from key payload fragments (first ∷ others) state cut short most from agrees = (
@@ -442,10 +456,12 @@ accepted_from key payload fragments (first ∷ others) state cut short most from
 )
 
 agrees_from : (key : FragmentKey) (payload : List ℕ) (fragments arrivals : List FragmentValue) (state : State)
-    → IsCut key payload fragments → AreFrom fragments arrivals → Agrees key payload fragments state → Agrees key payload fragments (after state arrivals)
+    → IsCut key payload fragments → AreFrom fragments arrivals → Agrees key payload fragments state
+    → Agrees key payload fragments (after state arrivals)
 agrees_from key payload fragments [] state cut from agrees = agrees
 agrees_from key payload fragments (first ∷ others) state cut from agrees =
-    agrees_from key payload fragments others (with_fragment state first) cut from.1 (agrees_after key payload fragments first state cut from.0 agrees)
+    agrees_from key payload fragments others (with_fragment state first) cut from.1
+    (agrees_after key payload fragments first state cut from.0 agrees)
 
 pub accepted : (key : FragmentKey) (room : ℕ) (payload : List ℕ) (fragments arrivals : List FragmentValue)
     → IsCut key payload fragments → length payload ≤ 65535 → length payload ≤ room → length fragments ≤ 128 → AreFrom fragments arrivals
@@ -465,10 +481,12 @@ pub among_new : (piece : Piece) (pieces : List Piece) (among : Bool) → is_amon
 among_new piece pieces true is = is
 among_new piece pieces false is = among_push piece pieces
 
-among_after : (x : Piece) (arrivals : List FragmentValue) (state : State) → is_among state.pieces x ≡ true → is_among (after state arrivals).pieces x ≡ true
+among_after : (x : Piece) (arrivals : List FragmentValue) (state : State) → is_among state.pieces x ≡ true
+    → is_among (after state arrivals).pieces x ≡ true
 among_after x [] state there = there
 among_after x (first ∷ others) state there =
-    among_after x others (with_fragment state first) (among_more x (piece_of first) state.pieces (is_among state.pieces (piece_of first)) there)
+    among_after x others (with_fragment state first)
+    (among_more x (piece_of first) state.pieces (is_among state.pieces (piece_of first)) there)
 
 pub arrived : (fragment : FragmentValue) (arrivals : List FragmentValue) (state : State) → IsOneOf arrivals fragment
     → is_among (after state arrivals).pieces (piece_of fragment) ≡ true
@@ -508,7 +526,8 @@ piece_is a b is =
     ∙ ap (λ bytes. record { offset = b.offset; bytes = bytes }) (bytes_are a.bytes b.bytes parts.1)
 
 -- a test that holds for a piece holds for one of the pieces that are equal to it
-pub any_among : (test : Piece → Bool) (piece : Piece) (pieces : List Piece) → is_among pieces piece ≡ true → test piece ≡ true → list_any test pieces ≡ true
+pub any_among : (test : Piece → Bool) (piece : Piece) (pieces : List Piece) → is_among pieces piece ≡ true → test piece ≡ true
+    → list_any test pieces ≡ true
 any_among test piece [] among true_of = absurd (cc among)
 any_among test piece (first ∷ pieces) among true_of =
     step (is_same piece first) refl among (λ among. any_among test piece pieces among true_of)
@@ -525,7 +544,8 @@ any_among test piece (first ∷ pieces) among true_of =
 minus_zero : (n : ℕ) → n - 0 ≡ n
 minus_zero n = omega arith
 
-byte_right : (key : FragmentKey) (payload : List ℕ) (fragments : List FragmentValue) (pieces : List Piece) (place : ℕ) → IsCut key payload fragments
+byte_right : (key : FragmentKey) (payload : List ℕ) (fragments : List FragmentValue) (pieces : List Piece) (place : ℕ)
+    → IsCut key payload fragments
     → ArePieces fragments pieces → list_any (covers place) pieces ≡ true → byte_at pieces place ≡ Some (slice_index payload place)
 byte_right key payload fragments [] place cut are there = absurd (cc there)
 byte_right key payload fragments (piece ∷ pieces) place cut are there =
@@ -542,7 +562,8 @@ byte_right key payload fragments (piece ∷ pieces) place cut are there =
         let end : place < end_of_fragment fragment = grind (arith, nat_tests, covering) in
         ap (λ b. if b then Some (slice_index piece.bytes (place - piece.offset)) else byte_at pieces place) is
         ∙ ap (λ p. Some (slice_index p.bytes (place - p.offset))) (sym same)
-        ∙ ap (λ n. Some n) (byte_of key 0 payload fragments fragment place cut are.0.1 start end ∙ ap (slice_index payload) (minus_zero place))
+        ∙ ap (λ n. Some n) (byte_of key 0 payload fragments fragment place cut are.0.1 start end
+        ∙ ap (slice_index payload) (minus_zero place))
     step false is there others =
         ap (λ b. if b then Some (slice_index piece.bytes (place - piece.offset)) else byte_at pieces place) is ∙ others there
 
@@ -558,7 +579,8 @@ given_back key room payload fragments arrivals cut fits from all =
     let agrees : Agrees key payload fragments state =
     agrees_from key payload fragments arrivals (empty key room) cut from (agrees_empty key room payload fragments fits) in
     let some : 0 < length payload = cut_some key 0 payload fragments cut in
-    let last : IsCovered fragments (length payload - 1) = covered key 0 payload fragments (length payload - 1) cut (omega arith) (omega (arith, some)) in
+    let last : IsCovered fragments (length payload - 1) =
+    covered key 0 payload fragments (length payload - 1) cut (omega arith) (omega (arith, some)) in
     let there : is_among state.pieces (piece_of last.fragment) ≡ true =
     arrived last.fragment arrivals (empty key room) (one_from arrivals fragments last.fragment all last.is) in
     let reached : reaches (length payload) state.pieces ≡ true =
@@ -576,5 +598,6 @@ given_back key room payload fragments arrivals cut fits from all =
     at_least : (a b : ℕ) → a ≤ b → nat_le a b ≡ true
     at_least a b is = grind (arith, nat_tests)
 
-    covering : (place : ℕ) (fragment : FragmentValue) → fragment.offset ≤ place → place < end_of_fragment fragment → covers place (piece_of fragment) ≡ true
+    covering : (place : ℕ) (fragment : FragmentValue) → fragment.offset ≤ place → place < end_of_fragment fragment
+        → covers place (piece_of fragment) ≡ true
     covering place fragment start end = grind (arith, nat_tests, start, end)

@@ -15,7 +15,15 @@ pub record IsReached (packet : List ℕ) (number number_at place : ℕ) : Type 0
   pub same : fragment_header_in packet ≡ fragment_header_from more number number_at place packet
 
 pub reached_first : (packet : List ℕ) → 40 ≤ length packet → IsReached packet (slice_index packet 6) 6 40
-reached_first packet long = record { more = suc (length packet); within = long; before = omega arith; shortest = omega arith; room = omega arith; same = refl }
+reached_first packet long = record {
+  more = suc (length packet);
+  within = long;
+  before = omega arith;
+  shortest = omega arith;
+  room =
+      omega arith;
+  same = refl;
+}
 
 -- an extension header begins at this place
 abbrev begins_at : List ℕ → ℕ → ℕ → Bool
@@ -46,7 +54,8 @@ cut_off : (more : ℕ) (packet : List ℕ) (number number_at place : ℕ) → be
     → fragment_header_from (suc more) number number_at place packet ≡ None
 unfolding fragment_header_from
 cut_off more packet number number_at place begins other cut =
-    ap (λ b. if not b then None else if number == fragment then Some (record { number_at = number_at; place = place }) else behind more packet number place) begins
+    ap (λ b. if not b then None else if number == fragment then Some (record { number_at = number_at; place = place })
+    else behind more packet number place) begins
     ∙ ap (λ b. if b then Some (record { number_at = number_at; place = place }) else behind more packet number place) other
     ∙ ap (λ b. if b then None else after more packet number place) cut
 
@@ -56,23 +65,28 @@ next : (more : ℕ) (packet : List ℕ) (number number_at place : ℕ) → begin
     ≡ fragment_header_from more (next_number (drop place packet)) place (place + extension_len number (drop place packet)) packet
 unfolding fragment_header_from
 next more packet number number_at place begins other whole =
-    ap (λ b. if not b then None else if number == fragment then Some (record { number_at = number_at; place = place }) else behind more packet number place) begins
+    ap (λ b. if not b then None else if number == fragment then Some (record { number_at = number_at; place = place })
+    else behind more packet number place) begins
     ∙ ap (λ b. if b then Some (record { number_at = number_at; place = place }) else behind more packet number place) other
     ∙ ap (λ b. if b then None else after more packet number place) whole
 
-pub ended_at : (packet : List ℕ) (number number_at place : ℕ) → IsReached packet number number_at place → begins_at packet number place ≡ false
+pub ended_at : (packet : List ℕ) (number number_at place : ℕ) → IsReached packet number number_at place
+    → begins_at packet number place ≡ false
     → fragment_header_in packet ≡ None
 ended_at packet number number_at place reached is = reached.same ∙ ended reached.more packet number number_at place is
 
 found_in : (more : ℕ) (packet : List ℕ) (number number_at place : ℕ) → place ≤ length packet → length packet < place + more
     → fragment_header_in packet ≡ fragment_header_from more number number_at place packet
-    → begins_at packet number place ≡ true → (number == fragment) ≡ true → fragment_header_in packet ≡ Some (record { number_at = number_at; place = place })
+    → begins_at packet number place ≡ true → (number == fragment) ≡ true
+    → fragment_header_in packet ≡ Some (record { number_at = number_at; place = place })
 found_in zero packet number number_at place within room same begins is = absurd (omega (arith, within, room))
 found_in (suc more) packet number number_at place within room same begins is = same ∙ found more packet number number_at place begins is
 
 pub found_at : (packet : List ℕ) (number number_at place : ℕ) → IsReached packet number number_at place
-    → begins_at packet number place ≡ true → (number == fragment) ≡ true → fragment_header_in packet ≡ Some (record { number_at = number_at; place = place })
-found_at packet number number_at place reached begins is = found_in reached.more packet number number_at place reached.within reached.room reached.same begins is
+    → begins_at packet number place ≡ true → (number == fragment) ≡ true
+    → fragment_header_in packet ≡ Some (record { number_at = number_at; place = place })
+found_at packet number number_at place reached begins is =
+    found_in reached.more packet number number_at place reached.within reached.room reached.same begins is
 
 cut_off_in : (more : ℕ) (packet : List ℕ) (number number_at place : ℕ) → place ≤ length packet → length packet < place + more
     → fragment_header_in packet ≡ fragment_header_from more number number_at place packet
@@ -80,7 +94,8 @@ cut_off_in : (more : ℕ) (packet : List ℕ) (number number_at place : ℕ) →
     → nat_lt (length packet) (place + extension_len number (drop place packet)) ≡ true
     → fragment_header_in packet ≡ None
 cut_off_in zero packet number number_at place within room same begins other cut = absurd (omega (arith, within, room))
-cut_off_in (suc more) packet number number_at place within room same begins other cut = same ∙ cut_off more packet number number_at place begins other cut
+cut_off_in (suc more) packet number number_at place within room same begins other cut =
+    same ∙ cut_off more packet number number_at place begins other cut
 
 pub cut_off_at : (packet : List ℕ) (number number_at place : ℕ) → IsReached packet number number_at place
     → begins_at packet number place ≡ true → (number == fragment) ≡ false
@@ -111,7 +126,8 @@ pub next_at : (packet : List ℕ) (number number_at place : ℕ) → IsReached p
     → place + extension_len number (drop place packet) ≤ length packet → 8 ≤ extension_len number (drop place packet)
     → IsReached packet (next_number (drop place packet)) place (place + extension_len number (drop place packet))
 next_at packet number number_at place reached begins other whole there shortest =
-    next_in reached.more packet number number_at place reached.within reached.room reached.same begins other whole there shortest reached.shortest
+    next_in reached.more packet number number_at place reached.within reached.room reached.same begins other whole there shortest
+    reached.shortest
 
 -- ---- the tests of the loop
 
@@ -120,7 +136,8 @@ pub begins_by : (packet : List ℕ) (number place : ℕ) → is_extension number
 begins_by packet number place is long = ap (λ b. b && not (nat_lt (length packet) (place + 8))) is ∙ grind (arith, nat_tests, long)
 
 pub too_short : (packet : List ℕ) (number place : ℕ) → length packet < place + 8 → begins_at packet number place ≡ false
-too_short packet number place short = ap (λ b. is_extension number && not b) (below (length packet) (place + 8) short) ∙ never (is_extension number)
+too_short packet number place short =
+    ap (λ b. is_extension number && not b) (below (length packet) (place + 8) short) ∙ never (is_extension number)
   where
     below : (a b : ℕ) → a < b → nat_lt a b ≡ true
     below a b is = grind (arith, nat_tests)
@@ -139,7 +156,8 @@ is_not_below : (a b : ℕ) → b ≤ a → nat_lt a b ≡ false
 is_not_below a b is = grind (arith, nat_tests)
 
 -- an extension header with these bytes from its place on is cut off
-pub cut_off_by : (packet rest : List ℕ) (number number_at place len : ℕ) → rest ≡ drop place packet → IsReached packet number number_at place
+pub cut_off_by : (packet rest : List ℕ) (number number_at place len : ℕ) → rest ≡ drop place packet
+    → IsReached packet number number_at place
     → begins_at packet number place ≡ true → (number == fragment) ≡ false → len ≡ extension_len number rest → length rest < len
     → fragment_header_in packet ≡ None
 cut_off_by packet rest number number_at place len rest_is reached begins other len_is short =

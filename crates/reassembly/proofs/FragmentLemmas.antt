@@ -52,14 +52,16 @@ not_empty packet none =
 pub there : (packet : List ℕ) → refusal packet ≡ None → counted_len false packet ≤ length packet
 there packet none =
     let rest = next_none (strict_header_refusal packet) _ none in
-    ltb-false (length packet) (counted_len false packet) (none_if (is_cut_off false packet) _ (first_none (refused_if (is_cut_off false packet) _) _ rest))
+    ltb-false (length packet) (counted_len false packet)
+    (none_if (is_cut_off false packet) _ (first_none (refused_if (is_cut_off false packet) _) _ rest))
 
 total_long : (total header_len : ℕ) → (missing : Bool) → (total == 0) ≡ missing
     → (if is_none (if missing then None else Some total) then Some (TotalLength 0 header_len) else None) ≡ None
     → refused_if (not missing && nat_lt total header_len) (TotalLength total header_len) ≡ None
     → header_len ≤ total
 total_long total header_len true is missing none = absurd (some_is_none (TotalLength 0 header_len) missing)
-total_long total header_len false is missing none = ltb-false total header_len (none_if (nat_lt total header_len) (TotalLength total header_len) none)
+total_long total header_len false is missing none =
+    ltb-false total header_len (none_if (nat_lt total header_len) (TotalLength total header_len) none)
 
 -- the version of the counted bytes is the version of the packet
 same_version : (packet : List ℕ) (len : ℕ) → 0 < len → version (take len packet) ≡ version packet
@@ -82,18 +84,25 @@ begins_with_ipv4 packet none four =
     let rules : ipv4_refusal packet ≡ None = parts.1 four in
     let header : ipv4_header_refusal packet ≡ None = first_none (ipv4_header_refusal packet) _ rules in
     let five : 20 ≤ ipv4_header_len packet =
-    ltb-false (ipv4_header_len packet) 20 (none_if (nat_lt (ipv4_header_len packet) 20) _ (first_none _ _ (next_none (refused_if (nat_lt (length packet) 20) _) _ header))) in
+    ltb-false (ipv4_header_len packet) 20 (none_if (nat_lt (ipv4_header_len packet) 20) _
+    (first_none _ _ (next_none (refused_if (nat_lt (length packet) 20) _) _ header))) in
     let stated : (if lacks_len packet then missing_len_refusal (first_headers packet) else None) ≡ None =
-    first_none (if lacks_len packet then missing_len_refusal (first_headers packet) else None) [] (next_none (header_refusal packet) _ (strict packet none)) in
-    let by_four : (if is_none (if total_len packet == 0 then None else Some (total_len packet)) then Some (TotalLength 0 (ipv4_header_len packet)) else None) ≡ None =
-    sym (ap (λ v. if is_none (if v then (if total_len packet == 0 then None else Some (total_len packet)) else ipv6_stated_len (jumbo_len packet) (payload_len packet) (next_header packet))
-    then missing_len_refusal (if v then ipv4_headers (ipv4_header_len packet) (ipv4_header packet) else ipv6_headers (is_jumbogram packet) (ipv6_header packet)) else None) four) ∙ stated in
+    first_none (if lacks_len packet then missing_len_refusal (first_headers packet) else None) []
+    (next_none (header_refusal packet) _ (strict packet none)) in
+    let by_four : (if is_none (if total_len packet == 0 then None else Some (total_len packet))
+    then Some (TotalLength 0 (ipv4_header_len packet)) else None) ≡ None =
+    sym (ap (λ v. if is_none (if v then (if total_len packet == 0 then None else Some (total_len packet))
+    else ipv6_stated_len (jumbo_len packet) (payload_len packet) (next_header packet))
+    then missing_len_refusal (if v then ipv4_headers (ipv4_header_len packet) (ipv4_header packet)
+    else ipv6_headers (is_jumbogram packet) (ipv6_header packet)) else None) four) ∙ stated in
     let long : ipv4_header_len packet ≤ total_len packet =
     total_long (total_len packet) (ipv4_header_len packet) (total_len packet == 0) refl by_four
-    (first_none (refused_if (not (total_len packet == 0) && nat_lt (total_len packet) (ipv4_header_len packet)) _) [] (next_none (ipv4_header_refusal packet) _ rules)) in
+    (first_none (refused_if (not (total_len packet == 0) && nat_lt (total_len packet) (ipv4_header_len packet)) _) []
+    (next_none (ipv4_header_refusal packet) _ rules)) in
     let len_is : counted_len false packet ≡ total_len packet =
     ap (λ v. if v then total_len packet else 40 + unwrap_or (jumbo_len packet) (payload_len packet)) four in
-    let len : length (counted false packet) ≡ counted_len false packet = length-take-le (counted_len false packet) packet (there packet none) in
+    let len : length (counted false packet) ≡ counted_len false packet =
+    length-take-le (counted_len false packet) packet (there packet none) in
     let some : 0 < counted_len false packet = omega (arith, five, long, len_is) in
     record {
       shortest = omega (arith, len, len_is, five, long);
@@ -110,7 +119,8 @@ begins_with_ipv6 packet none other =
     let six : (version packet == 6) ≡ true = (parts.2 other).0 in
     let len_is : counted_len false packet ≡ 40 + unwrap_or (jumbo_len packet) (payload_len packet) =
     ap (λ v. if v then total_len packet else 40 + unwrap_or (jumbo_len packet) (payload_len packet)) other in
-    let len : length (counted false packet) ≡ counted_len false packet = length-take-le (counted_len false packet) packet (there packet none) in
+    let len : length (counted false packet) ≡ counted_len false packet =
+    length-take-le (counted_len false packet) packet (there packet none) in
     record {
       whole = omega (arith, len, len_is);
       is_version_6 = same_version packet (counted_len false packet) (omega (arith, len_is)) ∙ is_number (version packet) 6 six;
@@ -132,7 +142,8 @@ pub refused_ipv6 : (packet payload : List ℕ) (protocol : ℕ) (headers : Heade
     → headers_of false packet ≡ Ok headers → protocol ≡ headers.protocol.0 → payload ≡ drop headers.len (counted false packet)
     → fragment_refusal packet ≡ first_refusal (fragment_of packet) protocol payload
 refused_ipv6 packet payload protocol headers none other read protocol_is payload_is =
-    ap (λ refused. first_of (option_map Ip refused ∷ (if version packet == 4 then None else transport_refusal packet (headers_of false packet)) ∷ [])) none
+    ap (λ refused. first_of (option_map Ip refused
+    ∷ (if version packet == 4 then None else transport_refusal packet (headers_of false packet)) ∷ [])) none
     ∙ only (if version packet == 4 then None else transport_refusal packet (headers_of false packet))
     ∙ ap (λ b. if b then None else transport_refusal packet (headers_of false packet)) other
     ∙ ap (transport_refusal packet) read

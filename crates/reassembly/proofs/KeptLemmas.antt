@@ -50,7 +50,8 @@ pub accepted_by : (state : State) (fragment : FragmentValue) → refusal state f
     × (end_refusal state.end (reaches (end_of_fragment fragment) state.pieces) fragment ≡ None)
     × (piece_refusal state.pieces (piece_of fragment) ≡ None)
 accepted_by state fragment none =
-    three_none (own_refusal state.key state.room fragment) (end_refusal state.end (reaches (end_of_fragment fragment) state.pieces) fragment)
+    three_none (own_refusal state.key state.room fragment)
+    (end_refusal state.end (reaches (end_of_fragment fragment) state.pieces) fragment)
     (piece_refusal state.pieces (piece_of fragment)) none
 
 -- an accepted fragment ends within the longest payload and within the buffer
@@ -107,7 +108,8 @@ unknown_end parts false e len none is =
 pub ends_agree : (parts : List Part) (end : Option ℕ) (fragment : FragmentValue) → ((len : ℕ) → end ≡ Some len → All (EndsWithin len) parts)
     → end_refusal end (part_reaches (end_of_fragment fragment) parts) fragment ≡ None
     → (len : ℕ) → end_with end fragment ≡ Some len → All (EndsWithin len) parts × (end_of_fragment fragment ≤ len)
-ends_agree parts (Some end) fragment within none len is = known_end parts fragment.more_fragments (end_of_fragment fragment) end len (within end refl) none is
+ends_agree parts (Some end) fragment within none len is =
+    known_end parts fragment.more_fragments (end_of_fragment fragment) end len (within end refl) none is
 ends_agree parts None fragment within none len is = unknown_end parts fragment.more_fragments (end_of_fragment fragment) len none is
 
 pub end_by_parts : (buffer : List ℕ) (parts : List Part) (end : Option ℕ) (fragment : FragmentValue) → All (Fits buffer) parts
@@ -152,20 +154,23 @@ kept_added buffer after parts new received end fragment kept new_is pieces_are f
     record {
       fit = fit;
       apart = subst AreApart (sym pieces_are) (apart_push (pieces_in buffer parts) (piece_of fragment) kept.apart apart);
-      sum = ap (λ n. n + length fragment.bytes) kept.sum ∙ sym (total_push (pieces_in buffer parts) (piece_of fragment)) ∙ ap total_len (sym pieces_are);
+      sum = ap (λ n. n + length fragment.bytes) kept.sum ∙ sym (total_push (pieces_in buffer parts) (piece_of fragment))
+          ∙ ap total_len (sym pieces_are);
       short = subst (All (EndsWithin 65535)) (sym new_is) (All-push (EndsWithin 65535) parts part kept.short short);
       ended = λ len is.
           let agree = ends_agree parts end fragment kept.ended none len is in
           subst (All (EndsWithin len)) (sym new_is) (All-push (EndsWithin len) parts part agree.0 agree.1);
     }
 
-pub received_most : (buffer : List ℕ) (parts : List Part) (received : ℕ) (end : Option ℕ) → AreKept buffer parts received end → received ≤ 65535
+pub received_most : (buffer : List ℕ) (parts : List Part) (received : ℕ) (end : Option ℕ) → AreKept buffer parts received end
+    → received ≤ 65535
 received_most buffer parts received end kept =
     omega (arith, kept.sum, total_most buffer parts 65535 kept.fit kept.apart kept.short)
 
 -- ---- complete
 
-pub complete_by : (buffer : List ℕ) (parts : List Part) (received : ℕ) (end : Option ℕ) (key : FragmentKey) (room : ℕ) → AreKept buffer parts received end
+pub complete_by : (buffer : List ℕ) (parts : List Part) (received : ℕ) (end : Option ℕ) (key : FragmentKey) (room : ℕ)
+    → AreKept buffer parts received end
     → end ≡ Some received → IsComplete (record { key = key; room = room; pieces = pieces_in buffer parts; end = end })
 complete_by buffer parts received end key room kept is = (
   received,
@@ -174,12 +179,14 @@ complete_by buffer parts received end key room kept is = (
       (count_total buffer parts received kept.fit kept.apart (kept.ended received is) ∙ sym kept.sum) below,
 )
 
-pub by_complete : (buffer : List ℕ) (parts : List Part) (received : ℕ) (end : Option ℕ) (key : FragmentKey) (room : ℕ) → AreKept buffer parts received end
+pub by_complete : (buffer : List ℕ) (parts : List Part) (received : ℕ) (end : Option ℕ) (key : FragmentKey) (room : ℕ)
+    → AreKept buffer parts received end
     → IsComplete (record { key = key; room = room; pieces = pieces_in buffer parts; end = end }) → end ≡ Some received
 by_complete buffer parts received end key room kept complete =
     let len : ℕ = complete.0 in
     let same : len ≡ received =
-    sym (count_by_known (pieces_in buffer parts) len complete.2) ∙ count_total buffer parts len kept.fit kept.apart (kept.ended len complete.1) ∙ sym kept.sum in
+    sym (count_by_known (pieces_in buffer parts) len complete.2)
+    ∙ count_total buffer parts len kept.fit kept.apart (kept.ended len complete.1) ∙ sym kept.sum in
     complete.1 ∙ ap (λ n. Some n) same
 
 -- ---- the errors in their order
@@ -211,11 +218,13 @@ new_piece buffer parts piece none new =
 
 -- ---- the payload
 
-pub payload_fits : (buffer : List ℕ) (parts : List Part) (received : ℕ) (end : Option ℕ) → AreKept buffer parts received end → received ≤ length buffer
+pub payload_fits : (buffer : List ℕ) (parts : List Part) (received : ℕ) (end : Option ℕ) → AreKept buffer parts received end
+    → received ≤ length buffer
 payload_fits buffer parts received end kept =
     omega (arith, kept.sum, total_most buffer parts (length buffer) kept.fit kept.apart kept.fit)
 
-pub payload_is : (buffer : List ℕ) (parts : List Part) (received : ℕ) (end : Option ℕ) (key : FragmentKey) (room : ℕ) → AreKept buffer parts received end
+pub payload_is : (buffer : List ℕ) (parts : List Part) (received : ℕ) (end : Option ℕ) (key : FragmentKey) (room : ℕ)
+    → AreKept buffer parts received end
     → end ≡ Some received → IsPayload (record { key = key; room = room; pieces = pieces_in buffer parts; end = end }) (take received buffer)
 unfolding complete_by
 payload_is buffer parts received end key room kept is =
@@ -227,7 +236,8 @@ payload_is buffer parts received end key room kept is =
           byte_in_buffer buffer parts place (complete.2 place inside) ∙ ap (λ n. Some n) (sym (get_or-take received buffer place 0 inside)),
     )
 
-pub not_complete : (buffer : List ℕ) (parts : List Part) (received len : ℕ) (end : Option ℕ) (key : FragmentKey) (room : ℕ) → AreKept buffer parts received end
+pub not_complete : (buffer : List ℕ) (parts : List Part) (received len : ℕ) (end : Option ℕ) (key : FragmentKey) (room : ℕ)
+    → AreKept buffer parts received end
     → end ≡ Some len → IsComplete (record { key = key; room = room; pieces = pieces_in buffer parts; end = end }) → received ≡ len
 not_complete buffer parts received len end key room kept is complete =
     same_some received len (sym (by_complete buffer parts received end key room kept complete) ∙ is)
@@ -248,11 +258,14 @@ pub piece_rules : (buffer : List ℕ) (parts : List Part) (piece : Piece) (confl
     → piece_refusal (pieces_in buffer parts) piece
     ≡ first_of (refused_if conflict Overlap ∷ refused_if (not among && many) TooManyFragments ∷ [])
 piece_rules buffer parts piece conflict among many conflict_is among_is many_is =
-    ap (λ b. first_of (refused_if b Overlap ∷ refused_if (not (is_among (pieces_in buffer parts) piece) && nat_le 128 (length (pieces_in buffer parts))) TooManyFragments ∷ []))
+    ap (λ b. first_of (refused_if b Overlap ∷ refused_if (not (is_among (pieces_in buffer parts) piece)
+    && nat_le 128 (length (pieces_in buffer parts))) TooManyFragments ∷ []))
     (conflict_by_parts buffer parts piece ∙ conflict_is)
-    ∙ ap (λ b. first_of (refused_if conflict Overlap ∷ refused_if (not b && nat_le 128 (length (pieces_in buffer parts))) TooManyFragments ∷ []))
+    ∙ ap (λ b. first_of (refused_if conflict Overlap ∷ refused_if (not b && nat_le 128 (length (pieces_in buffer parts))) TooManyFragments
+    ∷ []))
     (among_by_parts buffer parts piece ∙ among_is)
-    ∙ ap (λ n. first_of (refused_if conflict Overlap ∷ refused_if (not among && nat_le 128 n) TooManyFragments ∷ [])) (length-map parts (piece_in buffer))
+    ∙ ap (λ n. first_of (refused_if conflict Overlap ∷ refused_if (not among && nat_le 128 n) TooManyFragments ∷ []))
+    (length-map parts (piece_in buffer))
     ∙ ap (λ b. first_of (refused_if conflict Overlap ∷ refused_if (not among && b) TooManyFragments ∷ [])) many_is
 
 pub many_true : (n : ℕ) → 128 ≤ n → nat_le 128 n ≡ true
@@ -273,7 +286,8 @@ pub record IsWritten (buffer after : List ℕ) (parts new : List Part) (received
   pub pieces : pieces_in after new ≡ pieces_in buffer parts ++ piece_of fragment ∷ []
   pub room : length after ≡ length buffer
 
-pub written : (key : FragmentKey) (buffer after : List ℕ) (parts new : List Part) (received offset : ℕ) (end new_end : Option ℕ) (fragment : FragmentValue)
+pub written : (key : FragmentKey) (buffer after : List ℕ) (parts new : List Part) (received offset : ℕ) (end new_end : Option ℕ)
+    (fragment : FragmentValue)
     → AreKept buffer parts received end
     → refusal (record { key = key; room = length buffer; pieces = pieces_in buffer parts; end = end }) fragment ≡ None
     → is_among (pieces_in buffer parts) (piece_of fragment) ≡ false → offset ≡ fragment.offset
@@ -284,13 +298,15 @@ written key buffer after parts new received offset end new_end fragment kept acc
     let rules = accepted_by (record { key = key; room = length buffer; pieces = pieces_in buffer parts; end = end }) fragment accepted in
     let fits = own_fits key (length buffer) fragment rules.0 in
     let room : fragment.offset + length fragment.bytes ≤ length buffer = fits.1 in
-    let apart : list_any (overlaps (piece_of fragment)) (pieces_in buffer parts) ≡ false = (new_piece buffer parts (piece_of fragment) rules.2 among).0 in
+    let apart : list_any (overlaps (piece_of fragment)) (pieces_in buffer parts) ≡ false =
+    (new_piece buffer parts (piece_of fragment) rules.2 among).0 in
     let after_is : after ≡ put_mid fragment.offset (length fragment.bytes) buffer fragment.bytes =
     after_by ∙ ap (λ n. put_mid n (length fragment.bytes) buffer fragment.bytes) offset_is in
     let new_is : new ≡ parts ++ record { offset = fragment.offset; len = length fragment.bytes } ∷ [] =
     new_by ∙ ap (λ n. parts ++ record { offset = n; len = length fragment.bytes } ∷ []) offset_is in
     let pieces : pieces_in after new ≡ pieces_in buffer parts ++ piece_of fragment ∷ [] =
-    ap (λ after. pieces_in after new) after_is ∙ ap (λ new. pieces_in (put_mid fragment.offset (length fragment.bytes) buffer fragment.bytes) new) new_is
+    ap (λ after. pieces_in after new) after_is
+    ∙ ap (λ new. pieces_in (put_mid fragment.offset (length fragment.bytes) buffer fragment.bytes) new) new_is
     ∙ pieces_after buffer fragment.bytes fragment.offset parts room kept.fit apart in
     let fit : All (Fits after) new =
     subst (λ after. All (Fits after) new) (sym after_is)
@@ -304,7 +320,8 @@ written key buffer after parts new received offset end new_end fragment kept acc
       room = ap length after_is ∙ length_after buffer fragment.bytes fragment.offset room;
     }
 
-pub added_is : (state : State) (key : FragmentKey) (room new_room : ℕ) (pieces new : List Piece) (end new_end : Option ℕ) (fragment : FragmentValue)
+pub added_is : (state : State) (key : FragmentKey) (room new_room : ℕ) (pieces new : List Piece) (end new_end : Option ℕ)
+    (fragment : FragmentValue)
     → record { key = key; room = room; pieces = pieces; end = end } ≡ state → is_among pieces (piece_of fragment) ≡ false
     → new_room ≡ room → new ≡ pieces ++ piece_of fragment ∷ [] → new_end ≡ end_with end fragment
     → record { key = key; room = new_room; pieces = new; end = new_end } ≡ with_fragment state fragment
@@ -314,6 +331,13 @@ added_is state key room new_room pieces new end new_end fragment state_is among 
     ap (λ (n : ℕ). by_room (record { key = key; room = room; pieces = new; end = new_end }) n) room_is
     ∙ ap (λ (pieces : List Piece). by_room (record { key = key; room = room; pieces = pieces; end = new_end }) room) new_is
     ∙ ap (λ (end : Option ℕ). by_room (record { key = key; room = room; pieces = pieces ++ piece_of fragment ∷ []; end = end }) room) end_is
-    ∙ ap (λ (among : Bool). by_room (record { key = key; room = room; pieces = (if among then pieces else pieces ++ piece_of fragment ∷ []); end = end_with end fragment }) room)
+    ∙ ap (λ (among : Bool). by_room
+    (record {
+      key = key;
+      room = room;
+      pieces =
+          (if among then pieces else pieces ++ piece_of fragment ∷ []);
+      end = end_with end fragment;
+    }) room)
     (sym among)
     ∙ ap (λ (state : State). with_fragment state fragment) state_is

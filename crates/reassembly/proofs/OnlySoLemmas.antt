@@ -36,14 +36,16 @@ rules_none false false false d e v w x y z none = (refl, refl, refl)
 same_key : (a b : FragmentKey) → is_same_key a b ≡ true → a ≡ b
 same_key (Ipv4 source destination protocol identification) (Ipv4 source₂ destination₂ protocol₂ identification₂) is =
     let first = parts_of_and (pointwise nat_eq source source₂) _ is in
-    let second = parts_of_and (pointwise nat_eq destination destination₂) (protocol.0 == protocol₂.0 && identification == identification₂) first.1 in
+    let second = parts_of_and (pointwise nat_eq destination destination₂)
+    (protocol.0 == protocol₂.0 && identification == identification₂) first.1 in
     let third = parts_of_and (protocol.0 == protocol₂.0) (identification == identification₂) second.1 in
     ap (λ source. Ipv4 source destination protocol identification) (bytes_are source source₂ first.0)
     ∙ ap (λ destination. Ipv4 source₂ destination protocol identification) (bytes_are destination destination₂ second.0)
     ∙ ap (λ (number : ℕ). Ipv4 source₂ destination₂ (record { 0 = number }) identification) (is_number protocol.0 protocol₂.0 third.0)
     ∙ ap (λ identification. Ipv4 source₂ destination₂ protocol₂ identification) (is_number identification identification₂ third.1)
 same_key (Ipv6 source destination identification) (Ipv6 source₂ destination₂ identification₂) is =
-    let first = parts_of_and (pointwise nat_eq source source₂) (pointwise nat_eq destination destination₂ && identification == identification₂) is in
+    let first = parts_of_and (pointwise nat_eq source source₂)
+    (pointwise nat_eq destination destination₂ && identification == identification₂) is in
     let second = parts_of_and (pointwise nat_eq destination destination₂) (identification == identification₂) first.1 in
     ap (λ source. Ipv6 source destination identification) (bytes_are source source₂ first.0)
     ∙ ap (λ destination. Ipv6 source₂ destination identification) (bytes_are destination destination₂ second.0)
@@ -89,7 +91,8 @@ known_stays (Some end) reached fragment len none is = end_stays fragment.more_fr
 
 -- a fragment that is not the last ends before each end that is accepted
 before_end : (piece : Piece) (pieces : List Piece) (more : Bool) (e len : ℕ) → is_among pieces piece ≡ true
-    → (if more then None else refused_if (reaches e pieces) BehindEnd) ≡ None → (if more then None else Some e) ≡ Some len → end_of piece < len
+    → (if more then None else refused_if (reaches e pieces) BehindEnd) ≡ None → (if more then None else Some e) ≡ Some len
+    → end_of piece < len
 before_end piece pieces true e len among none is = absurd (none_some len is)
 before_end piece pieces false e len among none is = step (nat_le e (end_of piece)) refl
   where
@@ -118,7 +121,8 @@ known_after fragment other state accepted known =
     let rules = accepted_by state other accepted in
     record {
       among = among_more (piece_of fragment) (piece_of other) state.pieces (is_among state.pieces (piece_of other)) known.among;
-      last = λ last. known_stays state.end (reaches (end_of_fragment other) state.pieces) other (end_of_fragment fragment) rules.1 (known.last last);
+      last = λ last. known_stays state.end (reaches (end_of_fragment other) state.pieces) other (end_of_fragment fragment) rules.1
+          (known.last last);
       more = λ more len is. more_stays state.end (piece_of fragment) state.pieces other len known.among (known.more more) rules.1 is;
     }
 
@@ -127,14 +131,16 @@ own_last : (more : Bool) (end : Option ℕ) (e : ℕ) → more ≡ false → (if
 own_last true end e last = absurd (cc last)
 own_last false end e last = refl
 
-own_more : (more : Bool) (end : Option ℕ) (reached : Bool) (fragment : FragmentValue) (len : ℕ) → more ≡ fragment.more_fragments → more ≡ true
+own_more : (more : Bool) (end : Option ℕ) (reached : Bool) (fragment : FragmentValue) (len : ℕ) → more ≡ fragment.more_fragments
+    → more ≡ true
     → end_refusal end reached fragment ≡ None → end_with end fragment ≡ Some len → end_of_fragment fragment < len
 own_more false end reached fragment len same more none is = absurd (cc more)
 own_more true None reached fragment len same more none is =
     absurd (none_some len (ap (λ b. if b then None else Some (end_of_fragment fragment)) same ∙ is))
 own_more true (Some end) reached fragment len same more none is =
     let rule : refused_if (nat_le end (end_of_fragment fragment)) BehindEnd ≡ None =
-    ap (λ b. if b then refused_if (nat_le end (end_of_fragment fragment)) BehindEnd else refused_if (not (end_of_fragment fragment == end)) OtherEnd) same
+    ap (λ b. if b then refused_if (nat_le end (end_of_fragment fragment)) BehindEnd
+    else refused_if (not (end_of_fragment fragment == end)) OtherEnd) same
     ∙ none in
     let unreached : nat_le end (end_of_fragment fragment) ≡ false = none_if (nat_le end (end_of_fragment fragment)) BehindEnd rule in
     let below : end_of_fragment fragment < end = grind (arith, nat_tests, unreached) in
@@ -153,13 +159,15 @@ known_first fragment state accepted =
 
 -- ---- all arrivals
 
-known_later : (fragment : FragmentValue) (arrivals : List FragmentValue) (state : State) → AreAccepted state arrivals → IsKnown fragment state
+known_later : (fragment : FragmentValue) (arrivals : List FragmentValue) (state : State) → AreAccepted state arrivals
+    → IsKnown fragment state
     → IsKnown fragment (after state arrivals)
 known_later fragment [] state accepted known = known
 known_later fragment (first ∷ others) state accepted known =
     known_later fragment others (with_fragment state first) accepted.1 (known_after fragment first state accepted.0 known)
 
-known_all : (fragment : FragmentValue) (arrivals : List FragmentValue) (state : State) → AreAccepted state arrivals → IsOneOf arrivals fragment
+known_all : (fragment : FragmentValue) (arrivals : List FragmentValue) (state : State) → AreAccepted state arrivals
+    → IsOneOf arrivals fragment
     → IsKnown fragment (after state arrivals)
 known_all fragment [] state accepted is = absurd is
 known_all fragment (first ∷ others) state accepted (inl is) =
@@ -168,14 +176,17 @@ known_all fragment (first ∷ others) state accepted (inl is) =
 known_all fragment (first ∷ others) state accepted (inr is) = known_all fragment others (with_fragment state first) accepted.1 is
 
 -- no two pieces overlap
-apart_with : (pieces : List Piece) (piece : Piece) (among : Bool) → is_among pieces piece ≡ among → piece_refusal pieces piece ≡ None → AreApart pieces
+apart_with : (pieces : List Piece) (piece : Piece) (among : Bool) → is_among pieces piece ≡ among → piece_refusal pieces piece ≡ None
+    → AreApart pieces
     → AreApart (if among then pieces else pieces ++ piece ∷ [])
 apart_with pieces piece true is none apart = apart
 apart_with pieces piece false is none apart =
-    let rules = two_none (list_any (conflicts piece) pieces) (not (is_among pieces piece) && nat_le 128 (length pieces)) Overlap TooManyFragments none in
+    let rules = two_none (list_any (conflicts piece) pieces)
+    (not (is_among pieces piece) && nat_le 128 (length pieces)) Overlap TooManyFragments none in
     apart_push pieces piece apart (no_overlap pieces piece rules.0 is)
 
-apart_after : (arrivals : List FragmentValue) (state : State) → AreAccepted state arrivals → AreApart state.pieces → AreApart (after state arrivals).pieces
+apart_after : (arrivals : List FragmentValue) (state : State) → AreAccepted state arrivals → AreApart state.pieces
+    → AreApart (after state arrivals).pieces
 apart_after [] state accepted apart = apart
 apart_after (first ∷ others) state accepted apart =
     let rules = accepted_by state first accepted.0 in
@@ -200,13 +211,15 @@ own_by key room fragment none =
       multiple = multiple_of_8 fragment.more_fragments (length fragment.bytes) rules.2;
     }
 
-own_all : (key : FragmentKey) (fragment : FragmentValue) (arrivals : List FragmentValue) (state : State) → state.key ≡ key → AreAccepted state arrivals
+own_all : (key : FragmentKey) (fragment : FragmentValue) (arrivals : List FragmentValue) (state : State) → state.key ≡ key
+    → AreAccepted state arrivals
     → IsOneOf arrivals fragment → IsOwn key fragment
 own_all key fragment [] state key_is accepted is = absurd is
 own_all key fragment (first ∷ others) state key_is accepted (inl is) =
     subst (IsOwn key) (sym is)
     (own_by key state.room first (ap (λ key. own_refusal key state.room first) (sym key_is) ∙ (accepted_by state first accepted.0).0))
-own_all key fragment (first ∷ others) state key_is accepted (inr is) = own_all key fragment others (with_fragment state first) key_is accepted.1 is
+own_all key fragment (first ∷ others) state key_is accepted (inr is) =
+    own_all key fragment others (with_fragment state first) key_is accepted.1 is
 
 -- ---- the bytes
 
@@ -214,7 +227,8 @@ both_cover : (place : ℕ) (a b : Piece) → covers place a ≡ true → covers 
 both_cover place a b first second = grind (arith, nat_tests, first, second)
 
 -- the known byte is the byte of any piece that contains it
-byte_of_piece : (pieces : List Piece) (piece : Piece) (place : ℕ) → AreApart pieces → is_among pieces piece ≡ true → covers place piece ≡ true
+byte_of_piece : (pieces : List Piece) (piece : Piece) (place : ℕ) → AreApart pieces → is_among pieces piece ≡ true
+    → covers place piece ≡ true
     → byte_at pieces place ≡ Some (slice_index piece.bytes (place - piece.offset))
 byte_of_piece [] piece place apart among there = absurd (cc among)
 byte_of_piece (first ∷ pieces) piece place apart among there =
@@ -233,18 +247,21 @@ byte_of_piece (first ∷ pieces) piece place apart among there =
         → byte_at (first ∷ pieces) place ≡ Some (slice_index piece.bytes (place - piece.offset))
     step true is among later =
         let same : piece ≡ first = piece_is piece first is in
-        ap (λ b. if b then Some (slice_index first.bytes (place - first.offset)) else byte_at pieces place) (ap (covers place) (sym same) ∙ there)
+        ap (λ b. if b then Some (slice_index first.bytes (place - first.offset)) else byte_at pieces place)
+        (ap (covers place) (sym same) ∙ there)
         ∙ ap (λ p. Some (slice_index p.bytes (place - p.offset))) (sym same)
     step false is among later = other (covers place first) refl among (later among)
 
 covers_at : (piece : Piece) (i : ℕ) → i < length piece.bytes → covers (piece.offset + i) piece ≡ true
 covers_at piece i below = grind (arith, nat_tests, below)
 
-bytes_at : (pieces : List Piece) (piece : Piece) (payload : List ℕ) → AreApart pieces → is_among pieces piece ≡ true → end_of piece ≤ length payload
+bytes_at : (pieces : List Piece) (piece : Piece) (payload : List ℕ) → AreApart pieces → is_among pieces piece ≡ true
+    → end_of piece ≤ length payload
     → ((place : ℕ) → place < length payload → byte_at pieces place ≡ Some (slice_index payload place))
     → slice_range payload piece.offset (piece.offset + length piece.bytes) ≡ piece.bytes
 bytes_at pieces piece payload apart among fits bytes =
-    ap (λ n. take n (drop piece.offset payload)) len ∙ ext_get_or 0 (take (length piece.bytes) (drop piece.offset payload)) piece.bytes same_len same
+    ap (λ n. take n (drop piece.offset payload)) len
+    ∙ ext_get_or 0 (take (length piece.bytes) (drop piece.offset payload)) piece.bytes same_len same
   where
     len : piece.offset + length piece.bytes - piece.offset ≡ length piece.bytes
     len = omega arith
@@ -276,7 +293,8 @@ only_so key room payload arrivals fragment accepted is one =
     let known : IsKnown fragment state = known_all fragment arrivals (empty key room) accepted one in
     let last : fragment.more_fragments ≡ false → end_of_fragment fragment ≡ length payload =
     λ last. same_some (end_of_fragment fragment) (length payload) (sym (known.last last) ∙ is.0) in
-    let before : fragment.more_fragments ≡ true → end_of_fragment fragment < length payload = λ more. known.more more (length payload) is.0 in
+    let before : fragment.more_fragments ≡ true → end_of_fragment fragment < length payload =
+    λ more. known.more more (length payload) is.0 in
     record {
       key_is = own.key_is;
       some = own.some;

@@ -23,7 +23,8 @@ use Rattle.reassembly.specs.declared.fragment_key.FragmentKey.TheVariants.{Ipv4,
 
 -- ---- the payload of the state
 
-pub payload_after : (arrivals : List FragmentValue) (state : PacketState) → (after_arrivals state arrivals).payload ≡ after state.payload arrivals
+pub payload_after : (arrivals : List FragmentValue) (state : PacketState)
+    → (after_arrivals state arrivals).payload ≡ after state.payload arrivals
 payload_after [] state = refl
 payload_after (first ∷ others) state = payload_after others (with_fragment state first)
 
@@ -51,10 +52,12 @@ or_false false = refl
 other_place : (first other : FragmentValue) (pieces : List Piece) → first.offset ≡ 0 → (other.offset == 0) ≡ false
     → is_among (pieces ++ piece_of other ∷ []) (piece_of first) ≡ true → is_among pieces (piece_of first) ≡ true
 other_place first other pieces start behind among =
-    by_same (is_same (piece_of first) (piece_of other)) refl (sym (any_append (is_same (piece_of first)) pieces (piece_of other ∷ [])) ∙ among)
+    by_same (is_same (piece_of first) (piece_of other)) refl
+    (sym (any_append (is_same (piece_of first)) pieces (piece_of other ∷ [])) ∙ among)
   where
     by_same : (same : Bool) → is_same (piece_of first) (piece_of other) ≡ same
-        → (is_among pieces (piece_of first) || (is_same (piece_of first) (piece_of other) || false)) ≡ true → is_among pieces (piece_of first) ≡ true
+        → (is_among pieces (piece_of first) || (is_same (piece_of first) (piece_of other) || false)) ≡ true
+        → is_among pieces (piece_of first) ≡ true
     by_same true same among =
         let places = parts_of_and (first.offset == other.offset) _ same in
         absurd (not_number other.offset 0 behind (sym (is_number first.offset other.offset places.0) ∙ start))
@@ -90,7 +93,8 @@ keeps_with first other state start only fits keeps =
         ∙ ap (λ b. if b then other.header else []) short ∙ ap (λ f. f.header) same
     by false false among is there =
         ap (λ b. with_header b (other.offset == 0)) among ∙ ap (λ b. with_header false b) is
-        ∙ keeps (other_place first other state.payload.pieces start is (sym (ap (λ b. is_among (with_pieces b) (piece_of first)) among) ∙ there))
+        ∙ keeps (other_place first other state.payload.pieces start is
+        (sym (ap (λ b. is_among (with_pieces b) (piece_of first)) among) ∙ there))
 
 keeps_after : (first : FragmentValue) (fragments arrivals : List FragmentValue) (state : PacketState) → first.offset ≡ 0
     → ((other : FragmentValue) → IsOneOf fragments other → other.offset ≡ 0 → other ≡ first) → AreFrom fragments arrivals
@@ -101,7 +105,8 @@ keeps_after first fragments (arrival ∷ others) state start only from fits keep
     (keeps_with first arrival state start (only arrival from.0) fits keeps)
 
 -- only the first fragment of a cut is at the place 0
-only_first : (key : FragmentKey) (payload : List ℕ) (first : FragmentValue) (others : List FragmentValue) → IsCut key payload (first ∷ others)
+only_first : (key : FragmentKey) (payload : List ℕ) (first : FragmentValue) (others : List FragmentValue)
+    → IsCut key payload (first ∷ others)
     → (other : FragmentValue) → IsOneOf (first ∷ others) other → other.offset ≡ 0 → other ≡ first
 only_first key payload first others cut other (inl is) start = is
 only_first key payload first [] cut other (inr is) start = absurd is
@@ -112,7 +117,8 @@ only_first key payload first (next ∷ others) cut other (inr is) start =
     none : (len offset : ℕ) → 0 < len → 0 + len ≤ offset → offset ≡ 0 → ⊥
     none len offset some after is = omega (arith, some, after, is)
 
-first_start : (key : FragmentKey) (payload : List ℕ) (first : FragmentValue) (others : List FragmentValue) → IsCut key payload (first ∷ others)
+first_start : (key : FragmentKey) (payload : List ℕ) (first : FragmentValue) (others : List FragmentValue)
+    → IsCut key payload (first ∷ others)
     → first.offset ≡ 0
 first_start key payload first [] cut = cut.0.offset_is
 first_start key payload first (next ∷ others) cut = cut.0.offset_is
@@ -123,7 +129,8 @@ room_for_ipv4 (Ipv6 source destination identification) = omega arith
 
 -- the first fragment's header is the kept header, once it has arrived
 pub header_after : (key : FragmentKey) (len : ℕ) (payload : List ℕ) (first : FragmentValue) (others arrivals : List FragmentValue)
-    → IsCut key payload (first ∷ others) → length first.header ≤ header_room key → AreFrom (first ∷ others) arrivals → AreFrom arrivals (first ∷ others)
+    → IsCut key payload (first ∷ others) → length first.header ≤ header_room key → AreFrom (first ∷ others) arrivals
+    → AreFrom arrivals (first ∷ others)
     → (after_arrivals (empty key len) arrivals).header ≡ first.header
 header_after key len payload first others arrivals cut short from all =
     let state : State = payloads.empty key (len - header_room key) in
@@ -141,13 +148,17 @@ pub same_whole : (header fragment_header : List ℕ) (len : ℕ) → IsFirstHead
 same_whole header fragment_header len is =
     let front : ipv4_front fragment_header len ≡ ipv4_front header len =
     ap (λ n. n ∷ slice_index fragment_header 1 ∷ (to_be_bytes w16 len ++ (slice_index fragment_header 4 ∷ slice_index fragment_header 5
-    ∷ bit_and (slice_index fragment_header 6) 0xC0 ∷ 0 ∷ slice_index fragment_header 8 ∷ slice_index fragment_header 9 ∷ []))) is.version_and_len
+    ∷ bit_and (slice_index fragment_header 6) 0xC0 ∷ 0 ∷ slice_index fragment_header 8 ∷ slice_index fragment_header 9 ∷ [])))
+    is.version_and_len
     ∙ ap (λ n. slice_index header 0 ∷ n ∷ (to_be_bytes w16 len ++ (slice_index fragment_header 4 ∷ slice_index fragment_header 5
-    ∷ bit_and (slice_index fragment_header 6) 0xC0 ∷ 0 ∷ slice_index fragment_header 8 ∷ slice_index fragment_header 9 ∷ []))) is.type_of_service
+    ∷ bit_and (slice_index fragment_header 6) 0xC0 ∷ 0 ∷ slice_index fragment_header 8 ∷ slice_index fragment_header 9 ∷ [])))
+    is.type_of_service
     ∙ ap (λ n. slice_index header 0 ∷ slice_index header 1 ∷ (to_be_bytes w16 len ++ (n ∷ slice_index fragment_header 5
-    ∷ bit_and (slice_index fragment_header 6) 0xC0 ∷ 0 ∷ slice_index fragment_header 8 ∷ slice_index fragment_header 9 ∷ []))) is.identification
+    ∷ bit_and (slice_index fragment_header 6) 0xC0 ∷ 0 ∷ slice_index fragment_header 8 ∷ slice_index fragment_header 9 ∷ [])))
+    is.identification
     ∙ ap (λ n. slice_index header 0 ∷ slice_index header 1 ∷ (to_be_bytes w16 len ++ (slice_index header 4 ∷ n
-    ∷ bit_and (slice_index fragment_header 6) 0xC0 ∷ 0 ∷ slice_index fragment_header 8 ∷ slice_index fragment_header 9 ∷ []))) is.identification_low
+    ∷ bit_and (slice_index fragment_header 6) 0xC0 ∷ 0 ∷ slice_index fragment_header 8 ∷ slice_index fragment_header 9 ∷ [])))
+    is.identification_low
     ∙ ap (λ n. slice_index header 0 ∷ slice_index header 1 ∷ (to_be_bytes w16 len ++ (slice_index header 4 ∷ slice_index header 5
     ∷ n ∷ 0 ∷ slice_index fragment_header 8 ∷ slice_index fragment_header 9 ∷ []))) is.flags
     ∙ ap (λ n. slice_index header 0 ∷ slice_index header 1 ∷ (to_be_bytes w16 len ++ (slice_index header 4 ∷ slice_index header 5
@@ -175,8 +186,10 @@ complete_payload : (state : State) (payload : List ℕ) → IsPayload state payl
 complete_payload state payload is = (length payload, is.0, λ place below. ap is_some (is.1 place below))
 
 -- all fragments of a cut arrived, and the headers of the packet follow from those of the first fragment
-pub given_back_by : (key : FragmentKey) (len : ℕ) (header payload packet : List ℕ) (first : FragmentValue) (others arrivals : List FragmentValue)
-    → packet ≡ header ++ payload → IsCut key payload (first ∷ others) → length first.header ≤ header_room key → header_room key + length payload ≤ len
+pub given_back_by : (key : FragmentKey) (len : ℕ) (header payload packet : List ℕ) (first : FragmentValue)
+    (others arrivals : List FragmentValue)
+    → packet ≡ header ++ payload → IsCut key payload (first ∷ others) → length first.header ≤ header_room key
+    → header_room key + length payload ≤ len
     → HasWholeHeader first.header (length payload) → whole_header first.header (length payload) ≡ header
     → AreFrom (first ∷ others) arrivals → AreFrom arrivals (first ∷ others)
     → HasPacket (after_arrivals (empty key len) arrivals)
@@ -187,7 +200,8 @@ given_back_by key len header payload packet first others arrivals packet_is cut 
     subst (λ s. IsPayload s payload) (sym (payload_after arrivals (empty key len)))
     (given_back key (len - header_room key) payload (first ∷ others) arrivals cut (omega (arith, fits)) from all) in
     let kept : state.header ≡ first.header = header_after key len payload first others arrivals cut short from all in
-    let whole : whole_header state.header (length payload) ≡ header = ap (λ header. whole_header header (length payload)) kept ∙ header_is in
+    let whole : whole_header state.header (length payload) ≡ header =
+    ap (λ header. whole_header header (length payload)) kept ∙ header_is in
     let end_is : unwrap_or state.payload.end 0 ≡ length payload = ap (λ end. unwrap_or end 0) back.0 in (
       (
         complete_payload state.payload payload back,
@@ -199,7 +213,8 @@ given_back_by key len header payload packet first others arrivals packet_is cut 
 
 -- ---- an IPv4 packet is given back
 
-pub packet_given_back : (key : FragmentKey) (len : ℕ) (packet : List ℕ) (fragments arrivals : List FragmentValue) → IsIpv4Cut key packet fragments
+pub packet_given_back : (key : FragmentKey) (len : ℕ) (packet : List ℕ) (fragments arrivals : List FragmentValue)
+    → IsIpv4Cut key packet fragments
     → header_room key + length packet ≤ len → AreFrom fragments arrivals → AreFrom arrivals fragments
     → HasPacket (after_arrivals (empty key len) arrivals)
     × ((result : List ℕ) → IsPacket (after_arrivals (empty key len) arrivals) result → result ≡ packet)
@@ -218,22 +233,26 @@ packet_given_back key len packet (first ∷ others) arrivals cut fits from all =
     (take_all (ipv4_header_len first.header) first.header (omega (arith, is.is_all)))
     ∙ same_whole cut.header first.header (ipv4_header_len first.header + length payload) is
     ∙ ap (whole_ipv4_header cut.header) total_len ∙ sym cut.is_whole in
-    given_back_by key len cut.header payload packet first others arrivals cut.packet_is cut.cut (omega (arith, is.is_all, room)) (omega (arith, fits, lens))
+    given_back_by key len cut.header payload packet first others arrivals cut.packet_is cut.cut (omega (arith, is.is_all, room))
+    (omega (arith, fits, lens))
     (inl (record { begins = is.begins; fits = omega (arith, total_len, cut.short) })) header_is from all
 
-pub packet_accepted : (key : FragmentKey) (len : ℕ) (packet : List ℕ) (fragments arrivals : List FragmentValue) → IsIpv4Cut key packet fragments
+pub packet_accepted : (key : FragmentKey) (len : ℕ) (packet : List ℕ) (fragments arrivals : List FragmentValue)
+    → IsIpv4Cut key packet fragments
     → header_room key + length packet ≤ len → length fragments ≤ 128 → AreFrom fragments arrivals → AreAdded (empty key len) arrivals
 packet_accepted key len packet fragments arrivals cut fits few from =
     let lens : length packet ≡ length cut.header + length cut.payload = ap length cut.packet_is ∙ length-append cut.header cut.payload in
     added_by arrivals (empty key len)
-    (accepted key (len - header_room key) cut.payload fragments arrivals cut.cut (omega (arith, lens, cut.short)) (omega (arith, lens, fits)) few from)
+    (accepted key (len - header_room key) cut.payload fragments arrivals cut.cut (omega (arith, lens, cut.short))
+    (omega (arith, lens, fits)) few from)
 
 -- ---- an IPv6 packet is given back
 
 other_than_four : (header : List ℕ) → version header ≡ 6 → (version header == 4) ≡ false
 other_than_four header is = grind (arith, nat_tests, is)
 
-pub ipv6_given_back : (key : FragmentKey) (len : ℕ) (packet : List ℕ) (fragments arrivals : List FragmentValue) → IsIpv6Cut key packet fragments
+pub ipv6_given_back : (key : FragmentKey) (len : ℕ) (packet : List ℕ) (fragments arrivals : List FragmentValue)
+    → IsIpv6Cut key packet fragments
     → header_room key + length packet ≤ len → AreFrom fragments arrivals → AreFrom arrivals fragments
     → HasPacket (after_arrivals (empty key len) arrivals)
     × ((result : List ℕ) → IsPacket (after_arrivals (empty key len) arrivals) result → result ≡ packet)
@@ -248,7 +267,8 @@ ipv6_given_back key len packet (first ∷ others) arrivals cut fits from all =
     λ (high low number : ℕ). slice_set (slice_set (slice_set (take found.place first.header) 4 high) 5 low) found.number_at number in
     let header_is : whole_header first.header (length payload) ≡ cut.header =
     ap (λ b. if b then whole_ipv4_header (ipv4_header first.header) (ipv4_header_len first.header + length payload)
-    else ipv6_header_by first.header (fragment_header_in first.header) (length payload)) (other_than_four first.header is.begins.is_version_6)
+    else ipv6_header_by first.header (fragment_header_in first.header) (length payload))
+    (other_than_four first.header is.begins.is_version_6)
     ∙ ap (λ place. ipv6_header_by first.header place (length payload)) is.is_found
     ∙ ap (whole_ipv6_header first.header found) payload_len
     ∙ ap (λ high. written high ((length packet - 40) % 256) (slice_index first.header found.place)) (sym cut.len_high)
@@ -264,9 +284,11 @@ ipv6_given_back key len packet (first ∷ others) arrivals cut fits from all =
       fits = omega (arith, payload_len, cut.short);
     })) header_is from all
 
-pub ipv6_accepted : (key : FragmentKey) (len : ℕ) (packet : List ℕ) (fragments arrivals : List FragmentValue) → IsIpv6Cut key packet fragments
+pub ipv6_accepted : (key : FragmentKey) (len : ℕ) (packet : List ℕ) (fragments arrivals : List FragmentValue)
+    → IsIpv6Cut key packet fragments
     → header_room key + length packet ≤ len → length fragments ≤ 128 → AreFrom fragments arrivals → AreAdded (empty key len) arrivals
 ipv6_accepted key len packet fragments arrivals cut fits few from =
     let lens : length packet ≡ length cut.header + length cut.payload = ap length cut.packet_is ∙ length-append cut.header cut.payload in
     added_by arrivals (empty key len)
-    (accepted key (len - header_room key) cut.payload fragments arrivals cut.cut (omega (arith, lens, cut.whole, cut.short)) (omega (arith, lens, fits)) few from)
+    (accepted key (len - header_room key) cut.payload fragments arrivals cut.cut (omega (arith, lens, cut.whole, cut.short))
+    (omega (arith, lens, fits)) few from)

@@ -93,12 +93,15 @@ abbrev pub IsAccepted : FragmentKey → List ℕ → List Part → Option ℕ �
 IsAccepted key buffer parts end fragment = refusal (payload_state key buffer parts end) fragment ≡ None
 
 some_accepted : (key : FragmentKey) (buffer : List ℕ) (parts : List Part) (end : Option ℕ) (fragment : FragmentValue)
-    → IsAccepted key buffer parts end fragment → ((len : ℕ) → end ≡ Some len → 0 < len) → (len : ℕ) → end_with end fragment ≡ Some len → 0 < len
+    → IsAccepted key buffer parts end fragment → ((len : ℕ) → end ≡ Some len → 0 < len) → (len : ℕ) → end_with end fragment ≡ Some len
+    → 0 < len
 some_accepted key buffer parts end fragment accepted some =
-    some_with key (length (drop (header_room key) buffer)) end fragment (accepted_by (payload_state key buffer parts end) fragment accepted).0 some
+    some_with key (length (drop (header_room key) buffer)) end fragment
+    (accepted_by (payload_state key buffer parts end) fragment accepted).0 some
 
 -- a repetition
-pub payload_repeated : (key : FragmentKey) (buffer : List ℕ) (parts : List Part) (received : ℕ) (end : Option ℕ) (header : List ℕ) (start : Option ℕ)
+pub payload_repeated : (key : FragmentKey) (buffer : List ℕ) (parts : List Part) (received : ℕ) (end : Option ℕ) (header : List ℕ)
+    (start : Option ℕ)
     → (fragment : FragmentValue) → IsKept key buffer parts received end header start → IsAccepted key buffer parts end fragment
     → AreKept (drop (header_room key) buffer) parts received (end_with end fragment)
 payload_repeated key buffer parts received end header start fragment kept accepted =
@@ -106,21 +109,26 @@ payload_repeated key buffer parts received end header start fragment kept accept
     kept_repeated (drop (header_room key) buffer) parts received end fragment kept.payload
     (end_by_parts (drop (header_room key) buffer) parts end fragment kept.payload.fit rules.1)
 
-pub packet_repeated : (key : FragmentKey) (buffer after : List ℕ) (parts : List Part) (received room : ℕ) (end new_end : Option ℕ) (header : List ℕ)
+pub packet_repeated : (key : FragmentKey) (buffer after : List ℕ) (parts : List Part) (received room : ℕ) (end new_end : Option ℕ)
+    (header : List ℕ)
     → (start new_start : Option ℕ) (fragment : FragmentValue) → IsKept key buffer parts received end header start
-    → IsAccepted key buffer parts end fragment → new_end ≡ end_with end fragment → room ≡ header_room key → drop room after ≡ drop room buffer
+    → IsAccepted key buffer parts end fragment → new_end ≡ end_with end fragment → room ≡ header_room key
+    → drop room after ≡ drop room buffer
     → IsFront room after header new_end received new_start → IsKept key after parts received new_end header new_start
 packet_repeated key buffer after parts received room end new_end header start new_start fragment kept accepted end_is room_is same front =
-    let payload_is : drop (header_room key) after ≡ drop (header_room key) buffer = subst (λ n. drop n after ≡ drop n buffer) room_is same in
+    let payload_is : drop (header_room key) after ≡ drop (header_room key) buffer =
+    subst (λ n. drop n after ≡ drop n buffer) room_is same in
     record {
-      payload = subst (λ b. AreKept b parts received new_end) (sym payload_is) (subst (AreKept (drop (header_room key) buffer) parts received) (sym end_is)
+      payload = subst (λ b. AreKept b parts received new_end) (sym payload_is)
+          (subst (AreKept (drop (header_room key) buffer) parts received) (sym end_is)
           (payload_repeated key buffer parts received end header start fragment kept accepted));
       some = λ len is. some_accepted key buffer parts end fragment accepted kept.some len (sym end_is ∙ is);
       fits = kept.fits;
       front = subst (λ n. IsFront n after header new_end received new_start) room_is front;
     }
 
-pub state_repeated : (state : PacketState) (key : FragmentKey) (buffer after : List ℕ) (parts : List Part) (room : ℕ) (end new_end : Option ℕ)
+pub state_repeated : (state : PacketState) (key : FragmentKey) (buffer after : List ℕ) (parts : List Part) (room : ℕ)
+    (end new_end : Option ℕ)
     → (header : List ℕ) (fragment : FragmentValue)
     → packet_state (length buffer) header (payload_state key buffer parts end) ≡ state
     → is_among (pieces_in (drop (header_room key) buffer) parts) (piece_of fragment) ≡ true → length after ≡ length buffer
@@ -132,7 +140,8 @@ state_repeated state key buffer after parts room end new_end header fragment sta
     let payload_is : drop (header_room key) after ≡ old = subst (λ n. drop n after ≡ drop n buffer) room_is same in
     let by : List ℕ → Option ℕ → State =
     λ (b : List ℕ) (e : Option ℕ). record { key = key; room = length b; pieces = pieces_in b parts; end = e } in
-    let by_pieces : List Piece → State = λ (p : List Piece). record { key = key; room = length old; pieces = p; end = end_with end fragment } in
+    let by_pieces : List Piece → State =
+    λ (p : List Piece). record { key = key; room = length old; pieces = p; end = end_with end fragment } in
     ap (λ (n : ℕ). packet_state n header (payload_state key after parts new_end)) len_is
     ∙ ap (λ (b : List ℕ). packet_state (length buffer) header (by b new_end)) payload_is
     ∙ ap (λ (e : Option ℕ). packet_state (length buffer) header (by old e)) end_is
@@ -141,7 +150,8 @@ state_repeated state key buffer after parts room end new_end header fragment sta
     ∙ ap (λ (state : PacketState). with_fragment state fragment) state_is
 
 -- a new piece
-header_fits : (header : List ℕ) (room : ℕ) (fragment : FragmentValue) → length header ≤ room → length (header_of header room fragment) ≤ room
+header_fits : (header : List ℕ) (room : ℕ) (fragment : FragmentValue) → length header ≤ room
+    → length (header_of header room fragment) ≤ room
 header_fits header room fragment fits = by (not (fragment.offset == 0)) (nat_le (length fragment.header) room) refl
   where
     by : (later short : Bool) → nat_le (length fragment.header) room ≡ short
@@ -150,26 +160,34 @@ header_fits header room fragment fits = by (not (fragment.offset == 0)) (nat_le 
     by false true is = grind (arith, nat_tests, is)
     by false false is = omega arith
 
-pub packet_written : (key : FragmentKey) (buffer middle : List ℕ) (parts new : List Part) (received offset room : ℕ) (end new_end : Option ℕ)
+pub packet_written : (key : FragmentKey) (buffer middle : List ℕ) (parts new : List Part) (received offset room : ℕ)
+    (end new_end : Option ℕ)
     → (header : List ℕ) (start : Option ℕ) (fragment : FragmentValue) → IsKept key buffer parts received end header start
     → IsAccepted key buffer parts end fragment → is_among (pieces_in (drop (header_room key) buffer) parts) (piece_of fragment) ≡ false
     → offset ≡ fragment.offset → new ≡ parts ++ record { offset = offset; len = length fragment.bytes } ∷ []
     → new_end ≡ end_with end fragment → room ≡ header_room key
     → drop room middle ≡ put_mid offset (length fragment.bytes) (drop room buffer) fragment.bytes
     → IsWritten (drop (header_room key) buffer) (drop (header_room key) middle) parts new received new_end fragment
-packet_written key buffer middle parts new received offset room end new_end header start fragment kept accepted among offset_is new_is end_is room_is middle_is =
-    written key (drop (header_room key) buffer) (drop (header_room key) middle) parts new received offset end new_end fragment kept.payload accepted among
-    offset_is (subst (λ n. drop n middle ≡ put_mid offset (length fragment.bytes) (drop n buffer) fragment.bytes) room_is middle_is) new_is end_is
+packet_written key buffer middle parts new received offset room end new_end header start fragment kept accepted among offset_is new_is
+    end_is room_is middle_is =
+    written key (drop (header_room key) buffer)
+    (drop (header_room key) middle) parts new received offset end new_end fragment kept.payload accepted among
+    offset_is (subst (λ n. drop n middle ≡ put_mid offset (length fragment.bytes) (drop n buffer) fragment.bytes) room_is middle_is) new_is
+    end_is
 
 pub packet_kept : (key : FragmentKey) (buffer middle after : List ℕ) (parts new : List Part) (received room : ℕ) (end new_end : Option ℕ)
-    → (header new_header : List ℕ) (start new_start : Option ℕ) (fragment : FragmentValue) → IsKept key buffer parts received end header start
+    → (header new_header : List ℕ) (start new_start : Option ℕ) (fragment : FragmentValue)
+    → IsKept key buffer parts received end header start
     → IsAccepted key buffer parts end fragment
     → IsWritten (drop (header_room key) buffer) (drop (header_room key) middle) parts new received new_end fragment
-    → new_end ≡ end_with end fragment → new_header ≡ header_of header room fragment → room ≡ header_room key → drop room after ≡ drop room middle
+    → new_end ≡ end_with end fragment → new_header ≡ header_of header room fragment → room ≡ header_room key
+    → drop room after ≡ drop room middle
     → IsFront room after new_header new_end (received + length fragment.bytes) new_start
     → IsKept key after new (received + length fragment.bytes) new_end new_header new_start
-packet_kept key buffer middle after parts new received room end new_end header new_header start new_start fragment kept accepted is end_is header_is room_is same front =
-    let payload_is : drop (header_room key) after ≡ drop (header_room key) middle = subst (λ n. drop n after ≡ drop n middle) room_is same in
+packet_kept key buffer middle after parts new received room end new_end header new_header start new_start fragment kept accepted is end_is
+    header_is room_is same front =
+    let payload_is : drop (header_room key) after ≡ drop (header_room key) middle =
+    subst (λ n. drop n after ≡ drop n middle) room_is same in
     let fits : length (header_of header room fragment) ≤ room = header_fits header room fragment (omega (arith, kept.fits, room_is)) in
     record {
       payload = subst (λ b. AreKept b new (received + length fragment.bytes) new_end) (sym payload_is) is.kept;
@@ -178,25 +196,31 @@ packet_kept key buffer middle after parts new received room end new_end header n
       front = subst (λ n. IsFront n after new_header new_end (received + length fragment.bytes) new_start) room_is front;
     }
 
-pub state_added : (state : PacketState) (key : FragmentKey) (buffer middle after : List ℕ) (parts new : List Part) (received room : ℕ) (end new_end : Option ℕ)
+pub state_added : (state : PacketState) (key : FragmentKey) (buffer middle after : List ℕ) (parts new : List Part) (received room : ℕ)
+    (end new_end : Option ℕ)
     → (header new_header : List ℕ) (fragment : FragmentValue)
     → packet_state (length buffer) header (payload_state key buffer parts end) ≡ state
     → is_among (pieces_in (drop (header_room key) buffer) parts) (piece_of fragment) ≡ false → length after ≡ length buffer
     → IsWritten (drop (header_room key) buffer) (drop (header_room key) middle) parts new received new_end fragment
-    → new_end ≡ end_with end fragment → new_header ≡ header_of header room fragment → room ≡ header_room key → drop room after ≡ drop room middle
+    → new_end ≡ end_with end fragment → new_header ≡ header_of header room fragment → room ≡ header_room key
+    → drop room after ≡ drop room middle
     → packet_state (length after) new_header (payload_state key after new new_end) ≡ with_fragment state fragment
-state_added state key buffer middle after parts new received room end new_end header new_header fragment state_is among len_is is end_is header_is room_is same =
+state_added state key buffer middle after parts new received room end new_end header new_header fragment state_is among len_is is end_is
+    header_is room_is same =
     let old : State = payload_state key buffer parts end in
-    let payload_is : drop (header_room key) after ≡ drop (header_room key) middle = subst (λ n. drop n after ≡ drop n middle) room_is same in
+    let payload_is : drop (header_room key) after ≡ drop (header_room key) middle =
+    subst (λ n. drop n after ≡ drop n middle) room_is same in
     let by : List ℕ → State = λ (b : List ℕ). record { key = key; room = length b; pieces = pieces_in b new; end = new_end } in
     let header_by : new_header ≡ header_of header (header_room key) fragment = header_is ∙ ap (λ n. header_of header n fragment) room_is in
     let payload_by : payload_state key middle new new_end ≡ payloads.with_fragment old fragment =
-    added_is old key (length (drop (header_room key) buffer)) (length (drop (header_room key) middle)) (pieces_in (drop (header_room key) buffer) parts)
+    added_is old key (length (drop (header_room key) buffer)) (length (drop (header_room key) middle))
+    (pieces_in (drop (header_room key) buffer) parts)
     (pieces_in (drop (header_room key) middle) new) end new_end fragment refl among is.room is.pieces end_is in
     ap (λ (n : ℕ). packet_state n new_header (payload_state key after new new_end)) len_is
     ∙ ap (λ (b : List ℕ). packet_state (length buffer) new_header (by b)) payload_is
     ∙ ap (λ (h : List ℕ). packet_state (length buffer) h (payload_state key middle new new_end)) header_by
-    ∙ ap (λ (b : Bool). packet_state (length buffer) (if b then header else header_of header (header_room key) fragment) (payload_state key middle new new_end))
+    ∙ ap (λ (b : Bool). packet_state (length buffer) (if b then header else header_of header (header_room key) fragment)
+    (payload_state key middle new new_end))
     (sym among)
     ∙ ap (λ (p : State). packet_state (length buffer) (header_with (packet_state (length buffer) header old) fragment) p) payload_by
     ∙ ap (λ (state : PacketState). with_fragment state fragment) state_is
@@ -215,13 +239,15 @@ write_fits key buffer parts end fragment room offset accepted room_is offset_is 
 
 -- the headers of the whole packet are written so that they end where the room ends
 pub front_written : (room received : ℕ) (buffer after header front bytes : List ℕ) (end : Option ℕ) (len : ℕ)
-    → end ≡ Some received → HasWholeHeader header received → front ≡ whole_header header received → length front ≤ room → room ≤ length buffer
+    → end ≡ Some received → HasWholeHeader header received → front ≡ whole_header header received → length front ≤ room
+    → room ≤ length buffer
     → bytes ≡ front → len ≡ length front → after ≡ put_mid (room - len) (length bytes) buffer bytes
     → (drop room after ≡ drop room buffer) × HasFront room after header end received (room - len)
 front_written room received buffer after header front bytes end len complete has front_is fits long bytes_are len_is after_is =
     let count : length bytes ≡ len = ap length bytes_are ∙ sym len_is in
     let left : room - (room - len) ≡ len = omega (arith, fits, len_is) in (
-      ap (drop room) after_is ∙ drop-put_mid (room - len) (length bytes) buffer bytes room (omega (arith, fits, len_is, count)) (omega (arith, long)) refl,
+      ap (drop room) after_is ∙ drop-put_mid (room - len) (length bytes) buffer bytes room (omega (arith, fits, len_is, count))
+          (omega (arith, long)) refl,
       record {
         is_complete = complete;
         within = omega arith;
@@ -235,7 +261,8 @@ front_written room received buffer after header front bytes end len complete has
 -- ---- the packet
 
 -- there is no packet if its headers were not written
-pub no_packet : (state : PacketState) (key : FragmentKey) (buffer : List ℕ) (parts : List Part) (received : ℕ) (end : Option ℕ) (header : List ℕ)
+pub no_packet : (state : PacketState) (key : FragmentKey) (buffer : List ℕ) (parts : List Part) (received : ℕ) (end : Option ℕ)
+    (header : List ℕ)
     → (start : Option ℕ) → IsKept key buffer parts received end header start → start ≡ None
     → packet_state (length buffer) header (payload_state key buffer parts end) ≡ state → HasPacket state → ⊥
 no_packet state key buffer parts received end header start kept none state_is has =
@@ -246,13 +273,15 @@ no_packet state key buffer parts received end header start kept none state_is ha
     subst (λ start. IsFront (header_room key) buffer header end received start) none kept.front in
     none_has is (subst (λ n. HasWholeHeader header n) (ap (λ end. unwrap_or end 0) is) own.1)
 
-kept_front : (key : FragmentKey) (buffer : List ℕ) (parts : List Part) (received : ℕ) (end : Option ℕ) (header : List ℕ) (start : Option ℕ) (place : ℕ)
+kept_front : (key : FragmentKey) (buffer : List ℕ) (parts : List Part) (received : ℕ) (end : Option ℕ) (header : List ℕ) (start : Option ℕ)
+    (place : ℕ)
     → IsKept key buffer parts received end header start → start ≡ Some place → HasFront (header_room key) buffer header end received place
 kept_front key buffer parts received end header start place kept start_is =
     subst (λ start. IsFront (header_room key) buffer header end received start) start_is kept.front
 
 -- there is a packet if they were written
-pub has_packet : (state : PacketState) (key : FragmentKey) (buffer : List ℕ) (parts : List Part) (received : ℕ) (end : Option ℕ) (header : List ℕ)
+pub has_packet : (state : PacketState) (key : FragmentKey) (buffer : List ℕ) (parts : List Part) (received : ℕ) (end : Option ℕ)
+    (header : List ℕ)
     → (start : Option ℕ) (place : ℕ) → IsKept key buffer parts received end header start → start ≡ Some place
     → packet_state (length buffer) header (payload_state key buffer parts end) ≡ state → HasPacket state
 has_packet state key buffer parts received end header start place kept start_is state_is =
@@ -279,7 +308,8 @@ packet_fits key buffer parts received room end header start place kept start_is 
       length-drop (header_room key) buffer,
     )
 
-pub packet_is : (state : PacketState) (key : FragmentKey) (buffer : List ℕ) (parts : List Part) (received room : ℕ) (end : Option ℕ) (header : List ℕ)
+pub packet_is : (state : PacketState) (key : FragmentKey) (buffer : List ℕ) (parts : List Part) (received room : ℕ) (end : Option ℕ)
+    (header : List ℕ)
     → (start : Option ℕ) (place : ℕ) → IsKept key buffer parts received end header start → start ≡ Some place → room ≡ header_room key
     → packet_state (length buffer) header (payload_state key buffer parts end) ≡ state
     → IsPacket state (take (room + received - place) (drop place buffer))

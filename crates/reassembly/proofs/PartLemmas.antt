@@ -74,14 +74,16 @@ no_overlap (first ∷ pieces) piece none new =
 
 -- ---- parts
 
-pub piece_len : (buffer : List ℕ) (part : Part) → part.offset + part.len ≤ length buffer → length (take part.len (drop part.offset buffer)) ≡ part.len
+pub piece_len : (buffer : List ℕ) (part : Part) → part.offset + part.len ≤ length buffer
+    → length (take part.len (drop part.offset buffer)) ≡ part.len
 piece_len buffer part fits = length-take-le part.len (drop part.offset buffer) (omega (arith, fits, length-drop part.offset buffer))
 
 pub reaches_parts : (buffer : List ℕ) (parts : List Part) (place : ℕ) → All (Fits buffer) parts
     → part_reaches place parts ≡ reaches place (pieces_in buffer parts)
 reaches_parts buffer [] place fit = refl
 reaches_parts buffer (part ∷ parts) place fit =
-    ap (λ len. nat_le place (part.offset + len) || part_reaches place parts) (sym (piece_len buffer part (All-head (Fits buffer) part parts fit)))
+    ap (λ len. nat_le place (part.offset + len) || part_reaches place parts)
+    (sym (piece_len buffer part (All-head (Fits buffer) part parts fit)))
     ∙ ap (λ b. nat_le place (end_of (piece_in buffer part)) || b) (reaches_parts buffer parts place (All-tail (Fits buffer) part parts fit))
 
 -- ---- a piece that is written into the buffer
@@ -104,7 +106,8 @@ written_part buffer bytes offset start len room fits (inl before) =
 written_part buffer bytes offset start len room fits (inr after) =
     ap (take len) (drop-put_mid offset (length bytes) buffer bytes start after (omega (arith, room)) refl)
 
-pub written_pieces : (buffer bytes : List ℕ) (offset : ℕ) (parts : List Part) → offset + length bytes ≤ length buffer → All (Fits buffer) parts
+pub written_pieces : (buffer bytes : List ℕ) (offset : ℕ) (parts : List Part) → offset + length bytes ≤ length buffer
+    → All (Fits buffer) parts
     → list_any (overlaps (record { offset = offset; bytes = bytes })) (pieces_in buffer parts) ≡ false
     → pieces_in (put_mid offset (length bytes) buffer bytes) parts ≡ pieces_in buffer parts
 written_pieces buffer bytes offset [] room fit apart = refl
@@ -112,11 +115,13 @@ written_pieces buffer bytes offset (part ∷ parts) room fit apart =
     let none = or_false (overlaps (record { offset = offset; bytes = bytes }) (piece_in buffer part))
     (list_any (overlaps (record { offset = offset; bytes = bytes })) (pieces_in buffer parts)) apart in
     let fits : part.offset + part.len ≤ length buffer = All-head (Fits buffer) part parts fit in
-    let sides = below_or_above offset (part.offset + length (take part.len (drop part.offset buffer))) part.offset (offset + length bytes) none.0 in
+    let sides = below_or_above offset (part.offset + length (take part.len (drop part.offset buffer))) part.offset
+    (offset + length bytes) none.0 in
     let Sides : ℕ → Type 0 = λ len. (part.offset + len ≤ offset) ⊎ (offset + length bytes ≤ part.offset) in
     let bytes_are = written_part buffer bytes offset part.offset part.len room fits (subst Sides (piece_len buffer part fits) sides) in
     ap (λ front. record { offset = part.offset; bytes = front } ∷ pieces_in (put_mid offset (length bytes) buffer bytes) parts) bytes_are
-    ∙ ap (λ rest. piece_in buffer part ∷ rest) (written_pieces buffer bytes offset parts room (All-tail (Fits buffer) part parts fit) none.1)
+    ∙ ap (λ rest. piece_in buffer part ∷ rest)
+    (written_pieces buffer bytes offset parts room (All-tail (Fits buffer) part parts fit) none.1)
 
 written_new : (buffer bytes : List ℕ) (offset : ℕ) → offset + length bytes ≤ length buffer
     → take (length bytes) (drop offset (put_mid offset (length bytes) buffer bytes)) ≡ bytes
@@ -125,7 +130,8 @@ written_new buffer bytes offset room =
     ap (λ n. take n (drop offset (put_mid offset (length bytes) buffer bytes))) (sym len)
     ∙ between-put_mid offset (length bytes) buffer bytes (offset + length bytes) (omega (arith, room)) (sym len)
 
-pub pieces_after : (buffer bytes : List ℕ) (offset : ℕ) (parts : List Part) → offset + length bytes ≤ length buffer → All (Fits buffer) parts
+pub pieces_after : (buffer bytes : List ℕ) (offset : ℕ) (parts : List Part) → offset + length bytes ≤ length buffer
+    → All (Fits buffer) parts
     → list_any (overlaps (record { offset = offset; bytes = bytes })) (pieces_in buffer parts) ≡ false
     → pieces_in (put_mid offset (length bytes) buffer bytes) (parts ++ record { offset = offset; len = length bytes } ∷ [])
     ≡ pieces_in buffer parts ++ record { offset = offset; bytes = bytes } ∷ []
@@ -153,4 +159,5 @@ pub fit_after : (buffer bytes : List ℕ) (offset : ℕ) (parts : List Part) →
 fit_after buffer bytes offset parts room fit =
     let after : List ℕ = put_mid offset (length bytes) buffer bytes in
     let P : ℕ → Type 0 = λ len. All (EndsWithin len) (parts ++ record { offset = offset; len = length bytes } ∷ []) in
-    subst P (sym (length_after buffer bytes offset room)) (All-push (Fits buffer) parts (record { offset = offset; len = length bytes }) fit room)
+    subst P (sym (length_after buffer bytes offset room))
+    (All-push (Fits buffer) parts (record { offset = offset; len = length bytes }) fit room)

@@ -20,14 +20,16 @@ min_is a b = by (nat_le a b) refl
     by false is = let below : b < a = grind (arith, nat_tests, is) in inr (omega (arith, below))
 
 -- the least time is the first, or one of the others
-attained : (others : List Waiting) (time : ℕ) → (fold earlier time others ≡ time) ⊎ (list_any (begun_at (fold earlier time others)) others ≡ true)
+attained : (others : List Waiting) (time : ℕ)
+    → (fold earlier time others ≡ time) ⊎ (list_any (begun_at (fold earlier time others)) others ≡ true)
 attained [] time = inl refl
 attained (first ∷ others) time = by (attained others (min time first.since)) (min_is time first.since)
   where
     least : ℕ
     least = fold earlier (min time first.since) others
 
-    by : (least ≡ min time first.since) ⊎ (list_any (begun_at least) others ≡ true) → (min time first.since ≡ time) ⊎ (min time first.since ≡ first.since)
+    by : (least ≡ min time first.since) ⊎ (list_any (begun_at least) others ≡ true)
+        → (min time first.since ≡ time) ⊎ (min time first.since ≡ first.since)
         → (least ≡ time) ⊎ ((begun_at least first || list_any (begun_at least) others) ≡ true)
     by (inl is) (inl before) = inl (is ∙ before)
     by (inl is) (inr after) =
@@ -51,5 +53,6 @@ some_oldest first others none = by (attained others first.since)
     or_of false b none is = cc (none, is)
 
     by : (least ≡ first.since) ⊎ (list_any (begun_at least) others ≡ true) → ⊥
-    by (inl is) = both (begun_at least first) (list_any (begun_at least) others) none (ap (λ n. first.since == n) is ∙ same_number first.since)
+    by (inl is) = both (begun_at least first) (list_any (begun_at least) others) none
+        (ap (λ n. first.since == n) is ∙ same_number first.since)
     by (inr later) = or_of (begun_at least first) (list_any (begun_at least) others) none later

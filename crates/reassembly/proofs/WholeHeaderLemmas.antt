@@ -29,7 +29,8 @@ same_some a b is = cc is
 some_is_none : (a : FragmentPlace) → Some a ≡ None → ⊥
 some_is_none a is = cc is
 
-pub has_ipv6 : (headers : List ℕ) (payload_len : ℕ) (found : FragmentPlace) → BeginsWithIpv6Header headers → Some found ≡ fragment_header_in headers
+pub has_ipv6 : (headers : List ℕ) (payload_len : ℕ) (found : FragmentPlace) → BeginsWithIpv6Header headers
+    → Some found ≡ fragment_header_in headers
     → found.place ≤ 256 → found.place - 40 + payload_len ≤ 65535 → HasIpv6Header headers payload_len
 has_ipv6 headers payload_len found begins found_is short fits =
     record { begins = begins; found = found; is_found = sym found_is; short = short; fits = fits }
@@ -59,11 +60,13 @@ pub payload_short : (header : List ℕ) (payload_len : ℕ) → HasWholeHeader h
 payload_short header payload_len (inl has) = omega (arith, has.fits)
 payload_short header payload_len (inr has) = omega (arith, has.fits)
 
-pub only_ipv6 : (header : List ℕ) (payload_len : ℕ) → version header ≢ 4 → HasWholeHeader header payload_len → HasIpv6Header header payload_len
+pub only_ipv6 : (header : List ℕ) (payload_len : ℕ) → version header ≢ 4 → HasWholeHeader header payload_len
+    → HasIpv6Header header payload_len
 only_ipv6 header payload_len other (inl has) = absurd (other has.begins.is_version_4)
 only_ipv6 header payload_len other (inr has) = has
 
-pub only_ipv4 : (header : List ℕ) (payload_len : ℕ) → version header ≡ 4 → HasWholeHeader header payload_len → HasIpv4Header header payload_len
+pub only_ipv4 : (header : List ℕ) (payload_len : ℕ) → version header ≡ 4 → HasWholeHeader header payload_len
+    → HasIpv4Header header payload_len
 only_ipv4 header payload_len is (inl has) = has
 only_ipv4 header payload_len is (inr has) = absurd (two_versions (version header) is has.begins.is_version_6)
   where

@@ -24,7 +24,8 @@ reassembly_text (LengthNotMultipleOf8 len) = concat (
 reassembly_text (TooLong end) = concat (
     codes "Reassembly Error: the fragment ends at " ∷ decimal end ∷ codes ", which is above 65535." ∷ [])
 reassembly_text (BufferTooSmall required_len len) = concat (
-    codes "Reassembly Error: the fragment ends at " ∷ decimal required_len ∷ codes ", and the buffer has room for " ∷ decimal len ∷ codes " bytes."
+    codes "Reassembly Error: the fragment ends at " ∷ decimal required_len ∷ codes ", and the buffer has room for " ∷ decimal len
+    ∷ codes " bytes."
     ∷ [])
 reassembly_text OtherEnd = codes "Reassembly Error: two last fragments end at different places."
 reassembly_text BehindEnd = codes "Reassembly Error: a fragment does not end before the last."

@@ -10,4 +10,5 @@ returns-clause-there c =
 
 pub returns-clause-given_back : goal.returns-clause-given_back
 returns-clause-given_back c =
-    λ key len packet result fragments arrivals cut fits from all is. (packet_given_back key len packet fragments arrivals cut fits from all).1 result is
+    λ key len packet result fragments arrivals cut fits from all is.
+    (packet_given_back key len packet fragments arrivals cut fits from all).1 result is

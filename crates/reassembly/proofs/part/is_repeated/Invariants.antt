@@ -6,4 +6,5 @@ use Rattle.reassembly.proofs.part.is_repeated.Given as goal
 
 abbrev pub invariant-loop-part : goal.invariant-loop-part
 invariant-loop-part l =
-    l.is_repeated ≡ list_any (λ part. is_same (record { offset = l.offset; bytes = l.bytes }) (piece_in l.buffer part)) (take l.part-index l.parts)
+    l.is_repeated ≡ list_any (λ part. is_same (record { offset = l.offset; bytes = l.bytes }) (piece_in l.buffer part))
+    (take l.part-index l.parts)

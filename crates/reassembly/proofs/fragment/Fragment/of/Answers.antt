@@ -11,14 +11,16 @@ fragment_over_ipv4-requires c =
     let packet = c.args.packet.now in
     let len_is : c.in-Ok.transport.counted_len ≡ counted_len false packet =
     c.in-Ok.ensures.found.counted_len ∙ ap (λ missing. counted_len missing packet) c.in-Ok.ensures.stated in
-    subst (λ n. BeginsWithIpv4Header (take n packet)) (sym len_is) (begins_with_ipv4 packet c.in-Ok.ensures.refused (equal_four packet c.if-packet-eq4.true))
+    subst (λ n. BeginsWithIpv4Header (take n packet)) (sym len_is)
+    (begins_with_ipv4 packet c.in-Ok.ensures.refused (equal_four packet c.if-packet-eq4.true))
 
 pub fragment_over_ipv6-fragment-requires : goal.fragment_over_ipv6-fragment-requires
 fragment_over_ipv6-fragment-requires c =
     let packet = c.args.packet.now in
     let len_is : c.in-Ok.transport.counted_len ≡ counted_len false packet =
     c.in-Ok.ensures.found.counted_len ∙ ap (λ missing. counted_len missing packet) c.in-Ok.ensures.stated in
-    subst (λ n. BeginsWithIpv6Header (take n packet)) (sym len_is) (begins_with_ipv6 packet c.in-Ok.ensures.refused (other_than_four packet c.if-packet-eq4.false))
+    subst (λ n. BeginsWithIpv6Header (take n packet)) (sym len_is)
+    (begins_with_ipv6 packet c.in-Ok.ensures.refused (other_than_four packet c.if-packet-eq4.false))
 
 pub returns-clause-refused : goal.returns-clause-refused
 returns-clause-refused c =
@@ -27,7 +29,8 @@ returns-clause-refused c =
     let other : (version packet == 4) ≡ false = other_than_four packet c.if-packet-eq4.false in
     let len_is : c.in-Ok.transport.counted_len ≡ counted_len false packet =
     found.found.counted_len ∙ ap (λ missing. counted_len missing packet) found.stated in
-    let read : headers_of false packet ≡ Ok found.found.headers = sym (ap (λ missing. headers_of missing packet) found.stated) ∙ found.found.read in
+    let read : headers_of false packet ≡ Ok found.found.headers =
+    sym (ap (λ missing. headers_of missing packet) found.stated) ∙ found.found.read in
     let payload_is : c.in-Ok.transport.payload.now ≡ drop found.found.headers.len (counted false packet) =
     found.found.payload ∙ ap (λ missing. drop found.found.headers.len (counted missing packet)) found.stated in
     let fragment_is : fragment_of packet ≡ option_map by_value c.fragment_over_ipv6-fragment.result =

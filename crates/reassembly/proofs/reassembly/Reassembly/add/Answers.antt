@@ -16,14 +16,16 @@ invariant_of-self c =
     ap (λ (state : PacketState). refusal state.payload fragment) c.self.view_is ∙ c.in_ok-is_repetition.ensures.refused in
     packet_repeated r.key r.buffer.now c.write_front-self-inside.new.buffer r.parts.items r.received c.header_room-room.result r.end
     c.end_with-self-inside.result r.header.items r.start c.write_front-self-inside.result fragment c.self.invariant accepted
-    c.end_with-self-inside.ensures c.header_room-room.ensures.room c.write_front-self-inside.ensures.payload c.write_front-self-inside.ensures.written
+    c.end_with-self-inside.ensures c.header_room-room.ensures.room c.write_front-self-inside.ensures.payload
+    c.write_front-self-inside.ensures.written
 
 pub returns-then-is_repetition-clause-progress : goal.returns-then-is_repetition-clause-progress
 returns-then-is_repetition-clause-progress c =
     let r = c.self.inside in
     let buffer = drop (header_room r.key) c.write_front-self-inside.new.buffer in
     let kept = (invariant_of-self c).payload in (
-      λ is. complete_by buffer r.parts.items r.received c.end_with-self-inside.result r.key (length buffer) kept (c.progress_of.ensures.0 is),
+      λ is. complete_by buffer r.parts.items r.received c.end_with-self-inside.result r.key (length buffer) kept
+          (c.progress_of.ensures.0 is),
       λ complete. c.progress_of.ensures.1
           (by_complete buffer r.parts.items r.received c.end_with-self-inside.result r.key (length buffer) kept complete),
     )
@@ -35,7 +37,8 @@ write_payload-requires c =
     let accepted : IsAccepted r.key r.buffer.now r.parts.items r.end fragment =
     ap (λ (state : PacketState). refusal state.payload fragment) c.self.view_is ∙ c.in_ok-is_repetition.ensures.refused in
     let offset_is : c.from-offset.result ≡ c.args.fragment.now.offset = search rules in
-    write_fits r.key r.buffer.now r.parts.items r.end fragment c.header_room-room.result c.from-offset.result accepted c.header_room-room.ensures.room
+    write_fits r.key r.buffer.now r.parts.items r.end fragment c.header_room-room.result c.from-offset.result accepted
+    c.header_room-room.ensures.room
     offset_is
 
 pub push-requires : goal.push-requires
@@ -45,7 +48,8 @@ push-requires c =
     let accepted : IsAccepted r.key r.buffer.now r.parts.items r.end fragment =
     ap (λ (state : PacketState). refusal state.payload fragment) c.self.view_is ∙ c.in_ok-is_repetition.ensures.refused in
     let among : is_among (pieces_in (drop (header_room r.key) r.buffer.now) r.parts.items) (piece_of fragment) ≡ false =
-    ap (λ (state : PacketState). is_among state.payload.pieces (piece_of fragment)) c.self.view_is ∙ sym c.in_ok-is_repetition.ensures.repeated
+    ap (λ (state : PacketState). is_among state.payload.pieces (piece_of fragment)) c.self.view_is
+    ∙ sym c.in_ok-is_repetition.ensures.repeated
     ∙ c.if-is_repetition.false in
     let rule = accepted_by (payload_state r.key r.buffer.now r.parts.items r.end) fragment accepted in
     (omega arith, (new_piece (drop (header_room r.key) r.buffer.now) r.parts.items (piece_of fragment) rule.2 among).1)
@@ -67,13 +71,16 @@ invariant_of-self-2 c =
     let accepted : IsAccepted r.key r.buffer.now r.parts.items r.end fragment =
     ap (λ (state : PacketState). refusal state.payload fragment) c.self.view_is ∙ c.in_ok-is_repetition.ensures.refused in
     let among : is_among (pieces_in (drop (header_room r.key) r.buffer.now) r.parts.items) (piece_of fragment) ≡ false =
-    ap (λ (state : PacketState). is_among state.payload.pieces (piece_of fragment)) c.self.view_is ∙ sym c.in_ok-is_repetition.ensures.repeated
+    ap (λ (state : PacketState). is_among state.payload.pieces (piece_of fragment)) c.self.view_is
+    ∙ sym c.in_ok-is_repetition.ensures.repeated
     ∙ c.if-is_repetition.false in
     let offset_is : c.from-offset.result ≡ c.args.fragment.now.offset = search rules in
-    let written = packet_written r.key r.buffer.now c.write_payload.new.buffer r.parts.items c.push.new.self.items r.received c.from-offset.result
+    let written = packet_written r.key r.buffer.now c.write_payload.new.buffer r.parts.items c.push.new.self.items r.received
+    c.from-offset.result
     c.header_room-room.result r.end c.end_with-self-inside.result r.header.items r.start fragment c.self.invariant accepted among offset_is
     c.push.ensures.items c.end_with-self-inside.ensures c.header_room-room.ensures.room c.write_payload.ensures in
-    packet_kept r.key r.buffer.now c.write_payload.new.buffer c.write_front-self-inside-2.new.buffer r.parts.items c.push.new.self.items r.received
+    packet_kept r.key r.buffer.now c.write_payload.new.buffer c.write_front-self-inside-2.new.buffer r.parts.items c.push.new.self.items
+    r.received
     c.header_room-room.result r.end c.end_with-self-inside.result r.header.items c.keep_header.new.header.items r.start
     c.write_front-self-inside-2.result fragment c.self.invariant accepted written c.end_with-self-inside.ensures c.keep_header.ensures
     c.header_room-room.ensures.room c.write_front-self-inside-2.ensures.payload c.write_front-self-inside-2.ensures.written
@@ -85,14 +92,17 @@ returns-clause-added c =
     let accepted : IsAccepted r.key r.buffer.now r.parts.items r.end fragment =
     ap (λ (state : PacketState). refusal state.payload fragment) c.self.view_is ∙ c.in_ok-is_repetition.ensures.refused in
     let among : is_among (pieces_in (drop (header_room r.key) r.buffer.now) r.parts.items) (piece_of fragment) ≡ false =
-    ap (λ (state : PacketState). is_among state.payload.pieces (piece_of fragment)) c.self.view_is ∙ sym c.in_ok-is_repetition.ensures.repeated
+    ap (λ (state : PacketState). is_among state.payload.pieces (piece_of fragment)) c.self.view_is
+    ∙ sym c.in_ok-is_repetition.ensures.repeated
     ∙ c.if-is_repetition.false in
     let offset_is : c.from-offset.result ≡ c.args.fragment.now.offset = search rules in
-    let written = packet_written r.key r.buffer.now c.write_payload.new.buffer r.parts.items c.push.new.self.items r.received c.from-offset.result
+    let written = packet_written r.key r.buffer.now c.write_payload.new.buffer r.parts.items c.push.new.self.items r.received
+    c.from-offset.result
     c.header_room-room.result r.end c.end_with-self-inside.result r.header.items r.start fragment c.self.invariant accepted among offset_is
     c.push.ensures.items c.end_with-self-inside.ensures c.header_room-room.ensures.room c.write_payload.ensures in
     state_added c.args.self.now r.key r.buffer.now c.write_payload.new.buffer c.write_front-self-inside-2.new.buffer r.parts.items
-    c.push.new.self.items r.received c.header_room-room.result r.end c.end_with-self-inside.result r.header.items c.keep_header.new.header.items fragment
+    c.push.new.self.items r.received c.header_room-room.result r.end c.end_with-self-inside.result r.header.items
+    c.keep_header.new.header.items fragment
     c.self.view_is among (c.write_front-self-inside-2.auto.buffer ∙ c.write_payload.auto.buffer) written c.end_with-self-inside.ensures
     c.keep_header.ensures c.header_room-room.ensures.room c.write_front-self-inside-2.ensures.payload
 
@@ -101,9 +111,11 @@ returns-clause-progress c =
     let r = c.self.inside in
     let buffer = drop (header_room r.key) c.write_front-self-inside-2.new.buffer in
     let kept = (invariant_of-self-2 c).payload in (
-      λ is. complete_by buffer c.push.new.self.items (r.received + length c.args.fragment.now.payload.now) c.end_with-self-inside.result r.key
+      λ is. complete_by buffer c.push.new.self.items
+          (r.received + length c.args.fragment.now.payload.now) c.end_with-self-inside.result r.key
           (length buffer) kept (c.progress_of-2.ensures.0 is),
       λ complete. c.progress_of-2.ensures.1
-          (by_complete buffer c.push.new.self.items (r.received + length c.args.fragment.now.payload.now) c.end_with-self-inside.result r.key
+          (by_complete buffer c.push.new.self.items
+          (r.received + length c.args.fragment.now.payload.now) c.end_with-self-inside.result r.key
           (length buffer) kept complete),
     )

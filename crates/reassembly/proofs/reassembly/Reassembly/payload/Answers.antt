@@ -10,7 +10,8 @@ returns-then-self-len-clause-found c =
     let r = c.self.inside in
     let buffer : List ℕ = drop (header_room r.key) r.buffer.now in (
       λ is. absurd (cc is),
-      λ complete. absurd (c.if-self-len.true (not_complete buffer r.parts.items r.received c.in_ok-len.len r.end r.key (length buffer) c.self.invariant.payload
+      λ complete. absurd (c.if-self-len.true (not_complete buffer r.parts.items r.received c.in_ok-len.len r.end r.key
+          (length buffer) c.self.invariant.payload
           c.in_ok-len.was (subst (λ s. IsComplete s.payload) (sym c.self.view_is) complete))),
     )
 
@@ -27,7 +28,8 @@ returns-clause-found c =
     let r = c.self.inside in
     let buffer : List ℕ = drop (header_room r.key) r.buffer.now in
     let is : r.end ≡ Some r.received = c.in_ok-len.was ∙ ap (λ n. Some n) (sym c.if-self-len.false) in (
-      λ _. subst (λ s. IsComplete s.payload) c.self.view_is (complete_by buffer r.parts.items r.received r.end r.key (length buffer) c.self.invariant.payload is),
+      λ _. subst (λ s. IsComplete s.payload) c.self.view_is
+          (complete_by buffer r.parts.items r.received r.end r.key (length buffer) c.self.invariant.payload is),
       λ _. refl,
     )
 
