@@ -612,6 +612,81 @@ export function flow(packet) {
     return { ends: endsOf(ends), quoted: quoted.version === 0 ? null : endsOf(quoted) };
 }
 
+/**
+ * @typedef {object} Fragment  A fragment of an IP packet. All fragments of one packet share the version, the addresses, the identification,
+ *     and over IPv4 the protocol.
+ * @property {4 | 6} version
+ * @property {string} source  in the IP header
+ * @property {string} destination  in the IP header
+ * @property {number | null} protocol  in the IPv4 header. `null` over IPv6, where the fragments of one packet may differ in it.
+ * @property {number} identification
+ * @property {number} offset  the place of the payload in the payload of the whole packet, in bytes
+ * @property {boolean} moreFragments
+ * @property {Uint8Array} payload  without padding
+ * @property {number} payloadOffset  the place of the payload in the packet, in bytes
+ */
+
+/**
+ * Reads the fragment in an IP packet. If an IPv6 packet has several fragment headers, the first is read.
+ *
+ * @param {Uint8Array} packet
+ * @returns {Fragment}
+ * @throws {EtherparseError} if the packet is refused, cut off or whole, or if its first fragment over IPv6 ends within the transport header
+ */
+export function readFragment(packet) {
+    read("etherparse_fragment_read", packet, "packet");
+    const found = getFragment(base + RESULT_PLACE);
+    const { version, identification, offset, payloadOffset } = found;
+    return {
+        version,
+        source: addressOf(version, found.source),
+        destination: addressOf(version, found.destination),
+        protocol: version === 4 ? found.protocol : null,
+        identification,
+        offset,
+        moreFragments: found.moreFragments !== 0,
+        payload: inputPart(payloadOffset, found.payloadLen),
+        payloadOffset,
+    };
+}
+
+/** Enough room to put any packet together, and the longest packet that is put together, in bytes. */
+const REASSEMBLY_ROOM_LEN = 65791;
+const REASSEMBLY_PACKET_LEN = 65575;
+
+/** The number of bytes of a length. */
+const SIZE_LEN = 8;
+
+/**
+ * Returns the packet that is put together from its fragments: IP packets, in any order and possibly repeated.
+ *
+ * @param {Uint8Array[]} fragments
+ * @returns {Uint8Array}
+ * @throws {EtherparseError} with the status `REASSEMBLY_INCOMPLETE` if bytes of the payload are missing. Also if a packet is not a fragment,
+ *     if a fragment belongs to another packet or does not agree with another fragment, or if the whole packet has no room for its headers.
+ */
+export function reassemble(fragments) {
+    for (const fragment of fragments) requireBytes(fragment, "fragment");
+    const total = fragments.reduce((sum, { length }) => sum + length, 0);
+    const packets = fragments.length * SIZE_LEN;
+    const room = packets + total;
+    const buffer = room + REASSEMBLY_ROOM_LEN;
+    // The memory begins with the lengths, so that they are aligned.
+    makeRoom(buffer + REASSEMBLY_PACKET_LEN);
+    let place = packets;
+    fragments.forEach((fragment, index) => {
+        view.setBigUint64(base + INPUT_PLACE + index * SIZE_LEN, BigInt(fragment.length), true);
+        bytes.set(fragment, base + INPUT_PLACE + place);
+        place += fragment.length;
+    });
+    const at = (offset) => input + BigInt(offset);
+    const [roomLength, bufferLength] = [REASSEMBLY_ROOM_LEN, REASSEMBLY_PACKET_LEN].map(BigInt);
+    check(calls.etherparse_reassembly_packet(
+        at(packets), BigInt(total), input, BigInt(fragments.length), at(room), roomLength, at(buffer), bufferLength, result, error,
+    ));
+    return inputPart(buffer, getSize(base + RESULT_PLACE));
+}
+
 /** The longest IP header that a call writes, that of IPv6, in bytes. */
 const IP_HEADER_LEN = 40;
 

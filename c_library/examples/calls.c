@@ -1118,6 +1118,111 @@ static void maximum_segment_sizes(void)
     REFUSED(etherparse_maximum_segment_size_lower(packet, 19, 536, &size, &error), ETHERPARSE_STATUS_IP_HEADER_CUT_OFF);
 }
 
+/* Two fragments of a UDP packet over IPv4 from 10.0.0.1 to 10.0.0.2, with identification 7: 8 bytes, and 1 byte. */
+static const uint8_t two_fragments[49] = {
+    0x45, 0, 0, 28, 0, 7, 0x20, 0, 64, 17, 0, 0, 10, 0, 0, 1, 10, 0, 0, 2, 0, 1, 0, 2, 0, 9, 0x73, 0xD6,
+    0x45, 0, 0, 21, 0, 7, 0, 1, 64, 17, 0, 0, 10, 0, 0, 1, 10, 0, 0, 2, 'x'
+};
+
+/* The fragment in a packet: its fields, padding that does not count, and packets that are no fragment. */
+static void fragments_read(void)
+{
+    static const uint8_t source[16] = {10, 0, 0, 1}, destination[16] = {10, 0, 0, 2};
+    uint8_t ipv6_fragment[56] = {0x60, 0, 0, 0, 0, 16, 44, 64, 0x20, 1, [23] = 1, [24] = 0x20, [25] = 1, [39] = 2,
+                             [40] = 17, 0, 0, 9, 1, 2, 3, 4, 'a', 'b', 'c', 'd', 'e', 'f', 'g', 'h'};
+    etherparse_fragment fragment;
+    clear();
+    memset(&fragment, 0x77, sizeof fragment);
+    OK(etherparse_fragment_read(two_fragments, 49, &fragment, &error));
+    EXPECT(fragment.version == 4 && fragment.protocol == 17 && fragment.identification == 7 && fragment.offset == 0);
+    EXPECT(fragment.more_fragments == 1 && fragment.payload_offset == 20 && fragment.payload_len == 8);
+    EXPECT(memcmp(fragment.source, source, 16) == 0 && memcmp(fragment.destination, destination, 16) == 0);
+    OK(etherparse_fragment_read(two_fragments + 28, 21, &fragment, &error));
+    EXPECT(fragment.offset == 8 && fragment.more_fragments == 0 && fragment.payload_len == 1);
+    OK(etherparse_fragment_read(ipv6_fragment, 56, &fragment, &error));
+    EXPECT(fragment.version == 6 && fragment.protocol == 0 && fragment.identification == 0x01020304 && fragment.offset == 8);
+    EXPECT(fragment.more_fragments == 1 && fragment.payload_offset == 48 && fragment.payload_len == 8 && error_is_untouched());
+    ipv6_fragment[43] = 1;
+    ipv6_fragment[5] = 15;
+    REFUSED(etherparse_fragment_read(ipv6_fragment, 56, &fragment, &error), ETHERPARSE_STATUS_REASSEMBLY_HEADER_CHAIN_CUT_OFF);
+    EXPECT(error.required_len == 8 && error.len == 7 && fragment.payload_offset == 48);
+    ipv6_fragment[43] = 0;
+    REFUSED(etherparse_fragment_read(ipv6_fragment, 56, &fragment, &error), ETHERPARSE_STATUS_REASSEMBLY_NO_FRAGMENT);
+    REFUSED(etherparse_fragment_read(two_fragments, 27, &fragment, &error), ETHERPARSE_STATUS_IP_PACKET_CUT_OFF);
+}
+
+/* Puts the fragments in these packets together, which must be refused with this status. */
+#define NOT_JOINED(packets, lens, count, room_len, buffer_len, wanted)                                                           \
+    REFUSED(etherparse_reassembly_packet(packets, sizeof packets, lens, count, room, room_len, buffer, buffer_len, &written, &error), \
+            wanted)
+
+/* A byte of the third or fourth of four fragments, another value for it, and the status of the refusal. */
+static const struct {
+    size_t place;
+    uint8_t value;
+    etherparse_status wanted;
+} wrong_fragments[] = {
+    {54, 8, ETHERPARSE_STATUS_REASSEMBLY_OTHER_KEY},        {52, 20, ETHERPARSE_STATUS_REASSEMBLY_EMPTY},
+    {52, 27, ETHERPARSE_STATUS_REASSEMBLY_FRAGMENT_LENGTH}, {55, 0, ETHERPARSE_STATUS_REASSEMBLY_NO_FRAGMENT},
+    {69, 9, ETHERPARSE_STATUS_REASSEMBLY_OVERLAP},          {56, 1, ETHERPARSE_STATUS_REASSEMBLY_BEHIND_END},
+    {84, 2, ETHERPARSE_STATUS_REASSEMBLY_OTHER_END},        {83, 0x1F, ETHERPARSE_STATUS_REASSEMBLY_OTHER_END}
+};
+
+/* Each of these fragments is refused. */
+static void packets_not_put_together(uint8_t packets[98], const size_t lens[4], uint8_t room[69])
+{
+    size_t i;
+    for (i = 0; i < sizeof wrong_fragments / sizeof *wrong_fragments; i++) {
+        const uint8_t before = packets[wrong_fragments[i].place];
+        packets[wrong_fragments[i].place] = wrong_fragments[i].value;
+        REFUSED(etherparse_reassembly_packet(packets, 98, lens, 4, room, 69, buffer, 29, &written, &error), wrong_fragments[i].wanted);
+        packets[wrong_fragments[i].place] = before;
+    }
+    packets[55] = 0x3F;
+    packets[56] = 0xFF;
+    REFUSED(etherparse_reassembly_packet(packets, 98, lens, 4, room, 69, buffer, 29, &written, &error),
+            ETHERPARSE_STATUS_REASSEMBLY_TOO_LONG);
+    EXPECT(error.len == 65536 && error.required_len == 65535);
+    packets[55] = 0x20;
+    packets[56] = 0;
+}
+
+/* A packet is put together from its fragments in any order. Each reason not to put it together has its status. */
+static void packets_put_together(void)
+{
+    static const size_t lens[4] = {28, 21, 28, 21}, too_long[2] = {28, 22}, reversed[2] = {21, 28};
+    static uint8_t room[ETHERPARSE_REASSEMBLY_ROOM_MAX_LEN];
+    uint8_t packets[98], turned[49];
+    etherparse_ip_packet found;
+    clear();
+    memset(buffer, 0, sizeof buffer);
+    memcpy(turned, two_fragments + 28, 21);
+    memcpy(turned + 21, two_fragments, 28);
+    memcpy(packets, two_fragments, 49);
+    memcpy(packets + 49, two_fragments, 49);
+    OK(etherparse_reassembly_packet(turned, 49, reversed, 2, room, sizeof room, buffer, sizeof buffer, &written, &error));
+    EXPECT(written == 29 && buffer[2] == 0 && buffer[3] == 29 && buffer[6] == 0 && buffer[7] == 0 && buffer[28] == 'x' && buffer[29] == 0);
+    OK(etherparse_packet_verdict(buffer, written, &found, &error));
+    EXPECT(found.verdict == ETHERPARSE_VERDICT_RIGHT);
+    OK(etherparse_ipv4_header_checksum_test(buffer, written, &error));
+    written = 7;
+    OK(etherparse_reassembly_packet(packets, 98, lens, 4, room, 69, buffer, 29, &written, &error));
+    EXPECT(written == 29 && error_is_untouched());
+    written = 7;
+    NOT_JOINED(packets, lens, 4, 69, 28, ETHERPARSE_STATUS_BUFFER_TOO_SMALL);
+    EXPECT(error.required_len == 29 && error.len == 28);
+    NOT_JOINED(packets, lens, 4, 68, 29, ETHERPARSE_STATUS_REASSEMBLY_ROOM);
+    EXPECT(error.required_len == 9 && error.len == 8);
+    NOT_JOINED(packets, lens, 1, 69, 29, ETHERPARSE_STATUS_REASSEMBLY_INCOMPLETE);
+    NOT_JOINED(packets, lens, 0, 69, 29, ETHERPARSE_STATUS_REASSEMBLY_INCOMPLETE);
+    NOT_JOINED(two_fragments, too_long, 2, 69, 29, ETHERPARSE_STATUS_REASSEMBLY_LENGTHS);
+    EXPECT(error.required_len == 22 && error.len == 21);
+    packets_not_put_together(packets, lens, room);
+    packets[0] = 0x55;
+    NOT_JOINED(packets, lens, 4, 69, 29, ETHERPARSE_STATUS_IP_VERSION);
+    EXPECT(written == 7);
+}
+
 /* The reply from another host, which only the second test accepts; and a reply with another sequence number. */
 static void echo_replies_from_any(void)
 {
@@ -1711,6 +1816,7 @@ static void nulls(etherparse_error *told)
     etherparse_ip_addresses addresses_found;
     etherparse_ip_packet packet;
     etherparse_packet_flow flow;
+    etherparse_fragment fragment;
     etherparse_udp_packet udp_packet;
     etherparse_tcp_packet tcp_packet;
     etherparse_tcp_option option;
@@ -1732,6 +1838,8 @@ static void nulls(etherparse_error *told)
     REFUSED_TO(etherparse_packet_verdict(NULL, 0, &packet, told), ETHERPARSE_STATUS_IP_HEADER_CUT_OFF);
     REFUSED_TO(etherparse_packet_verdict_lax(NULL, 0, &packet, told), ETHERPARSE_STATUS_IP_HEADER_CUT_OFF);
     REFUSED_TO(etherparse_flow(NULL, 0, &flow, told), ETHERPARSE_STATUS_IP_HEADER_CUT_OFF);
+    REFUSED_TO(etherparse_fragment_read(NULL, 0, &fragment, told), ETHERPARSE_STATUS_IP_HEADER_CUT_OFF);
+    REFUSED_TO(etherparse_reassembly_packet(NULL, 0, NULL, 0, NULL, 0, NULL, 0, &written, told), ETHERPARSE_STATUS_REASSEMBLY_INCOMPLETE);
     REFUSED_TO(etherparse_write_packet_ipv4(&ipv4_udp, NULL, 0, NULL, 0, &written, told), ETHERPARSE_STATUS_LENGTH);
     REFUSED_TO(etherparse_write_packet_ipv4(&ipv4_udp, over_ipv4, 8, NULL, 0, &written, told), ETHERPARSE_STATUS_BUFFER_TOO_SMALL);
     REFUSED_TO(etherparse_write_packet_ipv6(&ipv6_udp, NULL, 0, NULL, 0, &written, told), ETHERPARSE_STATUS_LENGTH);
@@ -1814,6 +1922,8 @@ int main(void)
     echo_replies();
     hop_limits();
     maximum_segment_sizes();
+    fragments_read();
+    packets_put_together();
     icmp_errors();
     echo_replies_from_any();
     translations();

@@ -204,7 +204,21 @@ enum etherparse_status_number {
     ETHERPARSE_STATUS_ICMP_ERROR_SOURCE = 52,
     ETHERPARSE_STATUS_SEGMENT_SIZE_LATER_FRAGMENT = 53,
     ETHERPARSE_STATUS_SEGMENT_SIZE_NO_SYN = 54,
-    ETHERPARSE_STATUS_SEGMENT_SIZE_NO_OPTION = 55
+    ETHERPARSE_STATUS_SEGMENT_SIZE_NO_OPTION = 55,
+    ETHERPARSE_STATUS_REASSEMBLY_NO_FRAGMENT = 76,
+    ETHERPARSE_STATUS_REASSEMBLY_HEADER_CHAIN_CUT_OFF = 77,
+    ETHERPARSE_STATUS_REASSEMBLY_OTHER_KEY = 78,
+    ETHERPARSE_STATUS_REASSEMBLY_EMPTY = 79,
+    ETHERPARSE_STATUS_REASSEMBLY_FRAGMENT_LENGTH = 80,
+    ETHERPARSE_STATUS_REASSEMBLY_TOO_LONG = 81,
+    ETHERPARSE_STATUS_REASSEMBLY_ROOM = 82,
+    ETHERPARSE_STATUS_REASSEMBLY_OTHER_END = 83,
+    ETHERPARSE_STATUS_REASSEMBLY_BEHIND_END = 84,
+    ETHERPARSE_STATUS_REASSEMBLY_OVERLAP = 85,
+    ETHERPARSE_STATUS_REASSEMBLY_TOO_MANY_FRAGMENTS = 86,
+    ETHERPARSE_STATUS_REASSEMBLY_INCOMPLETE = 87,
+    ETHERPARSE_STATUS_REASSEMBLY_HEADER = 88,
+    ETHERPARSE_STATUS_REASSEMBLY_LENGTHS = 89
 };
 
 /*
@@ -335,6 +349,43 @@ enum etherparse_status_number {
 #define ETHERPARSE_STATUS_SEGMENT_SIZE_NO_SYN 54
 /* The options of the segment contain no maximum segment size: no other field. */
 #define ETHERPARSE_STATUS_SEGMENT_SIZE_NO_OPTION 55
+/* The packet is whole, so it is not a fragment: no other field. */
+#define ETHERPARSE_STATUS_REASSEMBLY_NO_FRAGMENT 76
+/*
+ * The first fragment of an IPv6 packet ends within its transport header (RFC 7112): required_len, which is the length of the transport
+ * header, and len.
+ */
+#define ETHERPARSE_STATUS_REASSEMBLY_HEADER_CHAIN_CUT_OFF 77
+/* The fragment belongs to another packet than the first fragment: no other field. */
+#define ETHERPARSE_STATUS_REASSEMBLY_OTHER_KEY 78
+/* The fragment has no payload: no other field. */
+#define ETHERPARSE_STATUS_REASSEMBLY_EMPTY 79
+/* More fragments follow, and the length of the payload is not a multiple of 8: len, which is the length of the payload. */
+#define ETHERPARSE_STATUS_REASSEMBLY_FRAGMENT_LENGTH 80
+/*
+ * The fragment ends beyond 65,535 bytes, the longest payload: required_len, which is 65,535, and len, which is the place after the last
+ * byte.
+ */
+#define ETHERPARSE_STATUS_REASSEMBLY_TOO_LONG 81
+/*
+ * The fragment ends beyond the room for the payload: required_len, which is the place after the last byte, and len, which is the room for
+ * the payload.
+ */
+#define ETHERPARSE_STATUS_REASSEMBLY_ROOM 82
+/* Two last fragments end at different places: no other field. */
+#define ETHERPARSE_STATUS_REASSEMBLY_OTHER_END 83
+/* A fragment that is not the last does not end before the last: no other field. */
+#define ETHERPARSE_STATUS_REASSEMBLY_BEHIND_END 84
+/* The fragment overlaps another fragment, but does not repeat it (RFC 5722): no other field. */
+#define ETHERPARSE_STATUS_REASSEMBLY_OVERLAP 85
+/* The packet has more than 128 fragments: no other field. */
+#define ETHERPARSE_STATUS_REASSEMBLY_TOO_MANY_FRAGMENTS 86
+/* Bytes of the payload are missing: no other field. */
+#define ETHERPARSE_STATUS_REASSEMBLY_INCOMPLETE 87
+/* The payload is complete, but the whole packet has no room for its headers: no other field. */
+#define ETHERPARSE_STATUS_REASSEMBLY_HEADER 88
+/* A length counts more bytes than are left: required_len, which is the length, and len, which is the number of bytes that are left. */
+#define ETHERPARSE_STATUS_REASSEMBLY_LENGTHS 89
 
 /* The layer whose length was wrong. 0 means no layer. The numbers from 8 on are reserved for IP headers. */
 enum {
@@ -540,6 +591,63 @@ typedef struct etherparse_packet_flow {
  */
 ETHERPARSE_CHECK_RESULT ETHERPARSE_NOT_NULL(3)
 etherparse_status etherparse_flow(const uint8_t *bytes, size_t len, etherparse_packet_flow *flow, etherparse_error *error);
+
+/* ---- fragments ------------------------------------------------------------------------------------------------------------ */
+
+/*
+ * A fragment of an IP packet. All fragments of one packet have the same version, protocol, identification and addresses, so a program that
+ * keeps fragments compares these fields.
+ */
+typedef struct etherparse_fragment {
+    uint32_t version;        /* 4 or 6 */
+    uint32_t protocol;       /* the protocol in the IPv4 header; 0 over IPv6, where the fragments of a packet may differ in it */
+    uint32_t identification; /* 16 bits over IPv4, 32 bits over IPv6 */
+    uint32_t offset;         /* the place of the first byte in the payload of the whole packet, in bytes */
+    uint32_t more_fragments; /* 1 if more fragments follow, otherwise 0 */
+    uint8_t source[16];      /* the source in the IP header; an IPv4 address is in the first four bytes, followed by zeros */
+    uint8_t destination[16]; /* the destination in the IP header, in the same form */
+    size_t payload_offset;   /* where the payload of the fragment begins, in bytes from the first byte of the packet */
+    size_t payload_len;      /* the length of the payload of the fragment, in bytes, without padding */
+} etherparse_fragment;
+
+/*
+ * Reads the fragment in the IP packet at the front of the bytes (RFC 791, section 3.2; RFC 8200, section 4.5). If an IPv6 packet has several
+ * fragment headers, the first is read.
+ *
+ * In this order: a status of etherparse_transport_in_ip, for example if the fragment is cut off;
+ * ETHERPARSE_STATUS_REASSEMBLY_HEADER_CHAIN_CUT_OFF; ETHERPARSE_STATUS_REASSEMBLY_NO_FRAGMENT: the packet is whole, as an atomic fragment is
+ * (RFC 6946). *fragment is then unchanged.
+ */
+ETHERPARSE_CHECK_RESULT ETHERPARSE_NOT_NULL(3)
+etherparse_status etherparse_fragment_read(const uint8_t *bytes, size_t len, etherparse_fragment *fragment, etherparse_error *error);
+
+/* A length of `room` that is enough for every packet: 256 bytes for headers, and the longest payload. Over IPv4, 65,595 bytes are enough. */
+#define ETHERPARSE_REASSEMBLY_ROOM_MAX_LEN 65791
+
+/* The greatest length of a packet that is put together: 256 bytes of IPv6 headers, and the longest payload after the IPv6 header. */
+#define ETHERPARSE_REASSEMBLY_PACKET_MAX_LEN 65575
+
+/*
+ * Puts a packet together from its fragments (RFC 791, section 3.2; RFC 8200, section 4.5). The fragments are IP packets, one after another
+ * in `packets`, in any order and possibly repeated; `lens` contains the length of each. Writes the whole packet to the front of `buffer`, as
+ * if it was never fragmented, and its length to `written`. Its headers are those of the first fragment, with the lengths, the flags and the
+ * IPv4 checksum of the whole packet, and without the fragment header of IPv6. If all fragments of a packet arrived, the result is this
+ * packet, so it has the same transport checksum, which the call does not test.
+ *
+ * `room` is memory in which the call works. Its first 60 bytes over IPv4, and 256 bytes over IPv6, are for headers, and the payload comes
+ * after them. Its contents after the call have no meaning. A buffer of ETHERPARSE_REASSEMBLY_ROOM_MAX_LEN bytes is long enough for every
+ * packet, and a `buffer` of ETHERPARSE_REASSEMBLY_PACKET_MAX_LEN bytes too.
+ *
+ * In this order, for each fragment: ETHERPARSE_STATUS_REASSEMBLY_LENGTHS; a status of etherparse_fragment_read;
+ * ETHERPARSE_STATUS_REASSEMBLY_OTHER_KEY; _EMPTY; _FRAGMENT_LENGTH; _TOO_LONG; _ROOM; _OTHER_END or _BEHIND_END; _OVERLAP;
+ * _TOO_MANY_FRAGMENTS. Then ETHERPARSE_STATUS_REASSEMBLY_INCOMPLETE, also if there is no fragment; ETHERPARSE_STATUS_REASSEMBLY_HEADER: the
+ * first fragment has more than 256 bytes of headers, or the whole packet is longer than its length field can count;
+ * ETHERPARSE_STATUS_BUFFER_TOO_SMALL. `buffer` and `written` are then unchanged.
+ */
+ETHERPARSE_CHECK_RESULT ETHERPARSE_NOT_NULL(9)
+etherparse_status etherparse_reassembly_packet(const uint8_t *packets, size_t packets_len, const size_t *lens, size_t lens_len,
+                                               uint8_t *room, size_t room_len, uint8_t *buffer, size_t buffer_len, size_t *written,
+                                               etherparse_error *error);
 
 /* The fields of an IPv4 header that a caller chooses. */
 typedef struct etherparse_ipv4_header {
@@ -1635,6 +1743,20 @@ static inline const char *etherparse_name_of_status(etherparse_status status)
     ETHERPARSE_CASE(ETHERPARSE_STATUS_SEGMENT_SIZE_LATER_FRAGMENT)
     ETHERPARSE_CASE(ETHERPARSE_STATUS_SEGMENT_SIZE_NO_SYN)
     ETHERPARSE_CASE(ETHERPARSE_STATUS_SEGMENT_SIZE_NO_OPTION)
+    ETHERPARSE_CASE(ETHERPARSE_STATUS_REASSEMBLY_NO_FRAGMENT)
+    ETHERPARSE_CASE(ETHERPARSE_STATUS_REASSEMBLY_HEADER_CHAIN_CUT_OFF)
+    ETHERPARSE_CASE(ETHERPARSE_STATUS_REASSEMBLY_OTHER_KEY)
+    ETHERPARSE_CASE(ETHERPARSE_STATUS_REASSEMBLY_EMPTY)
+    ETHERPARSE_CASE(ETHERPARSE_STATUS_REASSEMBLY_FRAGMENT_LENGTH)
+    ETHERPARSE_CASE(ETHERPARSE_STATUS_REASSEMBLY_TOO_LONG)
+    ETHERPARSE_CASE(ETHERPARSE_STATUS_REASSEMBLY_ROOM)
+    ETHERPARSE_CASE(ETHERPARSE_STATUS_REASSEMBLY_OTHER_END)
+    ETHERPARSE_CASE(ETHERPARSE_STATUS_REASSEMBLY_BEHIND_END)
+    ETHERPARSE_CASE(ETHERPARSE_STATUS_REASSEMBLY_OVERLAP)
+    ETHERPARSE_CASE(ETHERPARSE_STATUS_REASSEMBLY_TOO_MANY_FRAGMENTS)
+    ETHERPARSE_CASE(ETHERPARSE_STATUS_REASSEMBLY_INCOMPLETE)
+    ETHERPARSE_CASE(ETHERPARSE_STATUS_REASSEMBLY_HEADER)
+    ETHERPARSE_CASE(ETHERPARSE_STATUS_REASSEMBLY_LENGTHS)
     default: return "unknown status";
     }
 }

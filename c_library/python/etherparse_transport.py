@@ -35,18 +35,18 @@ from dataclasses import dataclass, field
 from typing import Any, Collection, Iterable, Iterator, Mapping, Union
 
 __all__ = [
-    "ChecksumChange", "Error", "Flow", "FlowEnds", "HeaderAddresses", "Icmpv4Kind", "Icmpv4Packet", "Icmpv4ParameterProblemCode",
-    "Icmpv4RedirectCode", "Icmpv4TimeExceededCode", "Icmpv4Type", "Icmpv4UnreachableCode", "Icmpv6Kind", "Icmpv6Packet",
-    "Icmpv6ParameterProblemCode", "Icmpv6TimeExceededCode", "Icmpv6Type", "Icmpv6UnreachableCode", "Layer", "LenSource", "NeighborFlags",
-    "Protocol", "RouterFlags", "Status", "Sum", "TcpFlags", "TcpOption", "TcpOptionKind", "TcpOptionValues", "TcpPacket", "Transport",
-    "UdpPacket", "ValueType", "Verdict", "VerdictKind", "answer_echo", "canonical_header", "check_icmpv4", "check_icmpv6",
+    "ChecksumChange", "Error", "Flow", "FlowEnds", "Fragment", "HeaderAddresses", "Icmpv4Kind", "Icmpv4Packet",
+    "Icmpv4ParameterProblemCode", "Icmpv4RedirectCode", "Icmpv4TimeExceededCode", "Icmpv4Type", "Icmpv4UnreachableCode", "Icmpv6Kind",
+    "Icmpv6Packet", "Icmpv6ParameterProblemCode", "Icmpv6TimeExceededCode", "Icmpv6Type", "Icmpv6UnreachableCode", "Layer", "LenSource",
+    "NeighborFlags", "Protocol", "RouterFlags", "Status", "Sum", "TcpFlags", "TcpOption", "TcpOptionKind", "TcpOptionValues", "TcpPacket",
+    "Transport", "UdpPacket", "ValueType", "Verdict", "VerdictKind", "answer_echo", "canonical_header", "check_icmpv4", "check_icmpv6",
     "check_ipv4_header", "check_tcp", "check_udp", "flow", "header_addresses", "icmpv4_checksum", "icmpv4_error_about", "icmpv6_checksum",
     "icmpv6_error_about", "ipv4_header_checksum", "is_checksum_partial", "is_reply_from_any", "is_reply_to", "library_version",
-    "lower_hop_limit", "lower_maximum_segment_size", "quoted_by_icmpv4", "quoted_by_icmpv6", "read_icmpv4", "read_icmpv6", "read_tcp",
-    "read_udp", "status_name", "store_checksum", "store_icmpv4_checksum", "store_icmpv6_checksum", "store_ipv4_header_checksum",
-    "store_tcp_checksum", "store_tcp_header", "store_udp_checksum", "tcp_checksum", "tcp_option_values", "tcp_options", "translate",
-    "transport", "udp_checksum", "verdict", "verdict_name", "write_icmpv4_header", "write_icmpv6_header", "write_packet",
-    "write_tcp_header", "write_tcp_options", "write_udp_header",
+    "lower_hop_limit", "lower_maximum_segment_size", "quoted_by_icmpv4", "quoted_by_icmpv6", "read_fragment", "read_icmpv4", "read_icmpv6",
+    "read_tcp", "read_udp", "reassemble", "status_name", "store_checksum", "store_icmpv4_checksum", "store_icmpv6_checksum",
+    "store_ipv4_header_checksum", "store_tcp_checksum", "store_tcp_header", "store_udp_checksum", "tcp_checksum", "tcp_option_values",
+    "tcp_options", "translate", "transport", "udp_checksum", "verdict", "verdict_name", "write_icmpv4_header", "write_icmpv6_header",
+    "write_packet", "write_tcp_header", "write_tcp_options", "write_udp_header",
 ]
 
 Bytes = Union[bytes, bytearray, memoryview]
@@ -129,6 +129,20 @@ class Status(_Number):
     SEGMENT_SIZE_LATER_FRAGMENT = 53
     SEGMENT_SIZE_NO_SYN = 54
     SEGMENT_SIZE_NO_OPTION = 55
+    REASSEMBLY_NO_FRAGMENT = 76
+    REASSEMBLY_HEADER_CHAIN_CUT_OFF = 77
+    REASSEMBLY_OTHER_KEY = 78
+    REASSEMBLY_EMPTY = 79
+    REASSEMBLY_FRAGMENT_LENGTH = 80
+    REASSEMBLY_TOO_LONG = 81
+    REASSEMBLY_ROOM = 82
+    REASSEMBLY_OTHER_END = 83
+    REASSEMBLY_BEHIND_END = 84
+    REASSEMBLY_OVERLAP = 85
+    REASSEMBLY_TOO_MANY_FRAGMENTS = 86
+    REASSEMBLY_INCOMPLETE = 87
+    REASSEMBLY_HEADER = 88
+    REASSEMBLY_LENGTHS = 89
 
     @property
     def text(self) -> str:
@@ -451,6 +465,20 @@ class _PacketFlow(ctypes.Structure):
     _fields_ = [("ends", _FlowEnds), ("quoted", _FlowEnds)]
 
 
+class _Fragment(ctypes.Structure):
+    _fields_ = [
+        ("version", ctypes.c_uint32),
+        ("protocol", ctypes.c_uint32),
+        ("identification", ctypes.c_uint32),
+        ("offset", ctypes.c_uint32),
+        ("more_fragments", ctypes.c_uint32),
+        ("source", ctypes.c_uint8 * 16),
+        ("destination", ctypes.c_uint8 * 16),
+        ("payload_offset", ctypes.c_size_t),
+        ("payload_len", ctypes.c_size_t),
+    ]
+
+
 class _Ipv4Header(ctypes.Structure):
     _fields_ = [
         ("source", ctypes.c_uint8 * 4),
@@ -649,6 +677,10 @@ _CALLS = {
     "transport_in_ip": (ctypes.c_uint32, *_reader(_IpTransport)),
     "transport_in_ip_lax": (ctypes.c_uint32, *_reader(_IpTransport)),
     "flow": (ctypes.c_uint32, *_reader(_PacketFlow)),
+    "fragment_read": (ctypes.c_uint32, *_reader(_Fragment)),
+    "reassembly_packet": (
+        ctypes.c_uint32, *_PACKET, ctypes.POINTER(ctypes.c_size_t), ctypes.c_size_t, *_PACKET, *_PACKET, *_REPLY,
+    ),
     "write_packet_ipv4": (ctypes.c_uint32, ctypes.POINTER(_Ipv4Header), *_PACKET, *_PACKET, *_REPLY),
     "write_packet_ipv6": (ctypes.c_uint32, ctypes.POINTER(_Ipv6Header), *_PACKET, *_PACKET, *_REPLY),
     "packet_verdict": (ctypes.c_uint32, *_reader(_IpPacket)),
@@ -725,6 +757,10 @@ _STATUS_TEXT_MAX_LEN = 127
 _HEADER_MAX_LEN = 60
 # The longest IP header that a call writes is that of IPv6.
 _IP_HEADER_MAX_LEN = 40
+
+# Enough room to put any packet together, and the longest packet that is put together, in bytes.
+_REASSEMBLY_ROOM_MAX_LEN = 65791
+_REASSEMBLY_PACKET_MAX_LEN = 65575
 
 # The longest ICMP error about a packet, in bytes (RFC 4443, section 2.4).
 _ERROR_MAX_LEN = 1280
@@ -933,6 +969,24 @@ class Flow:
 
 
 @dataclass(frozen=True)
+class Fragment:
+    """A fragment of an IP packet.
+
+    All fragments of one packet share the first five fields. `protocol` is None over IPv6, where the fragments of one packet may differ in
+    it. `offset` is the place of `payload` in the payload of the whole packet, in bytes.
+    """
+
+    version: int
+    source: Address
+    destination: Address
+    protocol: Protocol | None
+    identification: int
+    offset: int
+    more_fragments: bool
+    payload: bytes
+
+
+@dataclass(frozen=True)
 class HeaderAddresses:
     """The addresses of an IP header itself.
 
@@ -1015,6 +1069,41 @@ def flow(packet: Bytes) -> Flow:
     """
     found = _read("flow", _bytes_of(packet), _PacketFlow())
     return Flow(_ends(found.ends), _ends(found.quoted) if found.quoted.version else None)
+
+
+def read_fragment(packet: Bytes) -> Fragment:
+    """The fragment in an IP packet. If an IPv6 packet has several fragment headers, this is the first.
+
+    Raises `Error` if the IP headers of the packet are refused, if the packet is cut off or whole, or if the first fragment over IPv6 ends
+    within its transport header.
+    """
+    data = _bytes_of(packet)
+    found = _read("fragment_read", data, _Fragment())
+    return Fragment(
+        version=found.version,
+        source=_address(found.version, found.source),
+        destination=_address(found.version, found.destination),
+        protocol=Protocol(found.protocol) if found.version == 4 else None,
+        identification=found.identification,
+        offset=found.offset,
+        more_fragments=bool(found.more_fragments),
+        payload=data[found.payload_offset:found.payload_offset + found.payload_len],
+    )
+
+
+def reassemble(fragments: Iterable[Bytes]) -> bytes:
+    """The packet that is put together from its fragments: IP packets, in any order and possibly repeated.
+
+    Raises `Error` with the status `REASSEMBLY_INCOMPLETE` if bytes of the payload are missing. Raises `Error` also if a packet is not a
+    fragment, if a fragment belongs to another packet or does not agree with another fragment, or if the whole packet has no room for its
+    headers.
+    """
+    packets = [_bytes_of(fragment) for fragment in fragments]
+    data, lens = b"".join(packets), (ctypes.c_size_t * len(packets))(*map(len, packets))
+    room, buffer = (ctypes.create_string_buffer(size) for size in (_REASSEMBLY_ROOM_MAX_LEN, _REASSEMBLY_PACKET_MAX_LEN))
+    written = ctypes.c_size_t()
+    _call("reassembly_packet", data, len(data), lens, len(lens), room, len(room), buffer, len(buffer), ctypes.byref(written))
+    return buffer.raw[:written.value]
 
 
 def write_packet(message: Bytes, protocol: Protocol, source: Any, destination: Any, hop_limit: int = 64) -> bytes:

@@ -569,6 +569,24 @@ class Calls(unittest.TestCase):
             ept.lower_maximum_segment_size(bytearray(PACKET), 1360)
         self.assertEqual((caught.exception.status, caught.exception.actual), (Status.PROTOCOL_UNKNOWN, PACKET[9]))
 
+    def test_a_packet_is_put_together_from_its_fragments(self):
+        head = "450000{:02x}0007{:04x}40110000" "0a0000010a000002"
+        first = bytes.fromhex(head.format(28, 0x2000) + "00010002000973d6")
+        last = bytes.fromhex(head.format(21, 1) + "78" "00")
+        fragment = ept.read_fragment(last)
+        self.assertEqual((fragment.version, fragment.protocol, fragment.identification), (4, Protocol.UDP, 7))
+        self.assertEqual((str(fragment.source), str(fragment.destination)), ("10.0.0.1", "10.0.0.2"))
+        self.assertEqual((fragment.offset, fragment.more_fragments, fragment.payload), (8, False, b"x"))
+        packet = ept.reassemble([last, bytearray(first), last])
+        self.assertEqual((packet[2:4], packet[6:8], packet[20:]), (b"\0\x1d", b"\0\0", first[20:] + b"x"))
+        self.assertEqual((ept.verdict(packet).kind, ept.check_ipv4_header(packet)), (VerdictKind.RIGHT, VerdictKind.RIGHT))
+        for fragments, status in (([first], Status.REASSEMBLY_INCOMPLETE), ([], Status.REASSEMBLY_INCOMPLETE),
+                                  ([first, PACKET], Status.REASSEMBLY_NO_FRAGMENT)):
+            with self.assertRaises(ept.Error) as caught:
+                ept.reassemble(fragments)
+            self.assertEqual(caught.exception.status, status)
+        self.assertEqual(str(caught.exception), "Reassembly Error: the packet is not a fragment.")
+
     def test_a_partial_checksum_is_completed(self):
         packet = bytearray(PACKET)
         self.assertIs(ept.is_checksum_partial(packet), False)

@@ -164,6 +164,19 @@ export const TESTS = {
         expect([status, message], [Status.SEGMENT_SIZE_NO_SYN, "Maximum Segment Size Error: the segment is not a SYN."]);
     },
 
+    packetFromFragments() {
+        const address = [10, 0, 0, 1, 10, 0, 0, 2];
+        const first = Uint8Array.of(0x45, 0, 0, 28, 0, 7, 0x20, 0, 64, 17, 0, 0, ...address, 0, 1, 0, 2, 0, 9, 0x73, 0xd6);
+        const last = Uint8Array.of(0x45, 0, 0, 21, 0, 7, 0, 1, 64, 17, 0, 0, ...address, 0x78);
+        const { protocol, identification, offset, moreFragments, payload } = library.readFragment(last);
+        expect([protocol, identification, offset, moreFragments, ...payload], [17, 7, 8, false, 0x78]);
+        const packet = library.reassemble([last, first]);
+        expect([packet.length, packet[3], packet[6], packet[28], library.verdict(packet).kind], [29, 29, 0, 0x78, VerdictKind.RIGHT]);
+        const { status, message } = thrown(() => library.reassemble([first]), library.EtherparseError);
+        expect([status, message], [Status.REASSEMBLY_INCOMPLETE, "Reassembly Error: bytes of the payload are missing."]);
+        thrown(() => library.reassemble([[1, 2]]), TypeError);
+    },
+
     /** The memory grows with its input, from call to call. */
     growth() {
         for (const length of [0, 60000, 65536, 65528, 1000000, 3, 5000001]) {

@@ -385,6 +385,16 @@ static void call_packet_checksum(void)
     (void)(etherparse_maximum_segment_size_lower(copy, len, 536, &checksum, &error) == 0);
 }
 
+/* Reads the fragment in the packet, and puts it together with itself. */
+static void call_fragments(void)
+{
+    static uint8_t room[ETHERPARSE_REASSEMBLY_ROOM_MAX_LEN];
+    etherparse_fragment fragment;
+    size_t written;
+    (void)(etherparse_fragment_read(packet, len, &fragment, &error) == 0);
+    (void)(etherparse_reassembly_packet(packet, len, &len, 1, room, sizeof room, copy, ROOM, &written, &error) == 0);
+}
+
 /* Writes a packet with this message between these addresses. */
 static void call_write_packet(const etherparse_ip_transport *found, const uint8_t *message)
 {
@@ -427,6 +437,7 @@ static void call_all(void)
     (void)(etherparse_packet_verdict_lax(packet, len, &judged, &error) == 0);
     (void)(etherparse_ip_header_addresses(packet, len, &addresses, &error) == 0);
     (void)(etherparse_flow(packet, len, &flow, &error) == 0);
+    call_fragments();
     (void)(etherparse_ipv4_header_checksum(packet, len, &checksum, &error) == 0);
     (void)(etherparse_ipv4_header_checksum_test(packet, len, &error) == 0);
     call_packet_checksum();

@@ -53,6 +53,7 @@ const PASSED = {
     bytes: (reader) => reader.take(reader.number(4)),
     struct: (reader, layout) => reader.fields(layout),
     value: (reader, layout) => reader.fields(layout),
+    numbers: (reader, width) => Array.from({ length: reader.number(4) }, () => reader.number(width)),
     structs: (reader, layout) => Array.from({ length: reader.number(4) }, () => reader.fields(layout)),
 };
 
@@ -134,6 +135,28 @@ function ipTransport(found, bytes) {
         dont_fragment: Number(found.dontFragment),
         traffic_class: found.trafficClass,
     };
+}
+
+/** The struct of a fragment. Its payload has to be the part of the packet that it names. */
+function fragmentOf({ payload, payloadOffset, ...found }, bytes) {
+    requirePart(payload, bytes, payloadOffset);
+    return {
+        version: found.version,
+        protocol: found.protocol ?? 0,
+        identification: found.identification,
+        offset: found.offset,
+        more_fragments: Number(found.moreFragments),
+        source: octets(found.version, found.source),
+        destination: octets(found.version, found.destination),
+        payload_offset: payloadOffset,
+        payload_len: payload.length,
+    };
+}
+
+/** Bytes with these lengths, which are one after another. */
+function partsOf(bytes, lens) {
+    let place = 0;
+    return lens.map((length) => bytes.subarray(place, (place += length)));
 }
 
 /** The struct of the ends of a flow, which is all 0 if there are none. */
@@ -359,6 +382,8 @@ const CALLS = {
         let size;
         return { packet: changed(packet, (copy) => void (size = library.lowerMaximumSegmentSize(copy, most))), size };
     },
+    fragment_read: ({ bytes }) => ({ fragment: fragmentOf(library.readFragment(bytes), bytes) }),
+    reassembly_packet: ({ packets, lens }) => ({ buffer: library.reassemble(partsOf(packets, lens)) }),
     icmpv4_error_about: ({ packet, message, source, time_to_live: hopLimit }) =>
         ({ buffer: library.icmpv4ErrorAbout(packet, headerOf(message), source, { hopLimit }) }),
     icmpv6_error_about: ({ packet, message, source, hop_limit: hopLimit }) =>
@@ -406,6 +431,8 @@ function repeated(record) {
 
 /** Whether a repeated call agrees with its record. */
 function agrees(record) {
+    // JavaScript has no room that can be too small, and no lengths that count too many bytes.
+    if (record.hasStatus && [Status.REASSEMBLY_ROOM, Status.REASSEMBLY_LENGTHS].includes(record.result)) return true;
     const { result, returned } = repeated(record);
     // JavaScript has no buffer that can be too small. What is written then has the length that the refusal states.
     if (record.hasStatus && record.result === Status.BUFFER_TOO_SMALL) {

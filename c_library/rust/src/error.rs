@@ -228,6 +228,55 @@ pub enum ErrorKind {
     SegmentSizeNoSyn,
     /// The options of the segment contain no maximum segment size.
     SegmentSizeNoOption,
+    /// The packet is whole, so it is not a fragment.
+    ReassemblyNoFragment,
+    /// The first fragment of an IPv6 packet ends within its transport header (RFC 7112).
+    ReassemblyHeaderChainCutOff {
+        /// The length that would have been accepted, or the length that is needed.
+        required_len: usize,
+        /// The actual length, or the place after the last byte.
+        len: usize,
+    },
+    /// The fragment belongs to another packet than the first fragment.
+    ReassemblyOtherKey,
+    /// The fragment has no payload.
+    ReassemblyEmpty,
+    /// More fragments follow, and the length of the payload is not a multiple of 8.
+    ReassemblyFragmentLength {
+        /// The actual length, or the place after the last byte.
+        len: usize,
+    },
+    /// The fragment ends beyond 65,535 bytes, the longest payload.
+    ReassemblyTooLong {
+        /// The actual length, or the place after the last byte.
+        len: usize,
+    },
+    /// The fragment ends beyond the room for the payload.
+    ReassemblyRoom {
+        /// The length that would have been accepted, or the length that is needed.
+        required_len: usize,
+        /// The actual length, or the place after the last byte.
+        len: usize,
+    },
+    /// Two last fragments end at different places.
+    ReassemblyOtherEnd,
+    /// A fragment that is not the last does not end before the last.
+    ReassemblyBehindEnd,
+    /// The fragment overlaps another fragment, but does not repeat it (RFC 5722).
+    ReassemblyOverlap,
+    /// The packet has more than 128 fragments.
+    ReassemblyTooManyFragments,
+    /// Bytes of the payload are missing.
+    ReassemblyIncomplete,
+    /// The payload is complete, but the whole packet has no room for its headers.
+    ReassemblyHeader,
+    /// A length counts more bytes than are left.
+    ReassemblyLengths {
+        /// The length that would have been accepted, or the length that is needed.
+        required_len: usize,
+        /// The actual length, or the place after the last byte.
+        len: usize,
+    },
     /// A status that this crate does not know.
     Other {
         /// The status.
@@ -396,6 +445,20 @@ impl Error {
             sys::STATUS_SEGMENT_SIZE_LATER_FRAGMENT => ErrorKind::SegmentSizeLaterFragment,
             sys::STATUS_SEGMENT_SIZE_NO_SYN => ErrorKind::SegmentSizeNoSyn,
             sys::STATUS_SEGMENT_SIZE_NO_OPTION => ErrorKind::SegmentSizeNoOption,
+            sys::STATUS_REASSEMBLY_NO_FRAGMENT => ErrorKind::ReassemblyNoFragment,
+            sys::STATUS_REASSEMBLY_HEADER_CHAIN_CUT_OFF => ErrorKind::ReassemblyHeaderChainCutOff { required_len, len },
+            sys::STATUS_REASSEMBLY_OTHER_KEY => ErrorKind::ReassemblyOtherKey,
+            sys::STATUS_REASSEMBLY_EMPTY => ErrorKind::ReassemblyEmpty,
+            sys::STATUS_REASSEMBLY_FRAGMENT_LENGTH => ErrorKind::ReassemblyFragmentLength { len },
+            sys::STATUS_REASSEMBLY_TOO_LONG => ErrorKind::ReassemblyTooLong { len },
+            sys::STATUS_REASSEMBLY_ROOM => ErrorKind::ReassemblyRoom { required_len, len },
+            sys::STATUS_REASSEMBLY_OTHER_END => ErrorKind::ReassemblyOtherEnd,
+            sys::STATUS_REASSEMBLY_BEHIND_END => ErrorKind::ReassemblyBehindEnd,
+            sys::STATUS_REASSEMBLY_OVERLAP => ErrorKind::ReassemblyOverlap,
+            sys::STATUS_REASSEMBLY_TOO_MANY_FRAGMENTS => ErrorKind::ReassemblyTooManyFragments,
+            sys::STATUS_REASSEMBLY_INCOMPLETE => ErrorKind::ReassemblyIncomplete,
+            sys::STATUS_REASSEMBLY_HEADER => ErrorKind::ReassemblyHeader,
+            sys::STATUS_REASSEMBLY_LENGTHS => ErrorKind::ReassemblyLengths { required_len, len },
             status => ErrorKind::Other { status },
         }
     }

@@ -798,6 +798,88 @@ pub fn flow(bytes: &[u8]) -> Result<Flow, Error> {
         .map(|()| Flow { ends: ends(&found.ends), quoted: (found.quoted.version != 0).then(|| ends(&found.quoted)) })
 }
 
+/// A fragment of an IP packet. All fragments of one packet share the addresses, the identification, and over IPv4 the protocol.
+#[derive(Clone, Copy, Debug, PartialEq, Eq, Hash)]
+pub struct Fragment<'a> {
+    /// The version, 4 or 6.
+    pub version: u32,
+    /// The protocol in the IPv4 header. It is 0 over IPv6, where the fragments of one packet may differ in it.
+    pub protocol: u32,
+    /// The identification: 16 bits over IPv4, 32 bits over IPv6.
+    pub identification: u32,
+    /// The place of the first byte in the payload of the whole packet, in bytes.
+    pub offset: u32,
+    /// Whether more fragments follow.
+    pub more_fragments: bool,
+    /// The source in the IP header. An IPv4 address is in the first four bytes, with 0 behind it.
+    pub source: [u8; 16],
+    /// The destination in the IP header, in the same form.
+    pub destination: [u8; 16],
+    /// The payload of the fragment, without padding.
+    pub payload: &'a [u8],
+}
+
+impl<'a> Fragment<'a> {
+    /// Reads the fragment in the IP packet at the front of the bytes. If an IPv6 packet has several fragment headers, the first is read.
+    ///
+    /// Errors: as [`Transport::read`], `ReassemblyHeaderChainCutOff`, and `ReassemblyNoFragment` if the packet is whole.
+    ///
+    /// ```
+    /// use etherparse_transport_c::ip::Fragment;
+    /// let packet = [0x45, 0, 0, 22, 0, 7, 0x20, 3, 64, 17, 0, 0, 10, 0, 0, 1, 10, 0, 0, 2, b'a', b'b'];
+    /// let fragment = Fragment::read(&packet)?;
+    /// assert_eq!((fragment.identification, fragment.offset, fragment.more_fragments, fragment.payload), (7, 24, true, &b"ab"[..]));
+    /// # Ok::<(), etherparse_transport_c::Error>(())
+    /// ```
+    pub fn read(bytes: &'a [u8]) -> Result<Fragment<'a>, Error> {
+        let (mut found, mut error) = (sys::Fragment::default(), sys::Error::default());
+        // SAFETY: each pointer is that of a live reference, and no two overlap.
+        let status = unsafe { sys::etherparse_fragment_read(bytes.as_ptr(), bytes.len(), &mut found, &mut error) };
+        answer(status, (), error).map(|()| Fragment {
+            version: found.version,
+            protocol: found.protocol,
+            identification: found.identification,
+            offset: found.offset,
+            more_fragments: found.more_fragments != 0,
+            source: found.source,
+            destination: found.destination,
+            payload: &bytes[found.payload_offset..found.payload_offset + found.payload_len],
+        })
+    }
+}
+
+/// The length of a `room` for [`reassemble`] that is enough for every packet, in bytes.
+pub const REASSEMBLY_ROOM_MAX_LEN: usize = 65_791;
+
+/// Puts a packet together from its fragments, and returns it at the front of `packet`. The fragments are IP packets, one after another in
+/// `packets`, in any order and possibly repeated, and `lens` contains the length of each. `room` is memory in which the call works:
+/// [`REASSEMBLY_ROOM_MAX_LEN`] bytes are enough.
+///
+/// Errors: those of [`Fragment::read`], all others whose names begin with `Reassembly`, and `BufferTooSmall` if the packet does not fit. If
+/// bytes are missing, this is `ReassemblyIncomplete`. `packet` is then as it was.
+///
+/// ```
+/// use etherparse_transport_c::ip::{self, REASSEMBLY_ROOM_MAX_LEN};
+/// let packets = [
+///     0x45, 0, 0, 28, 0, 7, 0x20, 0, 64, 17, 0, 0, 10, 0, 0, 1, 10, 0, 0, 2, 0, 1, 0, 2, 0, 9, 0, 0, // the first eight bytes
+///     0x45, 0, 0, 21, 0, 7, 0, 1, 64, 17, 0, 0, 10, 0, 0, 1, 10, 0, 0, 2, b'x',
+/// ];
+/// let (mut room, mut buffer) = ([0; REASSEMBLY_ROOM_MAX_LEN], [0; 64]);
+/// let packet = ip::reassemble(&packets, &[28, 21], &mut room, &mut buffer)?;
+/// assert_eq!((packet.len(), &packet[2..4], &packet[20..]), (29, &[0, 29][..], &[0, 1, 0, 2, 0, 9, 0, 0, b'x'][..]));
+/// # Ok::<(), etherparse_transport_c::Error>(())
+/// ```
+pub fn reassemble<'a>(packets: &[u8], lens: &[usize], room: &mut [u8], packet: &'a mut [u8]) -> Result<&'a mut [u8], Error> {
+    let (mut written, mut error) = (0, sys::Error::default());
+    let (from, from_len, lens, lens_len) = (packets.as_ptr(), packets.len(), lens.as_ptr(), lens.len());
+    let (room, room_len, to, to_len) = (room.as_mut_ptr(), room.len(), packet.as_mut_ptr(), packet.len());
+    // SAFETY: each pointer is that of a live reference, and no two overlap.
+    let status = unsafe {
+        sys::etherparse_reassembly_packet(from, from_len, lens, lens_len, room, room_len, to, to_len, &mut written, &mut error)
+    };
+    answer(status, (), error).map(|()| &mut packet[..written])
+}
+
 /// Writes an IPv4 packet to the front of a buffer, and returns its length: an IP header without options, and the message after it, which is
 /// a transport header and its payload. The checksums, the total length, and the length field of UDP are computed.
 ///

@@ -33,6 +33,7 @@ use Rattle.net_base.specs.declared.tcp_option_write_error.TcpOptionWriteError.Th
 use Rattle.transport_part.specs.declared.checksum_verdict.Untested as reasons
 use Rattle.transport_part.specs.declared.checksum_verdict.Untested.TheVariants.{CutOff, Fragment, OtherProtocol, TooLong, UnknownDestination, ZeroLength}
 use Rattle.etherparse_transport_c.specs.Numbers as numbers
+use Rattle.etherparse_transport_c.specs.ReassemblyTexts.{joining_text}
 use Rattle.etherparse_transport_c.specs.declared.error.EtherparseError.{EtherparseError}
 
 -- ---- texts in C that differ from the texts of the library in Rattle
@@ -212,7 +213,7 @@ later_text error =
     else if error.status == numbers.status_segment_size_later_fragment then lower_maximum_segment_size_text segment_size.LaterFragment
     else if error.status == numbers.status_segment_size_no_syn then lower_maximum_segment_size_text segment_size.NoSyn
     else if error.status == numbers.status_segment_size_no_option then lower_maximum_segment_size_text segment_size.NoOption
-    else codes "Unknown error."
+    else joining_text error
 
 -- the text of an error that exists only in C, or whose status is above 43, or whose numbers no call returns
 abbrev pub own_text : EtherparseError → List ℕ

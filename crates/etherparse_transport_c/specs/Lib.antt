@@ -16,6 +16,9 @@ pub mod Numbers
 pub mod PacketChecksum
 pub mod PacketVerdict
 pub mod QuotedPackets
+pub mod Reassemblies
+pub mod ReassemblyTexts
+pub mod ReassemblyWords
 pub mod SegmentSize
 pub mod StatusName
 pub mod StatusText

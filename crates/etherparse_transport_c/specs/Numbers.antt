@@ -179,6 +179,62 @@ status_segment_size_no_syn = 54
 abbrev pub status_segment_size_no_option : ℕ
 status_segment_size_no_option = 55
 
+-- the packet is whole, so it is not a fragment
+abbrev pub status_reassembly_no_fragment : ℕ
+status_reassembly_no_fragment = 76
+
+-- the first fragment of an IPv6 packet ends within its transport header (RFC 7112)
+abbrev pub status_reassembly_header_chain_cut_off : ℕ
+status_reassembly_header_chain_cut_off = 77
+
+-- the fragment belongs to another packet than the first of the fragments
+abbrev pub status_reassembly_other_key : ℕ
+status_reassembly_other_key = 78
+
+-- the fragment has no payload
+abbrev pub status_reassembly_empty : ℕ
+status_reassembly_empty = 79
+
+-- more fragments follow, and the length of the fragment is not a multiple of 8
+abbrev pub status_reassembly_fragment_length : ℕ
+status_reassembly_fragment_length = 80
+
+-- the fragment ends beyond 65,535 bytes, the longest payload
+abbrev pub status_reassembly_too_long : ℕ
+status_reassembly_too_long = 81
+
+-- the fragment ends beyond the room for the payload
+abbrev pub status_reassembly_room : ℕ
+status_reassembly_room = 82
+
+-- two last fragments end at different places
+abbrev pub status_reassembly_other_end : ℕ
+status_reassembly_other_end = 83
+
+-- a fragment that is not the last does not end before the last fragment
+abbrev pub status_reassembly_behind_end : ℕ
+status_reassembly_behind_end = 84
+
+-- the fragment overlaps another fragment, but does not repeat it (RFC 5722)
+abbrev pub status_reassembly_overlap : ℕ
+status_reassembly_overlap = 85
+
+-- the packet has more than 128 fragments
+abbrev pub status_reassembly_too_many_fragments : ℕ
+status_reassembly_too_many_fragments = 86
+
+-- bytes of the payload are missing, or the last fragment is missing
+abbrev pub status_reassembly_incomplete : ℕ
+status_reassembly_incomplete = 87
+
+-- the payload is complete, but the headers of the whole packet can't be written
+abbrev pub status_reassembly_header : ℕ
+status_reassembly_header = 88
+
+-- the lengths of the packets count more bytes than there are
+abbrev pub status_reassembly_lengths : ℕ
+status_reassembly_lengths = 89
+
 -- ---- layers whose length can be wrong; 8 and above are reserved for IP headers
 
 abbrev pub layer_udp_header : ℕ

@@ -1,6 +1,7 @@
 -- The meanings of statuses, in a few words.
 use Rattle.std.specs.Prelude.{ℕ, ◌==◌, if◌then◌else◌, List, codes}
 use Rattle.etherparse_transport_c.specs.Numbers as numbers
+use Rattle.etherparse_transport_c.specs.ReassemblyWords.{joining_status_text}
 
 -- the maximum length of a text, in bytes; texts that later versions add are not longer
 abbrev pub max_status_text_len : ℕ
@@ -59,4 +60,4 @@ status_text status =
     else if status == numbers.status_segment_size_later_fragment then codes "a later fragment has no maximum segment size"
     else if status == numbers.status_segment_size_no_syn then codes "the segment is not a SYN"
     else if status == numbers.status_segment_size_no_option then codes "the segment contains no maximum segment size"
-    else codes "unknown status"
+    else joining_status_text status

@@ -5,6 +5,7 @@ ghost use Rattle.etherparse_transport_c.specs.Text.{max_text_len, with_string};
 ghost use Rattle.net_base.specs.TextParts.{reads_as};
 
 use crate::error::EtherparseError;
+use crate::joining_text::joining_text;
 use crate::text::{Char, cut, put_string};
 use crate::{layer, len_source, status, value_type, verdict_kind};
 use etherparse_transport::err::TextPart::{Number, Words};
@@ -258,7 +259,7 @@ fn later_text(error: &EtherparseError) -> ErrorText
         status::SEGMENT_SIZE_LATER_FRAGMENT => LowerMaximumSegmentSizeError::LaterFragment.text(),
         status::SEGMENT_SIZE_NO_SYN => LowerMaximumSegmentSizeError::NoSyn.text(),
         status::SEGMENT_SIZE_NO_OPTION => LowerMaximumSegmentSizeError::NoOption.text(),
-        _ => ErrorText::from_words("Unknown error."),
+        _ => joining_text(error),
     }
 }
 

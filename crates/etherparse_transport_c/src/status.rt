@@ -157,3 +157,45 @@ pub const SEGMENT_SIZE_NO_SYN: u32 = 54;
 
 /// The options of the segment contain no maximum segment size.
 pub const SEGMENT_SIZE_NO_OPTION: u32 = 55;
+
+/// The packet is whole, so it is not a fragment.
+pub const REASSEMBLY_NO_FRAGMENT: u32 = 76;
+
+/// The first fragment of an IPv6 packet ends within its transport header (RFC 7112).
+pub const REASSEMBLY_HEADER_CHAIN_CUT_OFF: u32 = 77;
+
+/// The fragment belongs to another packet than the first of the fragments.
+pub const REASSEMBLY_OTHER_KEY: u32 = 78;
+
+/// The fragment has no payload.
+pub const REASSEMBLY_EMPTY: u32 = 79;
+
+/// More fragments follow, and the length of the fragment is not a multiple of 8.
+pub const REASSEMBLY_FRAGMENT_LENGTH: u32 = 80;
+
+/// The fragment ends beyond 65,535 bytes, the longest payload.
+pub const REASSEMBLY_TOO_LONG: u32 = 81;
+
+/// The fragment ends beyond the room for the payload.
+pub const REASSEMBLY_ROOM: u32 = 82;
+
+/// Two last fragments end at different places.
+pub const REASSEMBLY_OTHER_END: u32 = 83;
+
+/// A fragment that is not the last does not end before the last fragment.
+pub const REASSEMBLY_BEHIND_END: u32 = 84;
+
+/// The fragment overlaps another fragment, but does not repeat it (RFC 5722).
+pub const REASSEMBLY_OVERLAP: u32 = 85;
+
+/// The packet has more than 128 fragments.
+pub const REASSEMBLY_TOO_MANY_FRAGMENTS: u32 = 86;
+
+/// Bytes of the payload are missing, or the last fragment is missing.
+pub const REASSEMBLY_INCOMPLETE: u32 = 87;
+
+/// The payload is complete, but the headers of the whole packet can't be written.
+pub const REASSEMBLY_HEADER: u32 = 88;
+
+/// The lengths of the packets count more bytes than there are.
+pub const REASSEMBLY_LENGTHS: u32 = 89;

@@ -66,6 +66,20 @@ pub const STATUS_ICMP_ERROR_SOURCE: u32 = 52;
 pub const STATUS_SEGMENT_SIZE_LATER_FRAGMENT: u32 = 53;
 pub const STATUS_SEGMENT_SIZE_NO_SYN: u32 = 54;
 pub const STATUS_SEGMENT_SIZE_NO_OPTION: u32 = 55;
+pub const STATUS_REASSEMBLY_NO_FRAGMENT: u32 = 76;
+pub const STATUS_REASSEMBLY_HEADER_CHAIN_CUT_OFF: u32 = 77;
+pub const STATUS_REASSEMBLY_OTHER_KEY: u32 = 78;
+pub const STATUS_REASSEMBLY_EMPTY: u32 = 79;
+pub const STATUS_REASSEMBLY_FRAGMENT_LENGTH: u32 = 80;
+pub const STATUS_REASSEMBLY_TOO_LONG: u32 = 81;
+pub const STATUS_REASSEMBLY_ROOM: u32 = 82;
+pub const STATUS_REASSEMBLY_OTHER_END: u32 = 83;
+pub const STATUS_REASSEMBLY_BEHIND_END: u32 = 84;
+pub const STATUS_REASSEMBLY_OVERLAP: u32 = 85;
+pub const STATUS_REASSEMBLY_TOO_MANY_FRAGMENTS: u32 = 86;
+pub const STATUS_REASSEMBLY_INCOMPLETE: u32 = 87;
+pub const STATUS_REASSEMBLY_HEADER: u32 = 88;
+pub const STATUS_REASSEMBLY_LENGTHS: u32 = 89;
 
 // ---- Layers: which length was wrong. 8 and up are kept for the headers of IP.
 
@@ -489,6 +503,30 @@ pub struct PacketFlow {
     pub quoted: FlowEnds,
 }
 
+/// A fragment of an IP packet. All fragments of one packet share the version, the protocol, the identification and the addresses.
+#[repr(C)]
+#[derive(Clone, Copy, Debug, Default, PartialEq, Eq, Hash)]
+pub struct Fragment {
+    /// The version, 4 or 6.
+    pub version: u32,
+    /// The protocol in the IPv4 header. It is 0 over IPv6.
+    pub protocol: u32,
+    /// The identification.
+    pub identification: u32,
+    /// The place of the first byte in the payload of the whole packet.
+    pub offset: u32,
+    /// 1 if more fragments follow, otherwise 0.
+    pub more_fragments: u32,
+    /// The source in the IP header. An IPv4 address is in the first four bytes, with 0 behind it.
+    pub source: [u8; 16],
+    /// The destination in the IP header, in the same form.
+    pub destination: [u8; 16],
+    /// The place at which the payload of the fragment begins.
+    pub payload_offset: usize,
+    /// The length of the payload of the fragment.
+    pub payload_len: usize,
+}
+
 /// The fields of an IPv4 header that a caller chooses.
 #[repr(C)]
 #[derive(Clone, Copy, Debug, Default, PartialEq, Eq, Hash)]
@@ -763,6 +801,19 @@ extern "C" {
     ) -> u32;
     /// Finds the flow that an IP packet belongs to.
     pub fn etherparse_flow(bytes: *const u8, bytes_len: usize, flow: *mut PacketFlow, error: *mut Error) -> u32;
+    pub fn etherparse_fragment_read(bytes: *const u8, bytes_len: usize, fragment: *mut Fragment, error: *mut Error) -> u32;
+    pub fn etherparse_reassembly_packet(
+        packets: *const u8,
+        packets_len: usize,
+        lens: *const usize,
+        lens_len: usize,
+        room: *mut u8,
+        room_len: usize,
+        buffer: *mut u8,
+        buffer_len: usize,
+        written: *mut usize,
+        error: *mut Error,
+    ) -> u32;
     /// Writes an IPv4 packet with this message, which is a transport header and its payload.
     pub fn etherparse_write_packet_ipv4(
         header: *const Ipv4Header,
