@@ -4,6 +4,7 @@ use crate::expect::{expect_all_written, expect_ok, expect_some, expect_written, 
 use crate::packets::OVER_IPV4;
 use crate::summaries::{first_info, flow_of_ipv4, judge, new_summary, refuse};
 use capture_file::pcapng::TimeResolution;
+use capture_file::reader::PacketInterface;
 use capture_file::{LinkType, PacketTime};
 use capture_json::{write_packet, write_summary};
 use capture_packet::{
@@ -11,6 +12,7 @@ use capture_packet::{
     Refusal, Transport, Tunnel, Verdict,
 };
 use capture_summary::{CaptureInfo, FrameLen, Protocol, RefusalKind, Summary, VerdictKind};
+use capture_texts::KeptText;
 use capture_words::Times;
 use etherparse_transport::ip::{IpAddresses, IpError};
 use etherparse_transport::{
@@ -123,6 +125,35 @@ fn expect_time(rt: &(impl Abort + AllocGlobal), row: &TimeRow) {
 fn times_of_packets_as_numbers(rt: HostRuntime) {
     for row in &TIMES {
         expect_time(&rt, row);
+    }
+}
+
+/// Interfaces by number and name, each with its members.
+#[rattlefmt::skip]
+static INTERFACES: [(u32, &[u8], &str); 3] = [
+    (1, b"eth0", r#""interface":1,"interface_name":"eth0","#),
+    (0, b"", r#""interface":0,"#),
+    (2, b"a\n\"", r#""interface":2,"interface_name":"a\\x0A\"","#),
+];
+
+/// Stops the test unless the object of a packet of this interface has these members.
+fn expect_interface(rt: &(impl Abort + AllocGlobal), number: u32, name: &[u8], members: &str) {
+    let name = KeptText::new(name);
+    let mut info = first_info(None, None);
+    info.interface = Some(PacketInterface { number, name });
+    let packet = Packet::in_no_tunnel(Content::Unread, Verdict::untested(Untested::CutOff));
+    let mut line = Vec::new(rt.alloc());
+    let written = write_packet(&mut line, rt.alloc(), Times::SinceFirst, &info, &packet);
+    expect_ok(rt, written);
+    let before = r#"{"type":"packet","number":1,"time":null,"#;
+    let after = r#""checksum":"not_looked_at","reason":"cut_off"}"#;
+    expect_all_written(rt, &line, &[before, members, after, "\n"]);
+}
+
+#[test]
+fn interfaces(rt: HostRuntime) {
+    for (number, name, members) in &INTERFACES {
+        expect_interface(&rt, *number, name, members);
     }
 }
 

@@ -80,6 +80,7 @@ pub fn first_info(time: Option<PacketTime>, len: Option<FrameLen>) -> PacketInfo
     };
     PacketInfo {
         number: 1,
+        interface: None,
         first: time,
         capture,
     }

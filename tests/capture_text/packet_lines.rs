@@ -2,12 +2,14 @@ use super::{expect_line, expect_line_of, expect_transport, expect_verdict, line_
 use crate::expect::{expect_all_written, expect_ok, expect_some, expect_written};
 use crate::packets::{OVER_IPV4, OVER_IPV6};
 use crate::summaries::first_info;
+use capture_file::reader::PacketInterface;
 use capture_link::LinkHeaderCutOff;
 use capture_packet::{
     Content, HopLimit, NetworkProtocol, Packet, Refusal, Transport, Tunnel, Verdict,
 };
 use capture_summary::FrameLen;
 use capture_text::write_packet_line;
+use capture_texts::KeptText;
 use capture_words::Times;
 use etherparse_transport::err::tcp::{HeaderError, HeaderSliceError};
 use etherparse_transport::err::{Layer, LenError, LenSource};
@@ -242,6 +244,43 @@ fn expect_hop_limit(
     let written = write_packet_line(&mut line, times, verbose, &info, &packet);
     expect_ok(rt, written);
     expect_written(rt, &line, wanted);
+}
+
+/// Interfaces by number, name, and whether the name is cut, each with its text in a line.
+#[rattlefmt::skip]
+static INTERFACES: [(u32, &[u8], bool, &str); 5] = [
+    (1, b"eth0", false, " eth0"),
+    (0, b"", false, " interface 0"),
+    (3, b"Ethernet 2", false, " Ethernet 2"),
+    (2, b"a\nb\x1B\xC3\xA9", true, " a\\x0Ab\\x1B\u{E9}..."),
+    (2, b"\xFFb", false, " \\xFFb"),
+];
+
+/// Stops the test unless the line of a packet of this interface has this text.
+fn expect_interface(
+    rt: &(impl Abort + AllocGlobal),
+    number: u32,
+    name: &[u8],
+    is_cut: bool,
+    wanted: &str,
+) {
+    let mut name = KeptText::new(name);
+    name.is_cut = is_cut;
+    let mut info = first_info(None, None);
+    info.interface = Some(PacketInterface { number, name });
+    let packet = Packet::in_no_tunnel(Content::Unread, Verdict::untested(Untested::CutOff));
+    let mut line = Vec::new(rt.alloc());
+    let written = write_packet_line(&mut line, Times::SinceFirst, true, &info, &packet);
+    expect_ok(rt, written);
+    let end = " length unknown: checksum not looked at: cut off\n";
+    expect_all_written(rt, &line, &["1 -", wanted, end]);
+}
+
+#[test]
+fn interfaces(rt: HostRuntime) {
+    for (number, name, is_cut, wanted) in &INTERFACES {
+        expect_interface(&rt, *number, name, *is_cut, wanted);
+    }
 }
 
 #[test]

@@ -1,6 +1,7 @@
 pub mod JsonArp
 pub mod JsonFacts
 pub mod JsonIcmp
+pub mod JsonInterface
 pub mod JsonOptions
 pub mod JsonPacket
 pub mod JsonSummary

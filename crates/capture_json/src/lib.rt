@@ -16,6 +16,7 @@ mod flows;
 mod fragment;
 mod icmp;
 mod icmpv6_fields;
+mod interface;
 #[doc(hidden)]
 pub mod laws;
 mod line;

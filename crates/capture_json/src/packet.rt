@@ -11,6 +11,7 @@ use crate::addresses::{put_addresses, put_payload_len, put_ports};
 use crate::arp::put_arp;
 use crate::fragment::put_fragment;
 use crate::icmp::{put_icmpv4, put_icmpv6};
+use crate::interface::put_interface;
 use crate::network::put_network_protocol;
 use crate::protocol::put_ip_protocol;
 use crate::quoted::put_quoted;
@@ -33,8 +34,8 @@ use udp_part::UdpSlice;
 /// The initial room of a text in bytes. Most texts fit into it.
 const TEXT_ROOM: usize = 64;
 
-/// Writes a packet as a JSON object of the type `packet`, on its own line. The object contains the number and the time of the packet, and
-/// the length of its frame. It also contains its tunnels, addresses, content, ARP packet, fragment fields, hop limit and verdict.
+/// Writes a packet as a JSON object of the type `packet`, on its own line. The object contains the number and the time of the packet, its
+/// interface if its section has several interfaces, and the length of its frame. It also contains its tunnels, addresses, content, ARP packet, fragment fields, hop limit and verdict.
 ///
 /// # Errors
 ///
@@ -47,7 +48,7 @@ pub fn write_packet<W: Write>(
     packet: &Packet,
 ) -> Result<(), WriteError>
     ensures { OnOk result (AppendsOne (W.contents output.old) (W.contents output.new)
-        (IsJsonLine times info.now.number info.now.first info.now.capture.time info.now.capture.len packet.now)) }
+        (IsJsonLine times info.now.number info.now.interface info.now.first info.now.capture.time info.now.capture.len packet.now)) }
 {
     let mut line = Line::new(alloc)?;
     line.begin_item()?;
@@ -66,12 +67,13 @@ fn put_packet(
     info: &PacketInfo,
     packet: &Packet,
 ) -> io::Result<()>
-    ensures { OnOk result (PutsOne (ArePacketMembers times info.now.number info.now.first info.now.capture.time info.now.capture.len packet.now)
+    ensures { OnOk result (PutsOne (ArePacketMembers times info.now.number info.now.interface info.now.first info.now.capture.time info.now.capture.len packet.now)
         (tokens_in line.old) (tokens_in line.new)) }
 {
     line.put_text("type", "packet")?;
     line.put_number("number", info.number)?;
     put_time(line, room, times, info.first, info.capture.time)?;
+    put_interface(line, room, &info.interface)?;
     put_frame_len(line, info.capture.len)?;
     put_tunnels(line, room, packet.tunnels.as_slice())?;
     put_content(line, room, &packet.content)?;

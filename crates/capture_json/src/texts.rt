@@ -47,7 +47,7 @@ fn put_kept_texts(line: &mut Line, room: &mut Vec<u8>, texts: &InterfaceTexts) -
 }
 
 /// Writes a member with this name and this text, unless the text is empty.
-fn put_kept(line: &mut Line, room: &mut Vec<u8>, name: &str, text: &KeptText) -> io::Result<()>
+pub fn put_kept(line: &mut Line, room: &mut Vec<u8>, name: &str, text: &KeptText) -> io::Result<()>
     ensures { OnOk result (tokens_in line.new ≡ with_members (kept_members name.now text.now) (tokens_in line.old)) }
 {
     if text.bytes.is_empty() {

@@ -168,7 +168,7 @@ module _ (first second : List ℕ) (first_room : length (section ++ first) ≡ m
       };
       requested = λ is. absurd (cc is);
       counted = refl;
-      is_text = refl;
+      is_text = (refl, refl, refl);
     };
   }
 
@@ -362,7 +362,7 @@ module _ (rest : List ℕ) (room : length (170 ∷ rest) ≡ max_packet_len) whe
   }
 
   -- the report of the capture: the packet is counted and has this line
-  writes_line : (parts : Parts) (line : List ℕ) → parts.choice ≡ every_packet → IsPacketText parts 1 None in_file line
+  writes_line : (parts : Parts) (line : List ℕ) → parts.choice ≡ every_packet → IsPacketText parts 1 (Classic after_packet) None in_file line
       → WritesCapture parts (Some (file_header ++ one_byte)) (Some []) (Ok End) empty_tables counted (Classic after_packet) (line ++ [])
   writes_line parts line every is_line = record {
     reader = Classic at_packet;
@@ -380,7 +380,7 @@ module _ (rest : List ℕ) (room : length (170 ∷ rest) ≡ max_packet_len) whe
       };
       requested = λ is. absurd (cc is);
       counted = rw every counts_packet;
-      is_text = (line, [], is_line, refl, refl);
+      is_text = (Classic after_packet, Some [], line, [], reads_packet, is_line, (refl, refl, refl), refl);
     };
   }
 
@@ -391,7 +391,7 @@ lines_alone = record summary_alone { lines = lines.All; summary = false }
 abbrev line : List ℕ
 line = codes "1 00:00:00.000000 length 1: link type 147\n"
 
-is_line : IsPacketText lines_alone 1 None in_file line
+is_line : IsPacketText lines_alone 1 (Classic after_packet) None in_file line
 unfolding char_count digits padded_integral
 is_line = record {
   packet = packet;

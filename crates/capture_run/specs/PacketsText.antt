@@ -1,9 +1,11 @@
 -- The text of a report: the line of each packet that has a line, in the order of the packets, then an empty line, and then the summary.
 use Rattle.std.specs.Prelude.{◌≡◌, ℕ, ◌+◌, ◌||◌, nat_lt, Bool, false, if◌then◌else◌, List, [], ◌∷◌, ◌++◌, codes, Option, Some, None, Result, Ok}
 use Rattle.std.specs.Option.{option_or}
-use Rattle.capture_file.specs.CapturePackets.{BeginsInput, FilePacket}
+use Rattle.capture_file.specs.CapturePackets.{BeginsInput, FilePacket, ReadsOne, kept, too_long}
+use Rattle.capture_file.specs.Interfaces.{interface_of}
 use Rattle.capture_file.specs.declared.reader.capture_reader.CaptureReader.{CaptureReader}
 use Rattle.capture_file.specs.declared.packet_time.PacketTime.{PacketTime}
+use Rattle.capture_file.specs.declared.reader.packet_interface.PacketInterface.{PacketInterface}
 use Rattle.capture_facts.specs.FactsText.{facts_text}
 use Rattle.capture_packet.specs.Frames.{max_packet_len}
 use Rattle.capture_json.specs.JsonSummary.{json_summary}
@@ -22,27 +24,37 @@ use Rattle.capture_request.specs.declared.capture_error.CaptureError.{CaptureErr
 use Rattle.capture_request.specs.declared.reached.Reached.{Reached}
 use Rattle.capture_request.specs.declared.reached.Reached.TheVariants.{Limit}
 
--- the text of a packet of a capture: its line if it is chosen and has a line, otherwise nothing
-abbrev pub IsPacketText : Parts → ℕ → Option PacketTime → FilePacket → List ℕ → Type 0
-IsPacketText parts number first packet text = IsTextOfOne (IsPacketOf packet) parts number first (info_of packet) text
+-- The interface of a packet, given the reader after this packet. The interface of a packet that is longer than the buffer is not known.
+abbrev pub packet_interface : CaptureReader → FilePacket → Option PacketInterface
+packet_interface reader (kept packet frame) = interface_of reader packet.interface
+packet_interface reader (too_long packet) = None
+
+-- The text of a packet of a capture: its line if it is chosen and has a line, otherwise nothing. `reader` is the reader after the packet.
+abbrev pub IsPacketText : Parts → ℕ → CaptureReader → Option PacketTime → FilePacket → List ℕ → Type 0
+IsPacketText parts number reader first packet text =
+    IsTextOfOne (IsPacketOf packet) parts number (packet_interface reader packet) first (info_of packet) text
 
 -- The first known time of the packets so far, these packets included. `first` is the first known time of the packets before these packets.
 abbrev pub first_time : Option PacketTime → List FilePacket → Option PacketTime
 first_time first [] = first
 first_time first (packet ∷ packets) = first_time (option_or first (packet_time packet)) packets
 
--- the texts of these packets, one after the other; the first packet has this number
-abbrev pub IsPacketsText : Parts → ℕ → Option PacketTime → List FilePacket → List ℕ → Type 0
-IsPacketsText parts number first [] text = text ≡ []
-IsPacketsText parts number first (packet ∷ packets) text =
-    (line : List ℕ) × (others : List ℕ) × IsPacketText parts number first packet line
-    × IsPacketsText parts (number + 1) (option_or first (packet_time packet)) packets others × (text ≡ line ++ others)
+-- These packets were read in their order, and `text` consists of their texts, one after the other. The first packet has this number.
+-- `before` is the reader before the packets, and `after` is the reader after them.
+abbrev pub ReadsTexts : Parts → ℕ → Option PacketTime → CaptureReader → Option (List ℕ) → Option (List ℕ) → CaptureReader → List FilePacket
+    → List ℕ → Type 0
+ReadsTexts parts number first before left still_left after [] text = (after ≡ before) × (still_left ≡ left) × (text ≡ [])
+ReadsTexts parts number first before left still_left after (packet ∷ packets) text =
+    (reader : CaptureReader) × (middle : Option (List ℕ)) × (line : List ℕ) × (others : List ℕ)
+    × ReadsOne max_packet_len before left middle reader packet × IsPacketText parts number reader first packet line
+    × ReadsTexts parts (number + 1) (option_or first (packet_time packet)) reader middle still_left after packets others
+    × (text ≡ line ++ others)
 
 -- a packet was read, and it was counted if it is chosen; `text` is the text of this packet
 pub record WritesPacket (parts : Parts) (number : ℕ) (first now_first : Option PacketTime) (reader : CaptureReader) (left still_left : Option (List ℕ)) (still_reader : CaptureReader) (before after : SummaryTables) (text : List ℕ) : Type 0 where
   pub reports : ReportsOne parts.choice reader left still_left still_reader before after
   pub is_first : now_first ≡ option_or first (packet_time reports.packet)
-  pub is_text : IsPacketText parts number first reports.packet text
+  pub is_text : IsPacketText parts number still_reader first reports.packet text
 
 -- The report of the packets of a capture, after its beginning. `packets` are all packets that were read until the report ended. The chosen
 -- packets were counted, and `text` consists of their texts. The first packet has number 1, whether it is chosen or not. If a number of
@@ -53,7 +65,7 @@ pub record WritesPackets (reader last : CaptureReader) (parts : Parts) (first : 
   pub read : ReadsUntil reader left still_left packets before.packets last ended
   pub requested : ended ≡ Ok Limit → EndsWithRequested parts before packets
   pub counted : CountsEach parts.choice before packets after
-  pub is_text : IsPacketsText parts 1 first packets text
+  pub is_text : ReadsTexts parts 1 first reader left read.middle read.before packets text
 
 -- the report of a capture with an accepted beginning; times are counted from the first packet of this capture that has a time
 pub record WritesCapture (parts : Parts) (left still_left : Option (List ℕ)) (ended : Result Reached CaptureError) (before after : SummaryTables) (last : CaptureReader) (text : List ℕ) : Type 0 where

@@ -9,6 +9,7 @@ mod capture_reports;
 mod named_capture;
 mod open;
 mod outputs;
+mod packet_place;
 mod packet_report;
 mod packets;
 mod report;

@@ -7,6 +7,7 @@ ghost use Rattle.capture_run.specs.ReportText.{IsLineIn, IsTextOf, IsTextOfChose
 ghost use Rattle.capture_words.specs.Written.{AppendsOne};
 ghost use Rattle.capture_request.specs.declared.parts.Lines.TheVariants as Lines;
 
+use crate::packet_place::PacketPlace;
 use crate::{Format, Lines, Parts, WriteError, packet_in_frame, packet_without_room};
 use capture_file::PacketTime;
 use capture_file::reader::{CapturedPacket, TooLongPacket};
@@ -71,12 +72,12 @@ impl PacketReport {
         self.summary
     }
 
-    /// Counts the packet in this frame, if the packet is chosen. Then the call writes the line of the packet, if it has a line. `number` is
-    /// the number of the packet in the capture.
+    /// Counts the packet in this frame, if the packet is chosen. Then the call writes the line of the packet, if it has a line. `place` is
+    /// the place of the packet in the capture.
     pub fn add<W: Write>(
         &mut self,
         output: &mut W,
-        number: u64,
+        place: PacketPlace,
         captured: &CapturedPacket,
         frame: &[u8],
     ) -> Result<(), WriteError>
@@ -84,18 +85,18 @@ impl PacketReport {
         ensures none { self.old.parts.lines ≡ Lines.None → output.new ≡ output.old }
         ensures silent { IfNoLine (IsReadAs captured.now.link_type captured.now frame.now) self.old.parts (output.new ≡ output.old) }
         ensures text { OnOk result (AppendsOne (W.contents output.old) (W.contents output.new)
-            (IsTextOfOne (IsReadAs captured.now.link_type captured.now frame.now) self.old.parts number self.old.first (captured_info captured.now))) }
+            (IsTextOfOne (IsReadAs captured.now.link_type captured.now frame.now) self.old.parts place.number place.interface self.old.first (captured_info captured.now))) }
         ensures counted { OnOk result (CountsPacket self.old.parts.choice (IsReadAs captured.now.link_type captured.now frame.now)
             (captured_info captured.now) self.old.summary self.new.summary) }
         ensures parts { self.new.parts ≡ self.old.parts }
         ensures first { self.new.first ≡ option_or self.old.first captured.now.time }
     {
         let packet = packet_in_frame(captured, frame);
-        self.add_packet(output, number, &captured_info(captured), &packet)
+        self.add_packet(output, place, &captured_info(captured), &packet)
     }
 
     /// Counts a packet that does not fit in the buffer, if the packet is chosen. Then the call writes the line of the packet, if it has a
-    /// line. The checksum of this packet is not tested.
+    /// line. The checksum of this packet is not tested, and its interface is not known.
     pub fn add_too_long<W: Write>(
         &mut self,
         output: &mut W,
@@ -106,28 +107,32 @@ impl PacketReport {
         ensures none { self.old.parts.lines ≡ Lines.None → output.new ≡ output.old }
         ensures silent { IfNoLine (IsTooLong captured.now.required_len) self.old.parts (output.new ≡ output.old) }
         ensures text { OnOk result (AppendsOne (W.contents output.old) (W.contents output.new)
-            (IsTextOfOne (IsTooLong captured.now.required_len) self.old.parts number self.old.first (too_long_info captured.now))) }
+            (IsTextOfOne (IsTooLong captured.now.required_len) self.old.parts number None self.old.first (too_long_info captured.now))) }
         ensures counted { OnOk result (CountsPacket self.old.parts.choice (IsTooLong captured.now.required_len)
             (too_long_info captured.now) self.old.summary self.new.summary) }
         ensures parts { self.new.parts ≡ self.old.parts }
         ensures first { self.new.first ≡ option_or self.old.first captured.now.time }
     {
         let packet = packet_without_room(captured.required_len);
-        self.add_packet(output, number, &too_long_info(captured), &packet)
+        let place = PacketPlace {
+            number,
+            interface: None,
+        };
+        self.add_packet(output, place, &too_long_info(captured), &packet)
     }
 
     /// Counts a packet, if it is chosen. Then the function writes the line of the packet, if it has a line.
     fn add_packet<W: Write>(
         &mut self,
         output: &mut W,
-        number: u64,
+        place: PacketPlace,
         info: &CaptureInfo,
         packet: &Packet<'_>,
     ) -> Result<(), WriteError>
         requires room { self.old.summary.packets < 2 ^ 64 - 1 }
         ensures counted { OnOk result (CountsChosen self.old.parts.choice packet.now info.now self.old.summary self.new.summary) }
         ensures text { OnOk result (AppendsOne (W.contents output.old) (W.contents output.new)
-            (IsTextOf self.old.parts number self.old.first info.now packet.now)) }
+            (IsTextOf self.old.parts place.number place.interface self.old.first info.now packet.now)) }
         ensures silent { HasNoLine self.old.parts packet.now → output.new ≡ output.old }
         ensures parts { self.new.parts ≡ self.old.parts }
         ensures first { self.new.first ≡ option_or self.old.first info.now.time }
@@ -139,7 +144,8 @@ impl PacketReport {
         }
         count(&mut self.summary, info, packet)?;
         let placed = PacketInfo {
-            number,
+            number: place.number,
+            interface: place.interface,
             first,
             capture: *info,
         };
@@ -154,7 +160,7 @@ impl PacketReport {
         packet: &Packet<'_>,
     ) -> Result<(), WriteError>
         ensures text { OnOk result (AppendsOne (W.contents output.old) (W.contents output.new)
-            (IsTextOfChosen self.now.parts info.now.number info.now.first info.now.capture packet.now)) }
+            (IsTextOfChosen self.now.parts info.now.number info.now.interface info.now.first info.now.capture packet.now)) }
         ensures silent { has_line self.now.parts.lines packet.now.verdict ≡ false → output.new ≡ output.old }
     {
         if !self.parts.lines.include(&packet.verdict) {
@@ -171,7 +177,7 @@ impl PacketReport {
         packet: &Packet<'_>,
     ) -> Result<(), WriteError>
         ensures { OnOk result (AppendsOne (W.contents output.old) (W.contents output.new)
-            (IsLineIn self.now.parts.format self.now.parts.times self.now.parts.verbose info.now.number info.now.first info.now.capture packet.now)) }
+            (IsLineIn self.now.parts.format self.now.parts.times self.now.parts.verbose info.now.number info.now.interface info.now.first info.now.capture packet.now)) }
     {
         let (times, verbose) = (self.parts.times, self.parts.verbose);
         match self.parts.format {

@@ -11,6 +11,7 @@ ghost use Rattle.capture_run.specs.Runs.{RejectsBeginning};
 ghost use Rattle.capture_words.specs.Written.{AppendsOne};
 ghost use Rattle.capture_request.specs.declared.parts.Lines.TheVariants as Lines;
 
+use crate::packet_place::PacketPlace;
 use crate::packet_report::PacketReport;
 use crate::{CaptureError, MAX_PACKET_LEN, Reached, WriteError};
 use capture_file::reader::{CaptureReader, NextPacket};
@@ -124,7 +125,9 @@ fn report_next<R: Read, W: Write>(
     match reader.next_packet(input, buffer) {
         Ok(NextPacket::Whole(packet)) => {
             let frame = &buffer[packet.start..packet.start + packet.captured_len];
-            packets.add(output, number, &packet, frame)?;
+            let interface = reader.interface_of(&packet);
+            let place = PacketPlace { number, interface };
+            packets.add(output, place, &packet, frame)?;
             Ok(None)
         }
         Ok(NextPacket::TooLong(packet)) => {

@@ -1,13 +1,14 @@
 //! The report as text: the line of a packet, and the tables of a summary. Nothing is allocated.
 //!
-//! `write_packet_line` writes the line of a packet. It contains the number of the packet, its time, the length of its frame, its addresses
-//! and its content, and then the verdict on its checksum. `write_summary` writes the tables. Bytes and checksums are hex digits in upper
+//! `write_packet_line` writes the line of a packet. It contains the number of the packet, its time, its interface, the length of its frame, its
+//! addresses and its content, and then the verdict on its checksum. `write_summary` writes the tables. Bytes and checksums are hex digits in upper
 //! case. All other numbers are decimal.
 #![tactic(auto)]
 
 mod addresses;
 mod arp;
 mod fragment;
+mod interface;
 #[doc(hidden)]
 pub mod laws;
 mod packet_line;

@@ -12,6 +12,7 @@ ghost use Rattle.capture_words.specs.Written.{AppendsOne};
 use crate::addresses::{write_addresses, write_endpoints};
 use crate::arp::write_arp;
 use crate::fragment::write_fragment;
+use crate::interface::write_interface;
 use crate::verdict::{is_other_protocol, write_verdict};
 use capture_packet::{
     Content, HopLimit, NetworkProtocol, Packet, QuotedPacket, Transport, Tunnel, Verdict,
@@ -27,8 +28,8 @@ use tcp_part::TcpSlice;
 use transport_part::TransportSlice;
 use udp_part::UdpSlice;
 
-/// Writes the line of a packet: its number, its time, the length of its frame, its tunnels, its addresses, its content with an ARP packet,
-/// the fields of its fragment, and its verdict. A bar follows each tunnel. A verbose line also shows the hop limit or the time to live of the packet, if its
+/// Writes the line of a packet: its number, its time, its interface if its section has several interfaces, the length of its frame, its
+/// tunnels, its addresses, its content with an ARP packet, the fields of its fragment, and its verdict. A bar follows each tunnel. A verbose line also shows the hop limit or the time to live of the packet, if its
 /// IP header was captured.
 ///
 /// ```text
@@ -46,10 +47,11 @@ pub fn write_packet_line<W: Write>(
     packet: &Packet,
 ) -> io::Result<()>
     ensures { OnOk result (AppendsOne (W.contents output.old) (W.contents output.new)
-        (IsLine times verbose info.now.number info.now.first info.now.capture.time info.now.capture.len packet.now)) }
+        (IsLine times verbose info.now.number info.now.interface info.now.first info.now.capture.time info.now.capture.len packet.now)) }
 {
     write!(output, "{} ", info.number)?;
     write_time(output, times, info.first, info.capture.time)?;
+    write_interface(output, &info.interface)?;
     write_frame_len(output, info.capture.len)?;
     write_tunnels(output, packet.tunnels.as_slice())?;
     write_content(output, &packet.content)?;

@@ -4,7 +4,7 @@ import re
 
 from ..build import ETHERNET, capture, pcapng
 from ..kinds import every_kind
-from .report import LENGTH, ends_of, lines_of, quoted_ends_of, run, verdict_of
+from .report import INTERFACE, LENGTH, ends_of, lines_of, quoted_ends_of, run, verdict_of
 
 
 def in_network(address, hosts):
@@ -25,7 +25,7 @@ def in_ranges(port, values):
 
 def is_chosen(line, protocol=(), **values):
     """Whether the packet of a line is one of these, by what its line says of it."""
-    named = re.match(rf"\d+ \S+ {LENGTH}(?:\S+ > \S+ )?([A-Za-z][\w-]*)", line)
+    named = re.match(rf"\d+ \S+ {INTERFACE}{LENGTH}(?:\S+ > \S+ )?([A-Za-z][\w-]*)", line)
     own = ends_of(line)
     ends = own + quoted_ends_of(line)
     hosts = {"host": ends, "source": own[:1], "destination": own[1:], "not-host": ends}

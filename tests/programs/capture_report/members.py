@@ -96,6 +96,7 @@ def members_of(line):
     """What a line with -v says of a packet, as the members of its object, without the time in numbers; of a message without type and code,
     and its options as one text."""
     limit = {with_underscores(name): int(value) for name, value in HOP_LIMIT.findall(line)}
+    limit |= {"interface": int(number) for number in re.findall(r"^\d+ \S+ interface (\d+) ", line)}
     fragments = [{"identification": int(identification, 16), "offset": int(offset), "more_fragments": bool(more)}
                  for identification, offset, more in FRAGMENT.findall(line)]
     number, time, length, rest = parts_of(FRAGMENT.sub("", HOP_LIMIT.sub("", line)))

@@ -29,6 +29,9 @@ def lines_of(text):
     return text.decode().splitlines()
 
 
+# The interface of a packet in a line, if the interface has no name. A line has no interface if its section has only one.
+INTERFACE = r"(?:interface \d+ )?"
+
 # The length of its frame in a line.
 LENGTH = r"length (?:\d+(?:, \d+ captured)?|unknown): "
 
@@ -48,7 +51,7 @@ def fragment_text(flags):
 
 def parts_of(line):
     """The number of a line, its time, the length of its frame, and the rest."""
-    return re.fullmatch(rf"(\d+) (\S+) ({LENGTH})(.*)", line).groups()
+    return re.fullmatch(rf"(\d+) (\S+) {INTERFACE}({LENGTH})(.*)", line).groups()
 
 
 def length_text(entry):
@@ -59,7 +62,7 @@ def length_text(entry):
 
 def ends_of(line):
     """The address and the port of source and destination, as far as a line has them."""
-    return ends_in(re.match(rf"\d+ \S+ {LENGTH}(\S+) > ([^ ;]+)", line))
+    return ends_in(re.match(rf"\d+ \S+ {INTERFACE}{LENGTH}(\S+) > ([^ ;]+)", line))
 
 
 def quoted_ends_of(line):

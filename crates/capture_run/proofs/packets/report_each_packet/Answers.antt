@@ -108,7 +108,7 @@ returns-in-Some-clause-cut g c =
 
 -- before the first packet nothing is read, counted or written
 pub loop-number-init : goal.loop-number-init
-loop-number-init g c = ([], (refl, refl), refl, refl, omega arith, refl, refl, (λ none. refl), (λ within. within), refl, inl refl, ([], refl, Appends-nil _))
+loop-number-init g c = ([], (refl, refl), refl, refl, omega arith, refl, refl, (λ none. refl), (λ within. within), refl, inl refl, ([], (refl, refl, refl), Appends-nil _))
 
 -- the invariant holds after another packet
 pub loop-number-preserved : goal.loop-number-preserved
@@ -137,7 +137,9 @@ loop-number-preserved g c =
           next.counted,
       one.is_first ∙ sym (first-push initial.first packets next.packet),
       inr (packets, next.packet, before, refl, counted, rw parts at (sym c.is_full.ensures ∙ c.if-is_full.false)),
-      written-push initial.parts now initial.first packets next.packet line _ contents new_contents wrote (omega (arith, number)) one.is_text appended,
+      written-push initial.parts now initial.first c.args.reader.now c.loop-number.reader c.report_next.new.reader
+          (g.R.Read.remaining c.args.input.now) left still_left packets next.packet line _ contents new_contents wrote (omega (arith, number))
+          next.reads one.is_text appended,
     )
 
 -- the limit is reached

@@ -2,7 +2,7 @@ use Rattle.std.proofs.Common.{◌≡◌, ◌+◌, ◌≤◌, List, length}
 use Rattle.capture_file.specs.CapturePackets.{FilePacket, ReadsPackets}
 use Rattle.capture_packet.specs.Frames.{max_packet_len}
 use Rattle.capture_request.specs.Limits.{EndsWithRequested, IsWithin, limited}
-use Rattle.capture_run.specs.PacketsText.{IsPacketsText, first_time}
+use Rattle.capture_run.specs.PacketsText.{ReadsTexts, first_time}
 use Rattle.capture_request.specs.Report.{CountsEach}
 use Rattle.capture_words.specs.Written.{AppendsOne}
 use Rattle.capture_request.specs.declared.parts.Lines.TheVariants as lines
@@ -24,4 +24,5 @@ invariant-loop-number g l =
     × (l.packets.first ≡ first_time l.initial.packets.first packets)
     × EndsWithRequested l.initial.packets.parts l.initial.packets.summary packets
     × AppendsOne (g.W.Write.contents l.initial.output) (g.W.Write.contents l.output)
-    (IsPacketsText l.initial.packets.parts 1 l.initial.packets.first packets)
+    (λ text. ReadsTexts l.initial.packets.parts 1 l.initial.packets.first l.initial.reader (g.R.Read.remaining l.initial.input)
+    (g.R.Read.remaining l.input) l.reader packets text)
