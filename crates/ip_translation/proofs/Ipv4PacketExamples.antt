@@ -84,11 +84,6 @@ no_checksum : packet_refusal prefixes (0x6b ∷ 0x90 ∷ 0 ∷ 0 ∷ 0 ∷ 0x0b 
 unfolding skipped_from prefixes
 no_checksum = refl
 
--- a fragment header
-fragment : packet_refusal prefixes (0x6b ∷ 0x90 ∷ 0 ∷ 0 ∷ 0 ∷ 0x0b ∷ 0x2c ∷ 0x3f ∷ 0x20 ∷ 1 ∷ 0x0d ∷ 0xb8 ∷ 0xc0 ∷ 0 ∷ 2 ∷ 0x21 ∷ 0 ∷ 0 ∷ 0 ∷ 0 ∷ 0 ∷ 0 ∷ 0 ∷ 0 ∷ 0x20 ∷ 1 ∷ 0x0d ∷ 0xb8 ∷ 1 ∷ 0x22 ∷ 3 ∷ 0x44 ∷ 0 ∷ 0 ∷ 0 ∷ 0 ∷ 0xc6 ∷ 0x33 ∷ 0x64 ∷ 7 ∷ 0 ∷ 0x15 ∷ 4 ∷ 0xd2 ∷ 0 ∷ 0x0b ∷ 0xea ∷ 0x59 ∷ 0x61 ∷ 0x62 ∷ 0x63 ∷ []) 100 ≡ Some (Header (ExtensionHeader 44))
-unfolding skipped_from prefixes
-fragment = refl
-
 -- the UDP packet after hop-by-hop options of 8 bytes, a routing header of 24 bytes with this number of segments left, and destination options
 -- of 8 bytes
 extended_packet : ℕ → List ℕ
@@ -118,6 +113,58 @@ segments_left = refl
 cut_off_options : packet_refusal prefixes (0x6b ∷ 0x90 ∷ 0 ∷ 0 ∷ 0 ∷ 0x0b ∷ 60 ∷ 0x3f ∷ 0x20 ∷ 1 ∷ 0x0d ∷ 0xb8 ∷ 0xc0 ∷ 0 ∷ 2 ∷ 0x21 ∷ 0 ∷ 0 ∷ 0 ∷ 0 ∷ 0 ∷ 0 ∷ 0 ∷ 0 ∷ 0x20 ∷ 1 ∷ 0x0d ∷ 0xb8 ∷ 1 ∷ 0x22 ∷ 3 ∷ 0x44 ∷ 0 ∷ 0 ∷ 0 ∷ 0 ∷ 0xc6 ∷ 0x33 ∷ 0x64 ∷ 7 ∷ 0 ∷ 0x15 ∷ 4 ∷ 0xd2 ∷ 0 ∷ 0x0b ∷ 0xea ∷ 0x59 ∷ 0x61 ∷ 0x62 ∷ 0x63 ∷ []) 100 ≡ Some (ExtensionHeaderCutOff 60 176 11)
 unfolding skipped_from prefixes
 cut_off_options = refl
+
+-- the last fragment of a UDP packet, with the identification ABCD1234
+later_fragment : List ℕ
+later_fragment =
+    0x6b ∷ 0x90 ∷ 0 ∷ 0 ∷ 0 ∷ 0x10 ∷ 0x2c ∷ 0x3f ∷ 0x20 ∷ 1 ∷ 0x0d ∷ 0xb8 ∷ 0xc0 ∷ 0 ∷ 2 ∷ 0x21
+    ∷ 0 ∷ 0 ∷ 0 ∷ 0 ∷ 0 ∷ 0 ∷ 0 ∷ 0 ∷ 0x20 ∷ 1 ∷ 0x0d ∷ 0xb8 ∷ 1 ∷ 0x22 ∷ 3 ∷ 0x44
+    ∷ 0 ∷ 0 ∷ 0 ∷ 0 ∷ 0xc6 ∷ 0x33 ∷ 0x64 ∷ 7 ∷ 0x11 ∷ 0 ∷ 0 ∷ 0x10 ∷ 0xab ∷ 0xcd ∷ 0x12 ∷ 0x34
+    ∷ 0x69 ∷ 0x6a ∷ 0x6b ∷ 0x6c ∷ 0x6d ∷ 0x6e ∷ 0x6f ∷ 0x70 ∷ []
+
+-- over IPv4 its data is unchanged, and its identification is 1234
+later_fragment_ipv4 : List ℕ
+later_fragment_ipv4 =
+    0x45 ∷ 0xb9 ∷ 0 ∷ 0x1c ∷ 0x12 ∷ 0x34 ∷ 0 ∷ 2 ∷ 0x3e ∷ 0x11 ∷ 0x7d ∷ 0x86 ∷ 0xc0 ∷ 0 ∷ 2 ∷ 0x21
+    ∷ 0xc6 ∷ 0x33 ∷ 0x64 ∷ 7 ∷ 0x69 ∷ 0x6a ∷ 0x6b ∷ 0x6c ∷ 0x6d ∷ 0x6e ∷ 0x6f ∷ 0x70 ∷ []
+
+later_fragment_accepted : packet_refusal prefixes later_fragment 28 ≡ None
+unfolding skipped_from prefixes later_fragment
+later_fragment_accepted = refl
+
+later_fragment_translated : translated_packet prefixes 0xbeef later_fragment ≡ later_fragment_ipv4
+unfolding skipped_from folded prefixes later_fragment later_fragment_ipv4
+later_fragment_translated = refl
+
+-- the same fragment, but with an authentication header after its fragment header
+extended_fragment : List ℕ
+extended_fragment =
+    0x6b ∷ 0x90 ∷ 0 ∷ 0 ∷ 0 ∷ 0x10 ∷ 0x2c ∷ 0x3f ∷ 0x20 ∷ 1 ∷ 0x0d ∷ 0xb8 ∷ 0xc0 ∷ 0 ∷ 2 ∷ 0x21
+    ∷ 0 ∷ 0 ∷ 0 ∷ 0 ∷ 0 ∷ 0 ∷ 0 ∷ 0 ∷ 0x20 ∷ 1 ∷ 0x0d ∷ 0xb8 ∷ 1 ∷ 0x22 ∷ 3 ∷ 0x44
+    ∷ 0 ∷ 0 ∷ 0 ∷ 0 ∷ 0xc6 ∷ 0x33 ∷ 0x64 ∷ 7 ∷ 0x33 ∷ 0 ∷ 0 ∷ 0x10 ∷ 0xab ∷ 0xcd ∷ 0x12 ∷ 0x34
+    ∷ 0x69 ∷ 0x6a ∷ 0x6b ∷ 0x6c ∷ 0x6d ∷ 0x6e ∷ 0x6f ∷ 0x70 ∷ []
+
+extended_fragment_refused : packet_refusal prefixes extended_fragment 100 ≡ Some (Header (ExtensionHeader 51))
+unfolding skipped_from prefixes extended_fragment
+extended_fragment_refused = refl
+
+-- an echo request in an atomic fragment
+atomic_fragment : List ℕ
+atomic_fragment =
+    0x6b ∷ 0x90 ∷ 0 ∷ 0 ∷ 0 ∷ 0x14 ∷ 0x2c ∷ 0x3f ∷ 0x20 ∷ 1 ∷ 0x0d ∷ 0xb8 ∷ 0xc0 ∷ 0 ∷ 2 ∷ 0x21
+    ∷ 0 ∷ 0 ∷ 0 ∷ 0 ∷ 0 ∷ 0 ∷ 0 ∷ 0 ∷ 0x20 ∷ 1 ∷ 0x0d ∷ 0xb8 ∷ 1 ∷ 0x22 ∷ 3 ∷ 0x44
+    ∷ 0 ∷ 0 ∷ 0 ∷ 0 ∷ 0xc6 ∷ 0x33 ∷ 0x64 ∷ 7 ∷ 0x3a ∷ 0 ∷ 0 ∷ 0 ∷ 0 ∷ 0 ∷ 0 ∷ 0x77
+    ∷ 0x80 ∷ 0 ∷ 0x42 ∷ 0x78 ∷ 0x12 ∷ 0x34 ∷ 0 ∷ 7 ∷ 0x70 ∷ 0x69 ∷ 0x6e ∷ 0x67 ∷ []
+
+-- over IPv4 it is a whole packet with the identification of its fragment header
+atomic_fragment_ipv4 : List ℕ
+atomic_fragment_ipv4 =
+    0x45 ∷ 0xb9 ∷ 0 ∷ 0x20 ∷ 0 ∷ 0x77 ∷ 0 ∷ 0 ∷ 0x3e ∷ 1 ∷ 0x8f ∷ 0x51 ∷ 0xc0 ∷ 0 ∷ 2 ∷ 0x21
+    ∷ 0xc6 ∷ 0x33 ∷ 0x64 ∷ 7 ∷ 8 ∷ 0 ∷ 6 ∷ 0xf4 ∷ 0x12 ∷ 0x34 ∷ 0 ∷ 7 ∷ 0x70 ∷ 0x69 ∷ 0x6e ∷ 0x67 ∷ []
+
+atomic_fragment_translated : translated_packet prefixes 0xbeef atomic_fragment ≡ atomic_fragment_ipv4
+unfolding skipped_from folded prefixes atomic_fragment atomic_fragment_ipv4
+atomic_fragment_translated = refl
 
 -- "packet too big" with an MTU of 1420 bytes, about a TCP segment
 packet_too_big : List ℕ

@@ -1,5 +1,5 @@
 -- The IPv4 header for an IPv6 header (RFC 7915, section 5.1), and the IPv6 headers that are not translated.
-use Rattle.std.specs.Prelude.{ℕ, ◌+◌, ◌-◌, ◌/◌, ◌%◌, ◌==◌, Bool, ◌||◌, nat_le, nat_lt, if◌then◌else◌, List, [], ◌∷◌, ◌++◌, slice_index, slice_range, Option}
+use Rattle.std.specs.Prelude.{ℕ, ◌+◌, ◌-◌, ◌/◌, ◌%◌, ◌==◌, Bool, ◌||◌, nat_lt, if◌then◌else◌, List, [], ◌∷◌, ◌++◌, slice_index, slice_range, Option}
 use Rattle.std.specs.Int.{to_be_bytes, w16}
 use Rattle.std.specs.Option.{option_map}
 use Rattle.net_base.specs.Bytes.{be_number}
@@ -7,8 +7,10 @@ use Rattle.net_base.specs.IpNumbers.{icmpv4_number, icmpv6_number}
 use Rattle.net_base.specs.PseudoHeader.{ipv4_pseudo_header, ipv6_pseudo_header, max_len_over_ipv4}
 use Rattle.net_base.specs.Refusals.{first_of, refused_if}
 use Rattle.word_sum.specs.Checksum.{checksum_of, folded, total}
+use Rattle.ip_translation.specs.Fragments.{flags_and_offset, whole}
 use Rattle.ip_translation.specs.HeadersToIpv6.{is_illegal}
 use Rattle.ip_translation.specs.Prefixes.{extracted, to_ipv4_refusal}
+use Rattle.ip_translation.specs.declared.fragment_fields.FragmentFields.{FragmentFields}
 use Rattle.ip_translation.specs.declared.prefixes.Prefixes.{Prefixes}
 use Rattle.ip_translation.specs.declared.translation_error.TranslationError.{TranslationError}
 use Rattle.ip_translation.specs.declared.translation_error.TranslationError.TheVariants.{Destination, ExtensionHeader, IllegalDestination, IllegalSource, PayloadLength, Source, TimeExceeded}
@@ -87,15 +89,12 @@ quoted_header_refusal prefixes header = first_of (quoted_field_refusal header �
 abbrev pub protocol_of : ℕ → ℕ
 protocol_of number = if number == icmpv6_number then icmpv4_number else number
 
--- the byte with the flags; "don't fragment" is set in a packet of more than 1260 bytes (RFC 7915, section 5.1)
-abbrev pub flags : ℕ → ℕ
-flags total_len = if nat_le total_len 1260 then 0 else 0x40
-
 -- The first ten bytes of an IPv4 header (RFC 791, section 3.1). They are version, header length, type of service, total length,
 -- identification, flags, fragment offset, time to live and protocol.
-abbrev pub start_of_ipv4 : ℕ → ℕ → ℕ → ℕ → ℕ → List ℕ
-start_of_ipv4 service total_len identification time_to_live protocol =
-    0x45 ∷ service ∷ to_be_bytes w16 total_len ++ (to_be_bytes w16 identification ++ (flags total_len ∷ 0 ∷ time_to_live ∷ protocol ∷ []))
+abbrev pub start_of_ipv4 : ℕ → ℕ → FragmentFields → ℕ → ℕ → List ℕ
+start_of_ipv4 service total_len fields time_to_live protocol =
+    0x45 ∷ service ∷ to_be_bytes w16 total_len ++ (to_be_bytes w16 fields.identification
+    ++ (to_be_bytes w16 (flags_and_offset fields.flags_and_offset total_len) ++ (time_to_live ∷ protocol ∷ [])))
 
 -- an IPv4 header with these first ten bytes, this checksum, and these addresses
 abbrev pub with_header_checksum : List ℕ → ℕ → List ℕ → List ℕ → List ℕ
@@ -106,21 +105,21 @@ abbrev pub ipv4_header : List ℕ → List ℕ → List ℕ → List ℕ
 ipv4_header start source destination =
     with_header_checksum start (checksum_of (total (with_header_checksum start 0 source destination))) source destination
 
--- the IPv4 header for this IPv6 header, with this identification, this total length and this time to live
-abbrev pub header_with : Prefixes → ℕ → ℕ → ℕ → List ℕ → List ℕ
-header_with prefixes identification total_len time_to_live header = ipv4_header
-    (start_of_ipv4 (traffic_class header) total_len identification time_to_live (protocol_of (next_header header)))
+-- the IPv4 header for this IPv6 header, with these fields of a fragment, this total length and this time to live
+abbrev pub header_with : Prefixes → FragmentFields → ℕ → ℕ → List ℕ → List ℕ
+header_with prefixes fields total_len time_to_live header = ipv4_header
+    (start_of_ipv4 (traffic_class header) total_len fields time_to_live (protocol_of (next_header header)))
     (extracted prefixes.source (source header))
     (extracted prefixes.destination (destination header))
 
 -- the IPv4 header for this IPv6 header
-abbrev pub translated_header : Prefixes → ℕ → List ℕ → List ℕ
-translated_header prefixes identification header =
-    header_with prefixes identification (payload_len header + 20) (hop_limit header - 1) header
+abbrev pub translated_header : Prefixes → FragmentFields → List ℕ → List ℕ
+translated_header prefixes fields header =
+    header_with prefixes fields (payload_len header + 20) (hop_limit header - 1) header
 
 -- the IPv4 header for the header of a quoted packet, which keeps its hop limit; the identification is 0
 abbrev pub quoted_header : Prefixes → List ℕ → List ℕ
-quoted_header prefixes header = header_with prefixes 0 (payload_len header + 20) (hop_limit header) header
+quoted_header prefixes header = header_with prefixes (whole 0) (payload_len header + 20) (hop_limit header) header
 
 -- ---- the pseudo headers of UDP and TCP
 

@@ -3,6 +3,7 @@ pub mod EchoMessages
 pub mod ErrorTexts
 pub mod ErrorsToIpv4
 pub mod ErrorsToIpv6
+pub mod Fragments
 pub mod HeadersToIpv4
 pub mod HeadersToIpv6
 pub mod IcmpErrors

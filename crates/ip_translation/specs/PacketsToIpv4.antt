@@ -9,12 +9,14 @@ use Rattle.word_sum.specs.Checksum.{Verifies}
 use Rattle.word_sum.specs.UpdatedChecksum.{updated_checksum_of, updated_udp_checksum_of}
 use Rattle.ip_translation.specs.EchoMessages.{translated_echo, type_over_ipv4}
 use Rattle.ip_translation.specs.ErrorsToIpv4.{error_refusal, error_without_checksum, translated_error, with_new_checksum}
+use Rattle.ip_translation.specs.Fragments.{is_later, is_part}
 use Rattle.ip_translation.specs.HeadersToIpv4.{added_addresses, header_refusal, header_with, hop_limit, new_pseudo_header, next_header, old_pseudo_header, payload_len, removed_addresses, translated_header}
 use Rattle.ip_translation.specs.PacketsToIpv6.{VerifiesAlike, header_len_refusal, tcp_checksum, udp_checksum}
+use Rattle.ip_translation.specs.declared.fragment_fields.FragmentFields.{FragmentFields}
 use Rattle.ip_translation.specs.declared.packet_translation_error.PacketTranslationError.{PacketTranslationError}
-use Rattle.ip_translation.specs.declared.packet_translation_error.PacketTranslationError.TheVariants.{CutOff, Header, NoIpv6Header, NoUdpChecksum, Space}
+use Rattle.ip_translation.specs.declared.packet_translation_error.PacketTranslationError.TheVariants.{CutOff, Header, IcmpFragment, NoIpv6Header, NoUdpChecksum, Space}
 use Rattle.ip_translation.specs.declared.prefixes.Prefixes.{Prefixes}
-pub use Rattle.ip_translation.specs.Ipv6Packets.{begins_with_header, direct_header, direct_in, header_before, message_in, message_of, payload_after, payload_of, skipped_in}
+pub use Rattle.ip_translation.specs.Ipv6Packets.{begins_with_header, direct_header, direct_in, fields_in, fields_of, flags_in, header_before, message_in, message_of, payload_after, payload_of, skipped_in}
 
 -- ---- errors
 
@@ -63,19 +65,33 @@ refusal_of protocol prefixes message room =
     if is_icmp_error protocol message then error_packet_refusal prefixes message room
     else other_refusal protocol message room
 
--- the first error of a packet that consists of this header and this message; `room` is the length of the buffer
-abbrev pub direct_refusal : List ℕ → Prefixes → List ℕ → ℕ → Option PacketTranslationError
-direct_refusal header prefixes message room = first_of (
+-- the first error of a whole packet that consists of this header and this message; `room` is the length of the buffer
+abbrev pub whole_refusal : List ℕ → Prefixes → List ℕ → ℕ → Option PacketTranslationError
+whole_refusal header prefixes message room = first_of (
     option_map Header (header_refusal prefixes header)
     ∷ refusal_of (next_header header) prefixes message room
     ∷ [])
+
+-- The first error of one of several fragments, which consists of this header and this part of a message. ICMPv6 messages in fragments are
+-- not translated (RFC 7915, section 1.2). A later fragment has no transport header. `flags` is the flags and the offset.
+abbrev pub part_refusal : List ℕ → Prefixes → Option ℕ → List ℕ → ℕ → Option PacketTranslationError
+part_refusal header prefixes flags message room = first_of (
+    option_map Header (header_refusal prefixes header)
+    ∷ refused_if (next_header header == icmpv6_number) IcmpFragment
+    ∷ (if is_later flags then space_refusal (length message) room else other_refusal (next_header header) message room)
+    ∷ [])
+
+-- the first error of a packet or a fragment that consists of this header and this message
+abbrev pub direct_refusal : List ℕ → Prefixes → Option ℕ → List ℕ → ℕ → Option PacketTranslationError
+direct_refusal header prefixes flags message room =
+    if is_part flags then part_refusal header prefixes flags message room else whole_refusal header prefixes message room
 
 -- The first error of a packet with this header and this payload. An extension header is refused, or the packet without its extension headers
 -- is refused.
 abbrev pub payload_refusal : List ℕ → Prefixes → List ℕ → ℕ → Option PacketTranslationError
 payload_refusal header prefixes payload room = first_of (
     error_of (skipped_in header payload)
-    ∷ direct_refusal (direct_in header payload) prefixes (message_in header payload) room
+    ∷ direct_refusal (direct_in header payload) prefixes (flags_in header payload) (message_in header payload) room
     ∷ [])
 
 -- the first error of a packet, which must begin with an IPv6 header and must be whole; `room` is the length of the buffer
@@ -116,25 +132,43 @@ updated_message prefixes header message =
 -- ---- the translated packet
 
 -- the IPv4 packet with the error; its total length counts the translated error
-abbrev pub error_packet : List ℕ → Prefixes → ℕ → List ℕ → List ℕ
-error_packet header prefixes identification message =
-    header_with prefixes identification (length (error_without_checksum prefixes message) + 20) (hop_limit header - 1) header
+abbrev pub error_packet : List ℕ → Prefixes → FragmentFields → List ℕ → List ℕ
+error_packet header prefixes fields message =
+    header_with prefixes fields (length (error_without_checksum prefixes message) + 20) (hop_limit header - 1) header
     ++ translated_error prefixes header message
 
--- the translation of a packet that consists of this IPv6 header and this message; the IPv4 header has this identification
-abbrev pub translation_of : List ℕ → Prefixes → ℕ → List ℕ → List ℕ
-translation_of header prefixes identification message =
-    if is_icmp_error (next_header header) message then error_packet header prefixes identification message
-    else translated_header prefixes identification header ++ updated_message prefixes header message
+-- the translation of a whole packet that consists of this IPv6 header and this message; the IPv4 header has these fields
+abbrev pub translation_of : List ℕ → Prefixes → FragmentFields → List ℕ → List ℕ
+translation_of header prefixes fields message =
+    if is_icmp_error (next_header header) message then error_packet header prefixes fields message
+    else translated_header prefixes fields header ++ updated_message prefixes header message
 
--- the length of the translated packet
+-- the part of a message in a fragment: the first part contains the transport header, and every later part is unchanged
+abbrev pub translated_part : List ℕ → Prefixes → FragmentFields → List ℕ → List ℕ
+translated_part header prefixes fields message =
+    if is_later fields.flags_and_offset then message else updated_message prefixes header message
+
+-- the translation of a packet or a fragment that consists of this IPv6 header and this message
+abbrev pub direct_translation : List ℕ → Prefixes → FragmentFields → List ℕ → List ℕ
+direct_translation header prefixes fields message =
+    if is_part fields.flags_and_offset then translated_header prefixes fields header ++ translated_part header prefixes fields message
+    else translation_of header prefixes fields message
+
+-- the length of a translated whole packet
 abbrev pub translated_len : List ℕ → Prefixes → List ℕ → ℕ
 translated_len header prefixes message =
     20 + (if is_icmp_error (next_header header) message then length (error_without_checksum prefixes message) else length message)
 
--- The translation of a packet that begins with an IPv6 header. Its extension headers are skipped (RFC 7915, section 5.1).
+-- the length of the translated packet or fragment
+abbrev pub direct_len : List ℕ → Prefixes → Option ℕ → List ℕ → ℕ
+direct_len header prefixes flags message =
+    if is_part flags then 20 + length message else translated_len header prefixes message
+
+-- The translation of a packet that begins with an IPv6 header. Its extension headers are skipped (RFC 7915, section 5.1). If it has no fragment
+-- header, the IPv4 header has this identification.
 abbrev pub translated_packet : Prefixes → ℕ → List ℕ → List ℕ
-translated_packet prefixes identification packet = translation_of (direct_header packet) prefixes identification (message_of packet)
+translated_packet prefixes identification packet =
+    direct_translation (direct_header packet) prefixes (fields_of identification packet) (message_of packet)
 
 -- ---- a receiver's check
 
@@ -157,8 +191,14 @@ pub record IsAcceptedAlike (prefixes : Prefixes) (header message translated : Li
   pub echo : next_header header ≡ icmpv6_number
       → (Verifies [] translated) ↔ (Verifies (old_pseudo_header header icmpv6_number (length message)) message)
 
--- a receiver accepts the message of the translated packet exactly if it accepts the message of the packet
+-- a receiver accepts the message of a translated whole packet exactly if it accepts the message of the packet
 pub record AreAcceptedAlike (prefixes : Prefixes) (header message : List ℕ) : Type 0 where
   pub error : is_icmp_error (next_header header) message ≡ true → IsErrorAcceptedAlike prefixes header message
   pub other : is_icmp_error (next_header header) message ≡ false
       → IsAcceptedAlike prefixes header message (updated_message prefixes header message)
+
+-- A receiver accepts the message of the translated packet exactly if it accepts the message of the packet. For the first of several fragments,
+-- `VerifiesAlike` allows any bytes after its part of the message. A later fragment has no checksum.
+pub record IsPacketAlike (prefixes : Prefixes) (header : List ℕ) (flags : Option ℕ) (message : List ℕ) : Type 0 where
+  pub whole : is_part flags ≡ false → AreAcceptedAlike prefixes header message
+  pub first : is_part flags ≡ true → is_later flags ≡ false → IsAcceptedAlike prefixes header message (updated_message prefixes header message)

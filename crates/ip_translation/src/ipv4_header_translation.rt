@@ -2,9 +2,11 @@ ghost use Rattle.std.specs.Prelude.{◌≡◌, ◌<◌, ◌+◌, [], ℕ, IfOk, 
 ghost use Rattle.net_base.specs.Refusals.{RefusesExactly};
 ghost use Rattle.word_sum.specs.Checksum.{Verifies, checksum_of, total};
 ghost use Rattle.word_sum.specs.ChecksumChange.{added_value, removed_value};
+ghost use Rattle.ip_translation.specs.Fragments as fragments;
 ghost use Rattle.ip_translation.specs.HeadersToIpv4 as specs;
 ghost use Rattle.ip_translation.specs.PseudoHeaders.{AreTurned};
 
+use crate::fragment_fields::FragmentFields;
 use crate::header_translation::is_illegal;
 use crate::{Prefixes, TranslationError};
 use arrayvec::ArrayVec;
@@ -47,14 +49,28 @@ pub fn header_to_ipv4(
     identification: u16,
 ) -> Result<ArrayVec<u8, 20>, TranslationError>
     ensures refused { RefusesExactly result (specs.header_refusal prefixes.now header.now) }
-    ensures written { IfOk result (λ translated. translated.items ≡ specs.translated_header prefixes.now identification header.now) }
+    ensures written { IfOk result (λ translated. translated.items ≡ specs.translated_header prefixes.now (fragments.whole identification) header.now) }
+    ensures verifies { IfOk result (λ translated. Verifies [] translated.items) }
+    ensures len { IfOk result (λ translated. length translated.items ≡ 20) }
+{
+    part_header_to_ipv4(header, prefixes, FragmentFields::whole(identification))
+}
+
+/// Translates the header of a packet without further extension headers. These fields describe the fragment.
+pub(crate) fn part_header_to_ipv4(
+    header: &Ipv6HeaderSlice<'_>,
+    prefixes: &Prefixes,
+    fields: FragmentFields,
+) -> Result<ArrayVec<u8, 20>, TranslationError>
+    ensures refused { RefusesExactly result (specs.header_refusal prefixes.now header.now) }
+    ensures written { IfOk result (λ translated. translated.items ≡ specs.translated_header prefixes.now fields header.now) }
     ensures verifies { IfOk result (λ translated. Verifies [] translated.items) }
     ensures len { IfOk result (λ translated. length translated.items ≡ 20) }
 {
     let total_len = check_fields(header)?;
     check_addresses(header, prefixes)?;
     let time_to_live = header.hop_limit().saturating_sub(1);
-    Ok(header_with(header, prefixes, identification, total_len, time_to_live))
+    Ok(header_with(header, prefixes, fields, total_len, time_to_live))
 }
 
 /// The change of the pseudo header of UDP and TCP (RFC 7915, section 5.5): the IPv4 addresses that the prefixes extract replace the IPv6
@@ -103,7 +119,8 @@ pub(crate) fn quoted_header_to_ipv4(
 {
     let total_len = check_quoted_fields(header)?;
     check_addresses(header, prefixes)?;
-    Ok(header_with(header, prefixes, 0, total_len, header.hop_limit()))
+    let fields = FragmentFields::whole(0);
+    Ok(header_with(header, prefixes, fields, total_len, header.hop_limit()))
 }
 
 /// Checks the fields of the header of a quoted packet, and returns the total length of the translated packet.
@@ -122,23 +139,24 @@ fn check_quoted_fields(header: &Ipv6HeaderSlice<'_>) -> Result<u16, TranslationE
     Ok(payload_len + IPV4_LEN)
 }
 
-/// The IPv4 header for this IPv6 header, with this identification, this total length and this time to live. The prefixes extract the
+/// The IPv4 header for this IPv6 header, with these fields of a fragment, this total length and this time to live. The prefixes extract the
 /// addresses.
 pub(crate) fn header_with(
     header: &Ipv6HeaderSlice<'_>,
     prefixes: &Prefixes,
-    identification: u16,
+    fields: FragmentFields,
     total_len: u16,
     time_to_live: u8,
 ) -> ArrayVec<u8, 20>
-    ensures written { result.items ≡ specs.header_with prefixes.now identification total_len time_to_live header.now }
+    ensures written { result.items ≡ specs.header_with prefixes.now fields total_len time_to_live header.now }
     ensures verifies { Verifies [] result.items }
     ensures len { length result.items ≡ 20 }
 {
     let (_, source) = prefixes.source.front(&header.source());
     let (_, destination) = prefixes.destination.front(&header.destination());
     let [total_high, total_low] = total_len.to_be_bytes();
-    let [high, low] = identification.to_be_bytes();
+    let [high, low] = fields.identification.to_be_bytes();
+    let [flags, offset] = fields.flags_and_offset(total_len).to_be_bytes();
     let start = [
         0x45,
         header.traffic_class(),
@@ -146,8 +164,8 @@ pub(crate) fn header_with(
         total_low,
         high,
         low,
-        flags(total_len),
-        0,
+        flags,
+        offset,
         time_to_live,
         protocol_of(header.next_header()),
     ];
@@ -186,23 +204,6 @@ fn check_addresses(
         return Err(TranslationError::IllegalDestination);
     }
     Ok(())
-}
-
-/// The greatest total length of a packet that may be fragmented, in bytes (RFC 7915, section 5.1).
-const MAX_FRAGMENTED_LEN: u16 = 1260;
-
-/// The flag "don't fragment".
-const DONT_FRAGMENT: u8 = 0x40;
-
-/// The flags of a packet with this total length.
-fn flags(total_len: u16) -> u8
-    ensures { result ≡ specs.flags total_len }
-{
-    if total_len <= MAX_FRAGMENTED_LEN {
-        0
-    } else {
-        DONT_FRAGMENT
-    }
 }
 
 /// The protocol of the translated packet, if this is the next header of the IPv6 packet.

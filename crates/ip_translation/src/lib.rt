@@ -15,6 +15,7 @@ mod changed_message;
 mod echo_translation;
 mod error_to_ipv4;
 mod error_to_ipv6;
+mod fragment_fields;
 mod header_translation;
 mod icmp_errors;
 mod ipv4_header_translation;

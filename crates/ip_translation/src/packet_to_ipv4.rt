@@ -1,26 +1,28 @@
-ghost use Rattle.std.specs.Prelude.{◌≡◌, ◌≤◌, ◌<◌, ◌+◌, ◌++◌, ◌↔◌, [], IfErr, IfOk, MatchOption, drop, false, length, slice_index, true};
-ghost use Rattle.std.specs.Option.{option_map};
+ghost use Rattle.std.specs.Prelude.{◌≡◌, ◌≤◌, ◌<◌, ◌+◌, ◌==◌, ◌++◌, ◌↔◌, [], IfErr, IfOk, MatchOption, drop, false, length, slice_index, true};
+ghost use Rattle.std.specs.Option.{option_map, unwrap_or};
 ghost use Rattle.ip_part.specs.Ip as ip;
 ghost use Rattle.net_base.specs.IpNumbers.{icmpv6_number, tcp_number, udp_number};
 ghost use Rattle.net_base.specs.PseudoHeader.{max_len_over_ipv4};
-ghost use Rattle.net_base.specs.Refusals.{RefusesExactly};
+ghost use Rattle.net_base.specs.Refusals.{RefusesExactly, refused_if};
 ghost use Rattle.word_sum.specs.Checksum.{Verifies};
 ghost use Rattle.ip_translation.specs.ErrorsToIpv4 as errors;
+ghost use Rattle.ip_translation.specs.Fragments.{is_later, whole};
 ghost use Rattle.ip_translation.specs.HeadersToIpv4 as headers;
 ghost use Rattle.ip_translation.specs.PacketsToIpv4 as specs;
-ghost use Rattle.ip_translation.specs.declared.packet_translation_error.PacketTranslationError.TheVariants.{Header};
+ghost use Rattle.ip_translation.specs.declared.packet_translation_error.PacketTranslationError.TheVariants.{Header, IcmpFragment};
 
 use crate::changed_message::store_changed_checksum;
 use crate::echo_translation::{icmpv6_pseudo_header, type_over_ipv4, write_echo};
 use crate::error_to_ipv4::error_to_ipv4;
+use crate::fragment_fields::FragmentFields;
 use crate::header_translation::ipv6_header;
-use crate::ipv4_header_translation::header_with;
+use crate::ipv4_header_translation::{header_with, part_header_to_ipv4};
 use crate::message_translation::{
     ICMP_LEN, TCP_LEN, UDP_CHECKSUM_AT, UDP_LEN, check_header_len, check_space, number,
 };
-use crate::skipped_headers::skip_headers;
+use crate::skipped_headers::headers_before;
 use crate::updated_message::{write_updated_tcp, write_updated_udp};
-use crate::{PacketTranslationError, Prefixes, header_to_ipv4, pseudo_header_change_to_ipv4};
+use crate::{PacketTranslationError, Prefixes, pseudo_header_change_to_ipv4};
 use arrayvec::ArrayVec;
 use net_base::{IpNumber, Ipv6HeaderSlice, ip_number};
 
@@ -42,6 +44,10 @@ const IPV6_LEN: usize = 40;
 /// (section 5.2). The packet that it quotes is translated with the exchanged prefixes, keeps its hop limit, and gets the identification 0
 /// (section 5.3). Its checksum is updated if the quote contains it. A quote that is longer than in an ICMPv6 error of 1280 bytes is cut.
 ///
+/// If the packet has a fragment header, this header determines the fragment offset, "more fragments" and the low 16 bits of the identification
+/// (section 5.1.1). Then "don't fragment" is 0, and the argument `identification` is not used. A later fragment has no transport header, so
+/// its bytes are unchanged. An atomic fragment is translated as a whole packet.
+///
 /// # Errors
 ///
 /// After an error the buffer is unchanged. The call checks these cases, in this order:
@@ -49,7 +55,9 @@ const IPV6_LEN: usize = 40;
 /// - `CutOff` if there are fewer bytes than the header and its payload length.
 /// - `ExtensionHeaderCutOff` if an extension header that is skipped ends after the payload, and `SegmentsLeft` if a routing header has
 ///   segments left. These two are checked for each header, in the order of the packet.
+/// - `ExtensionHeaderCutOff` if a fragment header ends after the payload, and `Header` if another extension header follows it.
 /// - `Header` if `header_to_ipv4` refuses the header of the packet without these extension headers.
+/// - `IcmpFragment` if one of several fragments is part of an ICMPv6 message (section 1.2).
 /// - `TransportHeader` if a UDP packet or an ICMP message is shorter than 8 bytes, or a TCP segment is shorter than 20 bytes.
 /// - `IcmpMessage` if an ICMPv6 message is not an echo message, and `icmpv4_error` returns `None`.
 /// - `IcmpExtension` if "destination unreachable" or "time exceeded" has an extension (RFC 4884): byte 4 of the message is not 0.
@@ -67,11 +75,13 @@ pub fn ipv6_to_ipv4(
     buffer: &mut [u8],
 ) -> Result<usize, PacketTranslationError>
     ensures refused { RefusesExactly result (specs.packet_refusal prefixes.now packet.now (length buffer.old)) }
-    ensures len { IfOk result (λ len. len ≡ specs.translated_len (specs.direct_header packet.now) prefixes.now (specs.message_of packet.now)) }
+    ensures len { IfOk result (λ len. len ≡ specs.direct_len (specs.direct_header packet.now) prefixes.now
+        (specs.fields_of identification packet.now).flags_and_offset (specs.message_of packet.now)) }
     ensures written { IfOk result (λ len. buffer.new ≡ specs.translated_packet prefixes.now identification packet.now ++ drop len buffer.old) }
     ensures unchanged { IfErr result (λ _. buffer.new ≡ buffer.old) }
     // A receiver accepts the message of the translated packet exactly if it accepts the message of the original packet.
-    ensures alike { IfOk result (λ _. specs.AreAcceptedAlike prefixes.now (specs.direct_header packet.now) (specs.message_of packet.now)) }
+    ensures alike { IfOk result (λ _. specs.IsPacketAlike prefixes.now (specs.direct_header packet.now)
+        (specs.fields_of identification packet.now).flags_and_offset (specs.message_of packet.now)) }
 {
     let Some(header) = front_header(packet) else {
         return Err(PacketTranslationError::NoIpv6Header);
@@ -98,24 +108,34 @@ fn translate_payload(
 ) -> Result<usize, PacketTranslationError>
     requires counted { length payload.now ≤ max_len_over_ipv4 }
     ensures refused { RefusesExactly result (specs.payload_refusal header.now prefixes.now payload.now (length buffer.old)) }
-    ensures len { IfOk result (λ len. len
-        ≡ specs.translated_len (specs.direct_in header.now payload.now) prefixes.now (specs.message_in header.now payload.now)) }
-    ensures written { IfOk result (λ len. buffer.new ≡ specs.translation_of (specs.direct_in header.now payload.now) prefixes.now identification
-        (specs.message_in header.now payload.now) ++ drop len buffer.old) }
+    ensures len { IfOk result (λ len. len ≡ specs.direct_len (specs.direct_in header.now payload.now) prefixes.now
+        (specs.fields_in identification header.now payload.now).flags_and_offset (specs.message_in header.now payload.now)) }
+    ensures written { IfOk result (λ len. buffer.new ≡ specs.direct_translation (specs.direct_in header.now payload.now) prefixes.now
+        (specs.fields_in identification header.now payload.now) (specs.message_in header.now payload.now) ++ drop len buffer.old) }
     ensures unchanged { IfErr result (λ _. buffer.new ≡ buffer.old) }
-    ensures alike { IfOk result (λ _. specs.AreAcceptedAlike prefixes.now (specs.direct_in header.now payload.now)
-        (specs.message_in header.now payload.now)) }
+    ensures alike { IfOk result (λ _. specs.IsPacketAlike prefixes.now (specs.direct_in header.now payload.now)
+        (specs.fields_in identification header.now payload.now).flags_and_offset (specs.message_in header.now payload.now)) }
 {
-    let skipped = skip_headers(header.next_header().0, payload)?;
+    let skipped = headers_before(header.next_header().0, payload)?;
     let message = &payload[skipped.len..];
     let direct = header_before(header, skipped.number, message);
     translate_direct(
         &whole_header(direct.as_slice()),
         message,
         prefixes,
-        identification,
+        fields_or(skipped.fragment, identification),
         buffer,
     )
+}
+
+/// These fields of a fragment. Without a fragment header, the packet has this identification.
+fn fields_or(fragment: Option<FragmentFields>, identification: u16) -> FragmentFields
+    ensures { result ≡ unwrap_or fragment (whole identification) }
+{
+    match fragment {
+        Some(fields) => fields,
+        None => FragmentFields::whole(identification),
+    }
 }
 
 /// This header, but with the number of this header or protocol after it, and with a payload length that counts this message.
@@ -143,25 +163,104 @@ fn whole_header<'a>(bytes: &'a [u8]) -> Ipv6HeaderSlice<'a>
     front_header(bytes).unwrap()
 }
 
-/// Translates a packet that consists of this header and this message.
+/// Translates a packet or a fragment that consists of this header and this message.
 fn translate_direct(
     header: &Ipv6HeaderSlice<'_>,
     message: &[u8],
     prefixes: &Prefixes,
-    identification: u16,
+    fields: FragmentFields,
     buffer: &mut [u8],
 ) -> Result<usize, PacketTranslationError>
     requires counted { length message.now ≤ max_len_over_ipv4 }
-    ensures refused { RefusesExactly result (specs.direct_refusal header.now prefixes.now message.now (length buffer.old)) }
+    ensures refused { RefusesExactly result (specs.direct_refusal header.now prefixes.now fields.flags_and_offset message.now (length buffer.old)) }
+    ensures len { IfOk result (λ len. len ≡ specs.direct_len header.now prefixes.now fields.flags_and_offset message.now) }
+    ensures written { IfOk result (λ len. buffer.new
+        ≡ specs.direct_translation header.now prefixes.now fields message.now ++ drop len buffer.old) }
+    ensures unchanged { IfErr result (λ _. buffer.new ≡ buffer.old) }
+    ensures alike { IfOk result (λ _. specs.IsPacketAlike prefixes.now header.now fields.flags_and_offset message.now) }
+{
+    if fields.is_part() {
+        return translate_part(header, message, prefixes, fields, buffer);
+    }
+    translate_whole(header, message, prefixes, fields, buffer)
+}
+
+/// Translates one of several fragments, which consists of this header and this part of a message.
+fn translate_part(
+    header: &Ipv6HeaderSlice<'_>,
+    message: &[u8],
+    prefixes: &Prefixes,
+    fields: FragmentFields,
+    buffer: &mut [u8],
+) -> Result<usize, PacketTranslationError>
+    requires counted { length message.now ≤ max_len_over_ipv4 }
+    ensures refused { RefusesExactly result (specs.part_refusal header.now prefixes.now fields.flags_and_offset message.now (length buffer.old)) }
+    ensures len { IfOk result (λ len. len ≡ 20 + length message.now) }
+    ensures written { IfOk result (λ len. buffer.new ≡ (headers.translated_header prefixes.now fields header.now
+        ++ specs.translated_part header.now prefixes.now fields message.now) ++ drop len buffer.old) }
+    ensures unchanged { IfErr result (λ _. buffer.new ≡ buffer.old) }
+    ensures alike { IfOk result (λ _. is_later fields.flags_and_offset ≡ false → specs.IsAcceptedAlike prefixes.now header.now message.now
+        (specs.updated_message prefixes.now header.now message.now)) }
+{
+    let ipv4_header = translated_header(header, prefixes, fields)?;
+    let front = ipv4_header.as_slice();
+    check_protocol_of_part(header.next_header())?;
+    if fields.is_later() {
+        return copy_message(front, message, buffer);
+    }
+    translate_message(front, message, header, prefixes, buffer)
+}
+
+/// Refuses a fragment of an ICMPv6 message.
+fn check_protocol_of_part(protocol: IpNumber) -> Result<(), PacketTranslationError>
+    ensures refused { RefusesExactly result (refused_if (protocol.0 == icmpv6_number) IcmpFragment) }
+{
+    if protocol.0 == ip_number::IPV6_ICMP.0 {
+        return Err(PacketTranslationError::IcmpFragment);
+    }
+    Ok(())
+}
+
+/// Writes this IPv4 header and this part of a message to the front of the buffer.
+fn copy_message(
+    ipv4_header: &[u8],
+    message: &[u8],
+    buffer: &mut [u8],
+) -> Result<usize, PacketTranslationError>
+    requires header { length ipv4_header.now ≡ 20 }
+    requires counted { length message.now ≤ max_len_over_ipv4 }
+    ensures refused { RefusesExactly result (specs.space_refusal (length message.now) (length buffer.old)) }
+    ensures len { IfOk result (λ len. len ≡ 20 + length message.now) }
+    ensures written { IfOk result (λ len. buffer.new ≡ (ipv4_header.now ++ message.now) ++ drop len buffer.old) }
+    ensures unchanged { IfErr result (λ _. buffer.new ≡ buffer.old) }
+{
+    let len = ipv4_header.len() + message.len();
+    check_space(len, buffer.len())?;
+    let (front, rest) = buffer.split_at_mut(ipv4_header.len());
+    front.copy_from_slice(ipv4_header);
+    rest[..message.len()].copy_from_slice(message);
+    Ok(len)
+}
+
+/// Translates a whole packet that consists of this header and this message.
+fn translate_whole(
+    header: &Ipv6HeaderSlice<'_>,
+    message: &[u8],
+    prefixes: &Prefixes,
+    fields: FragmentFields,
+    buffer: &mut [u8],
+) -> Result<usize, PacketTranslationError>
+    requires counted { length message.now ≤ max_len_over_ipv4 }
+    ensures refused { RefusesExactly result (specs.whole_refusal header.now prefixes.now message.now (length buffer.old)) }
     ensures len { IfOk result (λ len. len ≡ specs.translated_len header.now prefixes.now message.now) }
     ensures written { IfOk result (λ len. buffer.new
-        ≡ specs.translation_of header.now prefixes.now identification message.now ++ drop len buffer.old) }
+        ≡ specs.translation_of header.now prefixes.now fields message.now ++ drop len buffer.old) }
     ensures unchanged { IfErr result (λ _. buffer.new ≡ buffer.old) }
     ensures alike { IfOk result (λ _. specs.AreAcceptedAlike prefixes.now header.now message.now) }
 {
-    let ipv4_header = translated_header(header, prefixes, identification)?;
+    let ipv4_header = translated_header(header, prefixes, fields)?;
     if is_icmp_error(header.next_header(), message) {
-        return translate_error(message, header, prefixes, identification, buffer);
+        return translate_error(message, header, prefixes, fields, buffer);
     }
     translate_message(ipv4_header.as_slice(), message, header, prefixes, buffer)
 }
@@ -205,7 +304,7 @@ fn translate_error(
     message: &[u8],
     header: &Ipv6HeaderSlice<'_>,
     prefixes: &Prefixes,
-    identification: u16,
+    fields: FragmentFields,
     buffer: &mut [u8],
 ) -> Result<usize, PacketTranslationError>
     requires there { 8 ≤ length message.now }
@@ -213,7 +312,7 @@ fn translate_error(
     ensures refused { RefusesExactly result (specs.error_packet_refusal prefixes.now message.now (length buffer.old)) }
     ensures len { IfOk result (λ len. len ≡ 20 + length (errors.error_without_checksum prefixes.now message.now)) }
     ensures written { IfOk result (λ len. buffer.new
-        ≡ specs.error_packet header.now prefixes.now identification message.now ++ drop len buffer.old) }
+        ≡ specs.error_packet header.now prefixes.now fields message.now ++ drop len buffer.old) }
     ensures unchanged { IfErr result (λ _. buffer.new ≡ buffer.old) }
     ensures alike { IfOk result (λ _. specs.IsErrorAcceptedAlike prefixes.now header.now message.now) }
 {
@@ -221,7 +320,7 @@ fn translate_error(
     let len = IPV4_LEN + error.len();
     check_space(len, buffer.len())?;
     let time_to_live = header.hop_limit().saturating_sub(1);
-    let ipv4_header = header_with(header, prefixes, identification, len as u16, time_to_live);
+    let ipv4_header = header_with(header, prefixes, fields, len as u16, time_to_live);
     write_error_parts(
         buffer,
         ipv4_header.as_slice(),
@@ -273,13 +372,13 @@ fn write_error(translated: &mut [u8], error: &[u8], message: &[u8], header: &Ipv
 fn translated_header(
     header: &Ipv6HeaderSlice<'_>,
     prefixes: &Prefixes,
-    identification: u16,
+    fields: FragmentFields,
 ) -> Result<ArrayVec<u8, IPV4_LEN>, PacketTranslationError>
     ensures refused { RefusesExactly result (option_map Header (headers.header_refusal prefixes.now header.now)) }
-    ensures written { IfOk result (λ translated. translated.items ≡ headers.translated_header prefixes.now identification header.now) }
+    ensures written { IfOk result (λ translated. translated.items ≡ headers.translated_header prefixes.now fields header.now) }
     ensures len { IfOk result (λ translated. length translated.items ≡ 20) }
 {
-    match header_to_ipv4(header, prefixes, identification) {
+    match part_header_to_ipv4(header, prefixes, fields) {
         Ok(translated) => Ok(translated),
         Err(error) => Err(PacketTranslationError::Header(error)),
     }

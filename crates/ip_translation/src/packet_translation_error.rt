@@ -86,6 +86,8 @@ pub enum PacketTranslationError {
         /// The place of the field "segments left", in bytes from the start of the packet.
         pointer: usize,
     },
+    /// The packet is a fragment of an ICMP message (RFC 7915, section 1.2).
+    IcmpFragment,
 }
 
 impl PacketTranslationError {
@@ -186,6 +188,9 @@ impl PacketTranslationError {
                 Number(*pointer),
                 Words("."),
             ]),
+            PacketTranslationError::IcmpFragment => ErrorText::from_words(
+                "Translation Error: a fragment of an ICMP message is not translated.",
+            ),
         }
     }
 }

@@ -4,16 +4,20 @@ ghost use Rattle.net_base.specs.PseudoHeader.{max_len_over_ipv4};
 ghost use Rattle.net_base.specs.Refusals.{RefusesExactly};
 ghost use Rattle.ip_translation.specs.SkippedHeaders as specs;
 
-use crate::PacketTranslationError;
+use crate::fragment_fields::{FragmentFields, MORE_FRAGMENTS};
+use crate::message_translation::number;
+use crate::{PacketTranslationError, TranslationError};
 use net_base::ip_number;
 
-/// The extension headers after an IPv6 header that a translation to IPv4 skips (RFC 7915, section 5.1).
+/// Extension headers after an IPv6 header: those that a translation to IPv4 skips, and then a fragment header (RFC 7915, section 5.1).
 #[derive(Clone, Copy)]
 pub(crate) struct SkippedHeaders {
     /// The number of the header or protocol after these headers.
     pub(crate) number: u8,
     /// The length of these headers, in bytes.
     pub(crate) len: usize,
+    /// The fields of the IPv4 header for the fragment header, if there is one.
+    pub(crate) fragment: Option<FragmentFields>,
 }
 
 /// The length of an IPv6 header, in bytes (RFC 8200, section 3).
@@ -25,11 +29,87 @@ const MIN_LEN: usize = 8;
 /// The place of the number of segments left in a routing header, in bytes (RFC 8200, section 4.4).
 const SEGMENTS_LEFT_AT: usize = 3;
 
-/// The headers that are skipped in the payload after an IPv6 header. `first` is the next header of the IPv6 header.
-pub(crate) fn skip_headers(
+/// The place of the fragment offset in a fragment header, in bytes (RFC 8200, section 4.5).
+const OFFSET_AT: usize = 2;
+
+/// The place of the low 16 bits of the identification in a fragment header, in bytes.
+const IDENTIFICATION_AT: usize = 6;
+
+/// All headers between an IPv6 header and the message in this payload. `first` is the next header of the IPv6 header.
+pub(crate) fn headers_before(
     first: u8,
     payload: &[u8],
 ) -> Result<SkippedHeaders, PacketTranslationError>
+    requires counted { length payload.now ≤ max_len_over_ipv4 }
+    ensures skipped { result ≡ specs.headers_before first payload.now }
+    ensures within { IfOk result (λ skipped. skipped.len ≤ length payload.now) }
+{
+    let skipped = skip_headers(first, payload)?;
+    if skipped.number != ip_number::IPV6_FRAGMENTATION_HEADER.0 {
+        return Ok(skipped);
+    }
+    let rest = &payload[skipped.len..];
+    check_fragment_header(rest)?;
+    Ok(fragment_after(skipped, rest))
+}
+
+/// Refuses a fragment header at the front of `rest` if it is cut off, or if another extension header follows it.
+fn check_fragment_header(rest: &[u8]) -> Result<(), PacketTranslationError>
+    ensures refused { RefusesExactly result (specs.fragment_header_refusal rest.now) }
+    ensures there { IfOk result (λ _. 8 ≤ length rest.now) }
+{
+    if rest.len() < MIN_LEN {
+        return Err(PacketTranslationError::ExtensionHeaderCutOff {
+            number: ip_number::IPV6_FRAGMENTATION_HEADER.0,
+            required_len: MIN_LEN,
+            len: rest.len(),
+        });
+    }
+    if is_extension(rest[0]) {
+        return Err(PacketTranslationError::Header(TranslationError::ExtensionHeader(rest[0])));
+    }
+    Ok(())
+}
+
+/// Whether this is the number of an extension header. Encapsulating Security Payload is none.
+fn is_extension(number: u8) -> bool
+    ensures { result ≡ extensions.is_extension number }
+{
+    is_skipped(number)
+        || number == ip_number::IPV6_FRAGMENTATION_HEADER.0
+        || number == ip_number::AUTHENTICATION_HEADER.0
+        || number == ip_number::MOBILITY_HEADER.0
+        || number == ip_number::HIP.0
+        || number == ip_number::SHIM6.0
+}
+
+/// These headers and the fragment header at the front of `rest`.
+fn fragment_after(skipped: SkippedHeaders, rest: &[u8]) -> SkippedHeaders
+    requires counted { skipped.len ≤ max_len_over_ipv4 }
+    requires there { 8 ≤ length rest.now }
+    ensures { result ≡ specs.fragment_after skipped rest.now }
+{
+    SkippedHeaders {
+        number: rest[0],
+        len: skipped.len + MIN_LEN,
+        fragment: Some(fields_by(rest)),
+    }
+}
+
+/// The fields of the IPv4 header for the fragment header at the front of `rest` (RFC 7915, section 5.1.1).
+fn fields_by(rest: &[u8]) -> FragmentFields
+    requires there { 8 ≤ length rest.now }
+    ensures { result ≡ specs.fields_by rest.now }
+{
+    let offset = number(rest, OFFSET_AT);
+    FragmentFields {
+        identification: number(rest, IDENTIFICATION_AT),
+        flags_and_offset: Some(offset % 2 * MORE_FRAGMENTS + offset / 8),
+    }
+}
+
+/// The headers that are skipped in the payload after an IPv6 header. `first` is the next header of the IPv6 header.
+fn skip_headers(first: u8, payload: &[u8]) -> Result<SkippedHeaders, PacketTranslationError>
     requires counted { length payload.now ≤ max_len_over_ipv4 }
     ensures skipped { result ≡ specs.skipped_headers first payload.now }
     ensures within { IfOk result (λ skipped. skipped.len ≤ length payload.now) }
@@ -37,6 +117,7 @@ pub(crate) fn skip_headers(
     let mut skipped = SkippedHeaders {
         number: first,
         len: 0,
+        fragment: None,
     };
     while is_skipped(skipped.number) {
         let header = skipped_header(skipped, &payload[skipped.len..])?;
@@ -112,5 +193,6 @@ fn skipped_after(skipped: SkippedHeaders, header: &[u8]) -> SkippedHeaders
     SkippedHeaders {
         number: header[0],
         len: skipped.len + header.len(),
+        fragment: skipped.fragment,
     }
 }

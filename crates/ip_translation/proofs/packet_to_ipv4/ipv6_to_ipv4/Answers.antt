@@ -2,6 +2,7 @@ use Rattle.std.proofs.Common.{◌≡◌, ◌++◌, drop, List, ℕ, length, subs
 use Rattle.std.specs.Prelude.{IfOk, not}
 use Rattle.net_base.specs.Refusals.{RefusesExactly, refused_if}
 use Rattle.ip_translation.specs.PacketsToIpv4 as specs
+use Rattle.ip_translation.specs.declared.fragment_fields.FragmentFields.{FragmentFields}
 use Rattle.ip_translation.specs.declared.packet_translation_error.PacketTranslationError.TheVariants.{NoIpv6Header}
 use Rattle.ip_part.specs.Ip.{ipv6_header}
 use Rattle.ip_translation.proofs.RuleLemmas.{last_of_three}
@@ -26,25 +27,31 @@ returns-clause-refused c =
 pub returns-clause-len : goal.returns-clause-len
 returns-clause-len c =
     let packet : List ℕ = c.args.packet.now in
-    subst (λ header. IfOk c.translate_payload.result (λ len. len ≡ specs.translated_len (specs.direct_in header (specs.payload_after header packet)) c.args.prefixes.now (specs.message_in header (specs.payload_after header packet))))
-    c.in-Some.ensures.found.1
-    (subst (λ payload. IfOk c.translate_payload.result (λ len. len ≡ specs.translated_len (specs.direct_in c.in-Some.header payload) c.args.prefixes.now (specs.message_in c.in-Some.header payload)))
-    c.in_ok-payload.ensures.payload c.translate_payload.ensures.len)
+    let identification : ℕ = c.args.identification in
+    let Holds : List ℕ → FragmentFields → List ℕ → Type 0 = λ header fields message. IfOk c.translate_payload.result
+    (λ len. len ≡ specs.direct_len header c.args.prefixes.now fields.flags_and_offset message) in
+    let HoldsIn : List ℕ → List ℕ → Type 0 =
+    λ header payload. Holds (specs.direct_in header payload) (specs.fields_in identification header payload) (specs.message_in header payload) in
+    subst (λ header. HoldsIn header (specs.payload_after header packet)) c.in-Some.ensures.found.1
+    (subst (HoldsIn c.in-Some.header) c.in_ok-payload.ensures.payload c.translate_payload.ensures.len)
 
 pub returns-clause-written : goal.returns-clause-written
 returns-clause-written c =
     let packet : List ℕ = c.args.packet.now in
-    subst (λ header. IfOk c.translate_payload.result (λ len. c.translate_payload.new.buffer
-    ≡ specs.translation_of (specs.direct_in header (specs.payload_after header packet)) c.args.prefixes.now c.args.identification (specs.message_in header (specs.payload_after header packet)) ++ drop len c.args.buffer.now))
-    c.in-Some.ensures.found.1
-    (subst (λ payload. IfOk c.translate_payload.result (λ len. c.translate_payload.new.buffer
-    ≡ specs.translation_of (specs.direct_in c.in-Some.header payload) c.args.prefixes.now c.args.identification (specs.message_in c.in-Some.header payload) ++ drop len c.args.buffer.now))
-    c.in_ok-payload.ensures.payload c.translate_payload.ensures.written)
+    let identification : ℕ = c.args.identification in
+    let Holds : List ℕ → FragmentFields → List ℕ → Type 0 = λ header fields message. IfOk c.translate_payload.result (λ len. c.translate_payload.new.buffer
+    ≡ specs.direct_translation header c.args.prefixes.now fields message ++ drop len c.args.buffer.now) in
+    let HoldsIn : List ℕ → List ℕ → Type 0 =
+    λ header payload. Holds (specs.direct_in header payload) (specs.fields_in identification header payload) (specs.message_in header payload) in
+    subst (λ header. HoldsIn header (specs.payload_after header packet)) c.in-Some.ensures.found.1
+    (subst (HoldsIn c.in-Some.header) c.in_ok-payload.ensures.payload c.translate_payload.ensures.written)
 
 pub returns-clause-alike : goal.returns-clause-alike
 returns-clause-alike c =
     let packet : List ℕ = c.args.packet.now in
-    subst (λ header. IfOk c.translate_payload.result (λ _. specs.AreAcceptedAlike c.args.prefixes.now (specs.direct_in header (specs.payload_after header packet)) (specs.message_in header (specs.payload_after header packet))))
-    c.in-Some.ensures.found.1
-    (subst (λ payload. IfOk c.translate_payload.result (λ _. specs.AreAcceptedAlike c.args.prefixes.now (specs.direct_in c.in-Some.header payload) (specs.message_in c.in-Some.header payload)))
-    c.in_ok-payload.ensures.payload c.translate_payload.ensures.alike)
+    let identification : ℕ = c.args.identification in
+    let Holds : List ℕ → FragmentFields → List ℕ → Type 0 = λ header fields message. IfOk c.translate_payload.result (λ _. specs.IsPacketAlike c.args.prefixes.now header fields.flags_and_offset message) in
+    let HoldsIn : List ℕ → List ℕ → Type 0 =
+    λ header payload. Holds (specs.direct_in header payload) (specs.fields_in identification header payload) (specs.message_in header payload) in
+    subst (λ header. HoldsIn header (specs.payload_after header packet)) c.in-Some.ensures.found.1
+    (subst (HoldsIn c.in-Some.header) c.in_ok-payload.ensures.payload c.translate_payload.ensures.alike)
