@@ -13,7 +13,8 @@ use Rattle.capture_file.specs.declared.classic.capture_header.CaptureHeader.{Cap
 use Rattle.capture_file.specs.declared.classic.capture_header_error.CaptureHeaderError.{CaptureHeaderError}
 
 -- what a read of the header states about bytes in memory: it reads their first 24 bytes
-says_header : (bytes : List ℕ) (left : Option (List ℕ)) (read : Result CaptureHeader CaptureHeaderError) → ReadsHeader (Some bytes) left read
+says_header : (bytes : List ℕ) (left : Option (List ℕ)) (read : Result CaptureHeader CaptureHeaderError)
+    → ReadsHeader (Some bytes) left read
     → SaysHeader (take 24 bytes) read
 says_header bytes None (Ok header) reads = absurd reads.consumed
 says_header bytes (Some rest) (Ok header) reads =
@@ -22,7 +23,8 @@ says_header bytes (Some rest) (Ok header) reads =
 says_header bytes left (Err error) reads = ap header_refusal (sym reads.first) ∙ reads.refused
 
 -- what a read of the header states if the read may fail
-pub says_unless_failed : {E : Type 0} → (bytes : List ℕ) (left : Option (List ℕ)) (result : Result (Result CaptureHeader CaptureHeaderError) E)
+pub says_unless_failed : {E : Type 0} → (bytes : List ℕ) (left : Option (List ℕ)) (result : Result
+    (Result CaptureHeader CaptureHeaderError) E)
     → IfOk result (ReadsHeader (Some bytes) left) → IfOk result (SaysHeader (take 24 bytes))
 says_unless_failed bytes left (Ok read) reads = says_header bytes left read reads
 says_unless_failed bytes left (Err error) reads = tt
@@ -58,7 +60,8 @@ all_consumed left middle still_left begin buffer len consumed fills =
 
 -- the header of a classic capture is refused
 pub refuses_header : (error : CaptureHeaderError) (left middle still_left : Option (List ℕ)) (begin buffer : List ℕ) (len : ℕ)
-    → length buffer ≡ 24 → Consumes left middle begin → FillsAfter begin middle still_left buffer len → SaysHeader (take len buffer) (Err error)
+    → length buffer ≡ 24 → Consumes left middle begin → FillsAfter begin middle still_left buffer len
+    → SaysHeader (take len buffer) (Err error)
     → RefusesHeader left still_left error
 refuses_header error left middle still_left begin buffer len room consumed fills refused =
     let all = all_consumed left middle still_left begin buffer len consumed fills in

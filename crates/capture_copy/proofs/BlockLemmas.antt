@@ -10,7 +10,8 @@ pub alone : (rest : List ℕ) → Consumes (Some rest) (Some []) rest
 alone rest = sym (append-nil rest)
 
 -- the next item, given the first bytes and all bytes after them
-pub next_of : (section : ByteOrder) (first rest buffer : List ℕ) (next : NextBlock) → ReadsAfter section first (Some rest) (Some []) buffer next
+pub next_of : (section : ByteOrder) (first rest buffer : List ℕ) (next : NextBlock)
+    → ReadsAfter section first (Some rest) (Some []) buffer next
     → IsNextBlock section (first ++ rest) buffer next
 next_of section first rest buffer next reads =
     let same : reads.bytes ≡ rest = sym (reads.consumed ∙ append-nil reads.bytes) in

@@ -20,11 +20,13 @@ copies_more left middle still_left held now_held then_held len count buffer copi
 
 -- a copy and then a read at the end of input are one copy
 pub copies_end : (left middle still_left held now_held : Option (List ℕ)) (len count : ℕ) (buffer : List ℕ)
-    → Copies left middle held now_held len → Consumes middle still_left (take count buffer) → count ≡ 0 → Copies left still_left held now_held len
+    → Copies left middle held now_held len → Consumes middle still_left (take count buffer) → count ≡ 0
+    → Copies left still_left held now_held len
 copies_end left middle still_left held now_held len count buffer copies consumed none = record {
   bytes = copies.bytes;
   has_len = copies.has_len;
   consumed = subst (Consumes left still_left) (append-nil copies.bytes)
-      (Consumes-trans left middle still_left copies.bytes [] copies.consumed (subst (λ n. Consumes middle still_left (take n buffer)) none consumed));
+      (Consumes-trans left middle still_left copies.bytes [] copies.consumed
+      (subst (λ n. Consumes middle still_left (take n buffer)) none consumed));
   appended = copies.appended;
 }

@@ -19,7 +19,8 @@ passes_nothing format state left held counts = record {
 }
 
 -- one passed part is a list of passed parts, with these values
-pub passes_part : (format : Format) (before after : format.State) (left still_left held now_held : Option (List ℕ)) (counts now_counts : format.Counts)
+pub passes_part : (format : Format) (before after : format.State) (left still_left held now_held : Option (List ℕ))
+    (counts now_counts : format.Counts)
     (part : Part format.Outcome)
     → format.IsPart before part after → Consumes left still_left part.read → Appends held now_held part.written
     → now_counts ≡ counted_if format counts part.outcome → PassesOne format before after left still_left held now_held counts now_counts
@@ -32,7 +33,8 @@ passes_part format before after left still_left held now_held counts now_counts 
 }
 
 -- one passed part is a list of passed parts
-pub passes_one : (format : Format) (before after : format.State) (left still_left held now_held : Option (List ℕ)) (counts now_counts : format.Counts)
+pub passes_one : (format : Format) (before after : format.State) (left still_left held now_held : Option (List ℕ))
+    (counts now_counts : format.Counts)
     → PassesOne format before after left still_left held now_held counts now_counts
     → (passes : Passes format before after left still_left held now_held counts now_counts) × (length passes.parts ≡ 1)
 passes_one format before after left still_left held now_held counts now_counts one =
@@ -54,13 +56,14 @@ pub passes_any : (format : Format) (is_any : Bool) (before after : format.State)
     → Passes format before after left still_left held now_held counts now_counts
 passes_any format true before after left still_left held now_held counts now_counts one =
     (passes_one format before after left still_left held now_held counts now_counts one).0
-passes_any format false before after left still_left held now_held counts now_counts (same_state, consumed, same_held, same_counts) = record {
-  parts = [];
-  each = same_state;
-  consumed = consumed;
-  appended = subst (λ given. Appends held given []) (sym same_held) (Appends-nil held);
-  counted = same_counts;
-}
+passes_any format false before after left still_left held now_held counts now_counts (same_state, consumed, same_held, same_counts) =
+    record {
+      parts = [];
+      each = same_state;
+      consumed = consumed;
+      appended = subst (λ given. Appends held given []) (sym same_held) (Appends-nil held);
+      counted = same_counts;
+    }
 
 are_parts_append : (format : Format) (before between after : format.State) (parts others : List (Part format.Outcome))
     → AreParts format before parts between → AreParts format between others after → AreParts format before (parts ++ others) after
@@ -102,21 +105,26 @@ passes_on format before between after left middle still_left held now_held then_
     (passes_both format before between after left middle still_left held now_held then_held counts now_counts then_counts first second).0
 
 -- parts and another part are a list of parts
-pub passes_more : (format : Format) (is_any : Bool) (before between after : format.State) (left middle still_left held now_held then_held : Option (List ℕ))
+pub passes_more : (format : Format) (is_any : Bool) (before between after : format.State)
+    (left middle still_left held now_held then_held : Option (List ℕ))
     (counts now_counts then_counts : format.Counts)
     → (first : Passes format before between left middle held now_held counts now_counts)
     → PassesAny format (Ok is_any) between after middle still_left now_held then_held now_counts then_counts → is_any ≡ true
-    → (passes : Passes format before after left still_left held then_held counts then_counts) × (length passes.parts ≡ length first.parts + 1)
-passes_more format false before between after left middle still_left held now_held then_held counts now_counts then_counts first none is = absurd (cc is)
+    → (passes : Passes format before after left still_left held then_held counts then_counts)
+    × (length passes.parts ≡ length first.parts + 1)
+passes_more format false before between after left middle still_left held now_held then_held counts now_counts then_counts first none is =
+    absurd (cc is)
 passes_more format true before between after left middle still_left held now_held then_held counts now_counts then_counts first one is =
     let single = passes_one format between after middle still_left now_held then_held now_counts then_counts one in
-    let both = passes_both format before between after left middle still_left held now_held then_held counts now_counts then_counts first single.0 in
+    let both = passes_both format before between after left middle still_left held now_held then_held counts now_counts then_counts first
+    single.0 in
     (both.0, omega (arith, both.1, single.1))
 
 -- ---- results
 
 -- if the number of parts reached the maximum, so did the number of more parts
-more_parts : (format : Format) (error : format.Error) (parts others : List (Part format.Outcome)) (left still_left held now_held : Option (List ℕ)) (counts now_counts : format.Counts)
+more_parts : (format : Format) (error : format.Error) (parts others : List (Part format.Outcome))
+    (left still_left held now_held : Option (List ℕ)) (counts now_counts : format.Counts)
     → length parts ≤ length others → StopsByNumber format error parts left still_left held now_held counts now_counts
     → StopsByNumber format error others left still_left held now_held counts now_counts
 more_parts format error parts others left still_left held now_held counts now_counts more stops = record {
@@ -128,11 +136,14 @@ more_parts format error parts others left still_left held now_held counts now_co
 }
 
 -- an end after parts is also an end after other parts before them
-stops_on : (format : Format) (error : format.Error) (state : format.State) (left still_left held now_held : Option (List ℕ)) (counts now_counts : format.Counts)
+stops_on : (format : Format) (error : format.Error) (state : format.State) (left still_left held now_held : Option (List ℕ))
+    (counts now_counts : format.Counts)
     (parts others : List (Part format.Outcome))
     → length parts ≤ length others
-    → (StopsBy format error state left still_left held now_held counts now_counts ⊎ StopsByNumber format error parts left still_left held now_held counts now_counts)
-    → StopsBy format error state left still_left held now_held counts now_counts ⊎ StopsByNumber format error others left still_left held now_held counts now_counts
+    → (StopsBy format error state left still_left held now_held counts now_counts
+    ⊎ StopsByNumber format error parts left still_left held now_held counts now_counts)
+    → StopsBy format error state left still_left held now_held counts now_counts
+    ⊎ StopsByNumber format error others left still_left held now_held counts now_counts
 stops_on format error state left still_left held now_held counts now_counts parts others more (inl stops) = inl stops
 stops_on format error state left still_left held now_held counts now_counts parts others more (inr stops) =
     inr (more_parts format error parts others left still_left held now_held counts now_counts more stops)
@@ -143,11 +154,14 @@ pub passes_to_on : {A : Type 0} → (format : Format) (result : Result A format.
     → Passes format before between left middle held now_held counts now_counts
     → PassesTo format result between after middle still_left now_held then_held now_counts then_counts
     → PassesTo format result before after left still_left held then_held counts then_counts
-passes_to_on format (Ok given) before between after left middle still_left held now_held then_held counts now_counts then_counts first second =
+passes_to_on format (Ok given) before between after left middle still_left held now_held then_held counts now_counts then_counts first
+    second =
     passes_on _ _ _ _ _ _ _ _ _ _ _ _ _ first second
-passes_to_on format (Err error) before between after left middle still_left held now_held then_held counts now_counts then_counts first (inl failed) =
+passes_to_on format (Err error) before between after left middle still_left held now_held then_held counts now_counts then_counts first
+    (inl failed) =
     inl failed
-passes_to_on format (Err error) before between after left middle still_left held now_held then_held counts now_counts then_counts first (inr ends) =
+passes_to_on format (Err error) before between after left middle still_left held now_held then_held counts now_counts then_counts first
+    (inr ends) =
     let both = passes_both _ _ _ _ _ _ _ _ _ _ _ _ _ first ends.passes in
     inr (record {
       after = ends.after;
@@ -155,12 +169,14 @@ passes_to_on format (Err error) before between after left middle still_left held
       then_held = ends.then_held;
       then_counts = ends.then_counts;
       passes = both.0;
-      stops = stops_on format error ends.after ends.middle still_left ends.then_held then_held ends.then_counts then_counts ends.passes.parts both.0.parts
+      stops = stops_on format error ends.after ends.middle still_left ends.then_held then_held ends.then_counts then_counts
+          ends.passes.parts both.0.parts
           (omega (arith, both.1)) ends.stops;
     })
 
 -- the result if the number of passed parts reached the maximum
-pub ends_by_number : (format : Format) (before after : format.State) (left still_left held now_held : Option (List ℕ)) (counts now_counts : format.Counts)
+pub ends_by_number : (format : Format) (before after : format.State) (left still_left held now_held : Option (List ℕ))
+    (counts now_counts : format.Counts)
     → (passes : Passes format before after left still_left held now_held counts now_counts) → format.max_parts ≤ length passes.parts
     → EndsBy format format.too_many before left still_left held now_held counts now_counts
 ends_by_number format before after left still_left held now_held counts now_counts passes many = record {
@@ -189,19 +205,24 @@ any_to_end format result error before after left still_left held now_held counts
     subst (λ given. PassesAny format given before after left still_left held now_held counts now_counts) (sym fails) ends
 
 -- parts were passed, and then an error came within the next part
-pub passes_on_to_error : {A : Type 0} → (format : Format) (result : Result A format.Error) (error : format.Error) (before between after : format.State)
+pub passes_on_to_error : {A : Type 0} → (format : Format) (result : Result A format.Error) (error : format.Error)
+    (before between after : format.State)
     (left middle still_left held now_held then_held : Option (List ℕ)) (counts now_counts then_counts : format.Counts)
     → Passes format before between left middle held now_held counts now_counts
-    → (format.IsWriteError error ⊎ StopsBy format error between middle still_left now_held then_held now_counts then_counts) → result ≡ Err error
+    → (format.IsWriteError error ⊎ StopsBy format error between middle still_left now_held then_held now_counts then_counts)
+    → result ≡ Err error
     → PassesTo format result before after left still_left held then_held counts then_counts
-passes_on_to_error format result error before between after left middle still_left held now_held then_held counts now_counts then_counts first (inl failed) fails =
+passes_on_to_error format result error before between after left middle still_left held now_held then_held counts now_counts then_counts
+    first (inl failed) fails =
     subst (λ given. PassesTo format given before after left still_left held then_held counts then_counts) (sym fails) (inl failed)
-passes_on_to_error format result error before between after left middle still_left held now_held then_held counts now_counts then_counts first (inr stops) fails =
+passes_on_to_error format result error before between after left middle still_left held now_held then_held counts now_counts then_counts
+    first (inr stops) fails =
     subst (λ given. PassesTo format given before after left still_left held then_held counts then_counts) (sym fails)
     (inr (record { after = between; middle = middle; then_held = now_held; then_counts = now_counts; passes = first; stops = inl stops }))
 
 -- no part was passed if the error is within the first part
-pub passes_to_first_error : {A : Type 0} → (format : Format) (result : Result A format.Error) (error : format.Error) (before after : format.State)
+pub passes_to_first_error : {A : Type 0} → (format : Format) (result : Result A format.Error) (error : format.Error)
+    (before after : format.State)
     (left still_left held then_held : Option (List ℕ)) (counts then_counts : format.Counts)
     → (format.IsWriteError error ⊎ StopsBy format error before left still_left held then_held counts then_counts) → result ≡ Err error
     → PassesTo format result before after left still_left held then_held counts then_counts
@@ -210,7 +231,8 @@ passes_to_first_error format result error before after left still_left held then
     (passes_nothing format before left held counts) ends fails
 
 -- the result if writing failed
-pub next_to_write_error : {A : Type 0} → (format : Format) (result : Result A format.Error) (error : format.Error) (before after : format.State)
+pub next_to_write_error : {A : Type 0} → (format : Format) (result : Result A format.Error) (error : format.Error)
+    (before after : format.State)
     (left still_left held now_held : Option (List ℕ)) (counts now_counts : format.Counts)
     → format.IsWriteError error → result ≡ Err error → PassesNext format result before after left still_left held now_held counts now_counts
 next_to_write_error format result error before after left still_left held now_held counts now_counts failed fails =
@@ -222,7 +244,8 @@ pub next_to_error : {A : Type 0} → (format : Format) (result : Result A format
     → format.IsEnd before front error → Consumes left then_left front.read → Appends held now_held front.written
     → now_counts ≡ counted_if format counts front.outcome → format.LeavesAt error then_left still_left → result ≡ Err error
     → PassesNext format result before after left still_left held now_held counts now_counts
-next_to_error format result error before after left then_left still_left held now_held counts now_counts front end consumed appended counts_are leaves fails =
+next_to_error format result error before after left then_left still_left held now_held counts now_counts front end consumed appended
+    counts_are leaves fails =
     next_to_end format result error before after left still_left held now_held counts now_counts (inr (record {
       then_left = then_left;
       front = front;
@@ -236,7 +259,8 @@ next_to_error format result error before after left then_left still_left held no
 -- ---- calls that return the outcome of a part
 
 -- an error, after which nothing was counted
-pub given_error : (format : Format) (result : Result (Option format.Outcome) format.Error) (error : format.Error) (before after : format.State)
+pub given_error : (format : Format) (result : Result (Option format.Outcome) format.Error) (error : format.Error)
+    (before after : format.State)
     (left still_left held now_held : Option (List ℕ)) (counts : format.Counts)
     → PassesNext format result before after left still_left held now_held counts counts → result ≡ Err error
     → PassesNext format result before after left still_left held now_held counts (counts_after format counts result)
@@ -245,7 +269,8 @@ given_error format result error before after left still_left held now_held count
     (sym (ap (counts_after format counts) fails)) passes
 
 -- the outcome was counted
-pub one_given : (format : Format) (outcome : Option format.Outcome) (before after : format.State) (left still_left held now_held : Option (List ℕ))
+pub one_given : (format : Format) (outcome : Option format.Outcome) (before after : format.State)
+    (left still_left held now_held : Option (List ℕ))
     (counts now_counts : format.Counts)
     → PassesGiven format (Ok outcome) before after left still_left held now_held → now_counts ≡ counted_if format counts outcome
     → PassesOne format before after left still_left held now_held counts now_counts

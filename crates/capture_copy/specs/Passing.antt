@@ -67,7 +67,8 @@ counted_if format counts outcome = fold format.counted counts (option_to_list ou
 -- these are parts, one after the other, which lead from one state to another
 abbrev pub AreParts : (format : Format) → format.State → List (Part format.Outcome) → format.State → Type 0
 AreParts format before [] after = after ≡ before
-AreParts format before (part ∷ parts) after = (between : format.State) × format.IsPart before part between × AreParts format between parts after
+AreParts format before (part ∷ parts) after =
+    (between : format.State) × format.IsPart before part between × AreParts format between parts after
 
 -- Parts were passed. Exactly the bytes of these parts were read, in their order. Exactly the written bytes of these parts were appended to
 -- the output. Each outcome was counted.
@@ -125,7 +126,8 @@ pub record EndsBy (format : Format) (error : format.Error) (before : format.Stat
 
 -- What a call with this result passed: parts, and before an error possibly the first bytes of the next part. If a write failed, nothing is
 -- stated.
-abbrev pub PassesTo : {A : Type 0} → (format : Format) → Result A format.Error → format.State → format.State → Option (List ℕ) → Option (List ℕ)
+abbrev pub PassesTo : {A : Type 0} → (format : Format) → Result A format.Error → format.State → format.State → Option (List ℕ)
+    → Option (List ℕ)
     → Option (List ℕ) → Option (List ℕ) → format.Counts → format.Counts → Type 0
 PassesTo format (Ok given) before after left still_left held now_held counts now_counts =
     Passes format before after left still_left held now_held counts now_counts
@@ -133,7 +135,8 @@ PassesTo format (Err error) before after left still_left held now_held counts no
     format.IsWriteError error ⊎ EndsBy format error before left still_left held now_held counts now_counts
 
 -- What a call for one part passed. After an error, it passed at most the first bytes of the part. If a write failed, nothing is stated.
-abbrev pub PassesNext : {A : Type 0} → (format : Format) → Result A format.Error → format.State → format.State → Option (List ℕ) → Option (List ℕ)
+abbrev pub PassesNext : {A : Type 0} → (format : Format) → Result A format.Error → format.State → format.State → Option (List ℕ)
+    → Option (List ℕ)
     → Option (List ℕ) → Option (List ℕ) → format.Counts → format.Counts → Type 0
 PassesNext format (Ok given) before after left still_left held now_held counts now_counts =
     PassesOne format before after left still_left held now_held counts now_counts

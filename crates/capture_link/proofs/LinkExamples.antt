@@ -266,7 +266,8 @@ nflog : HasLinkHeader Nflog BigEndian (2 ∷ 0 ∷ 0 ∷ 5 ∷ 8 ∷ 0 ∷ 1 ∷
 nflog = (refl, refl, refl)
 
 -- an NFLOG frame in which two bytes of padding and another attribute follow the packet
-nflog_with_padding : HasLinkHeader Nflog BigEndian (2 ∷ 0 ∷ 0 ∷ 5 ∷ 6 ∷ 0 ∷ 9 ∷ 0 ∷ (packet ++ 0 ∷ 0 ∷ 4 ∷ 0 ∷ 10 ∷ 0 ∷ [])) 8 None (Some 10)
+nflog_with_padding : HasLinkHeader Nflog BigEndian (2 ∷ 0 ∷ 0 ∷ 5 ∷ 6 ∷ 0 ∷ 9 ∷ 0 ∷ (packet ++ 0 ∷ 0 ∷ 4 ∷ 0 ∷ 10 ∷ 0 ∷ [])) 8 None
+    (Some 10)
 nflog_with_padding = (refl, refl, refl)
 
 -- an NFLOG frame that ends one byte before the end of the attribute with the packet
@@ -274,7 +275,8 @@ nflog_with_cut_packet : HasLinkHeader Nflog BigEndian (2 ∷ 0 ∷ 0 ∷ 5 ∷ 7
 nflog_with_cut_packet = (refl, refl, refl)
 
 -- an NFLOG attribute with padding, on a machine with the other byte order
-nflog_other_order : HasLinkHeader Nflog BigEndian (10 ∷ 0 ∷ 0 ∷ 5 ∷ 0 ∷ 5 ∷ 0 ∷ 10 ∷ 0 ∷ 0 ∷ 0 ∷ 0 ∷ 0 ∷ 6 ∷ 0 ∷ 9 ∷ packet) 16 None (Some 18)
+nflog_other_order : HasLinkHeader Nflog BigEndian (10 ∷ 0 ∷ 0 ∷ 5 ∷ 0 ∷ 5 ∷ 0 ∷ 10 ∷ 0 ∷ 0 ∷ 0 ∷ 0 ∷ 0 ∷ 6 ∷ 0 ∷ 9 ∷ packet) 16 None
+    (Some 18)
 nflog_other_order = (refl, refl, refl)
 
 -- an NFLOG frame with a bridged packet

@@ -33,14 +33,16 @@ unfolding begun
 begun_more start n k day has before test = rw (before, test) refl
 
 -- the number of years or months that have begun is k if the first k have begun and the others have not
-begun_is : (start : ℕ → ℤ) (n k : ℕ) (day : ℤ) → k ≤ n → ((i : ℕ) → 1 ≤ i → i ≤ k → start i ≤ℤ day) → ((i : ℕ) → k < i → i ≤ n → day <ℤ start i)
+begun_is : (start : ℕ → ℤ) (n k : ℕ) (day : ℤ) → k ≤ n → ((i : ℕ) → 1 ≤ i → i ≤ k → start i ≤ℤ day)
+    → ((i : ℕ) → k < i → i ≤ n → day <ℤ start i)
     → begun start n day ≡ k
 unfolding begun
 begun_is start zero k day within before after = omega arith
 begun_is start (suc n) k day within before after =
     elim (cases_order k (suc n)) [
       | inl same ↦ begun_more start n n day true
-          (begun_is start n n day (omega arith) (λ i low high. before i low (omega (arith, same, high))) (λ i low high. absurd (omega (arith, low, high))))
+          (begun_is start n n day (omega arith) (λ i low high. before i low (omega (arith, same, high)))
+          (λ i low high. absurd (omega (arith, low, high))))
           (le_is (start (suc n)) day (before (suc n) (omega arith) (omega (arith, same))))
           ∙ omega (arith, same)
       | inr (inl lt) ↦ begun_more start n k day false
@@ -70,7 +72,11 @@ year_before y m d i is high =
     let within : y ≤ 9999 = omega (arith, signed_arith, is.0.1) in
     elim (cases_order i y) [
       | inl same ↦ rw same (omega (arith, day_count-day_of_year (pos y) m d is.2.0, is.2.0))
-      | inr (inl lt) ↦ omega (arith, day_count-lt_year (pos i) 1 1 (pos y) m d (first_day i 1 (omega (arith, within, high)) (omega arith) (omega arith)) is.2.0 (omega (arith, signed_arith, lt)))
+      | inr (inl lt) ↦ omega (
+        arith,
+        day_count-lt_year (pos i) 1 1 (pos y) m d (first_day i 1 (omega (arith, within, high)) (omega arith)
+            (omega arith)) is.2.0 (omega (arith, signed_arith, lt)),
+      )
       | inr (inr gt) ↦ absurd (omega (arith, gt, high))
     ]
 
@@ -88,7 +94,8 @@ year_is : (y m d : ℕ) → IsCivilDate (pos y) m d → year_of (days_from_civil
 year_is y m d is =
     begun_is (λ year. days_from_civil (pos year) 1 1) 9999 y (days_from_civil (pos y) m d) (omega (arith, signed_arith, is.0.1))
     (λ i low high. counted_le (pos i) (pos y) 1 1 m d (year_before y m d i is high))
-    (λ i low high. counted_lt (pos y) (pos i) m d 1 1 (day_count-lt_year (pos y) m d (pos i) 1 1 is (omega arith) (omega (arith, signed_arith, low))))
+    (λ i low high. counted_lt (pos y) (pos i) m d 1 1
+    (day_count-lt_year (pos y) m d (pos i) 1 1 is (omega arith) (omega (arith, signed_arith, low))))
 
 month_is : (y m d : ℕ) → IsCivilDate (pos y) m d → month_of y (days_from_civil (pos y) m d) ≡ m
 month_is y m d is =
@@ -98,7 +105,15 @@ month_is y m d is =
 
 day_is : (y m d : ℕ) → IsCivilDate (pos y) m d → day_of_month y m (days_from_civil (pos y) m d) ≡ d
 day_is y m d is =
-    omega (arith, signed_arith, days_from_civil-day_count (pos y) m d, days_from_civil-day_count (pos y) m 1, day_count-day (pos y) m d 1 is.2.0 (omega arith), is.2.0, one_part (days_from_civil (pos y) m d -ℤ days_from_civil (pos y) m 1))
+    omega (
+      arith,
+      signed_arith,
+      days_from_civil-day_count (pos y) m d,
+      days_from_civil-day_count (pos y) m 1,
+      day_count-day (pos y) m d 1 is.2.0 (omega arith),
+      is.2.0,
+      one_part (days_from_civil (pos y) m d -ℤ days_from_civil (pos y) m 1),
+    )
 
 pub text_is : (y m d : ℕ) → IsCivilDate (pos y) m d → day_text (days_from_civil (pos y) m d) ≡ date_text y m d
 text_is y m d is =
@@ -110,7 +125,8 @@ text_is y m d is =
 pub has_is : (y m d : ℕ) → IsCivilDate (pos y) m d → has_date (days_from_civil (pos y) m d) ≡ true
 has_is y m d is =
     let day = days_from_civil (pos y) m d in
-    let after : int_le (days_from_civil (pos 0) 1 1) day ≡ true = le_is _ _ (counted_le (pos 0) (pos y) 1 1 m d (year_before y m d 0 is (omega arith))) in
+    let after : int_le (days_from_civil (pos 0) 1 1) day ≡ true =
+    le_is _ _ (counted_le (pos 0) (pos y) 1 1 m d (year_before y m d 0 is (omega arith))) in
     let before : int_lt day (days_from_civil (pos 10000) 1 1) ≡ true = lt_is _ _ (counted_lt (pos y) (pos 10000) m d 1 1
     (day_count-lt_year (pos y) m d (pos 10000) 1 1 is (omega arith) (omega (arith, signed_arith, is.0.1)))) in
     rw (after, before) refl
@@ -122,7 +138,8 @@ pub date_is : (date : Date) → pos 0 ≤ℤ date.year → (has_date (epoch_day 
     × (day_text (epoch_day date) ≡ date_text (unsigned_abs date.year) date.month date.day)
 date_is date low = by date.year refl
   where
-    by : (year : ℤ) → date.year ≡ year → (has_date (epoch_day date) ≡ true) × (day_text (epoch_day date) ≡ date_text (unsigned_abs date.year) date.month date.day)
+    by : (year : ℤ) → date.year ≡ year → (has_date (epoch_day date) ≡ true)
+        × (day_text (epoch_day date) ≡ date_text (unsigned_abs date.year) date.month date.day)
     by (negsuc n) e = absurd (omega (arith, signed_arith, low, e))
     by (pos y) e =
         let is : IsCivilDate (pos y) date.month date.day = subst (λ year. IsCivilDate year date.month date.day) e (civil date) in
@@ -131,7 +148,8 @@ date_is date low = by date.year refl
 -- a date before the year 0 is not written
 pub no_date : (date : Date) → date.year <ℤ pos 0 → has_date (epoch_day date) ≡ false
 no_date date low =
-    let before : int_le (days_from_civil (pos 0) 1 1) (epoch_day date) ≡ false = le_not _ _ (counted_lt date.year (pos 0) date.month date.day 1 1
+    let before : int_le (days_from_civil (pos 0) 1 1) (epoch_day date) ≡ false =
+    le_not _ _ (counted_lt date.year (pos 0) date.month date.day 1 1
     (day_count-lt_year date.year date.month date.day (pos 0) 1 1 (civil date) (omega arith) low)) in
     rw before refl
 
@@ -143,7 +161,13 @@ no_day day none =
     by_lt_z day first (λ lt. let before : int_le first day ≡ false = le_not first day lt in rw before refl)
     (λ ge. by_lt_z day last
     (λ lt. absurd (none (
-      omega (arith, signed_arith, ge, days_from_civil-day_count (pos 0) 1 1, day_count-year_bounds (pos 0) (omega (arith, signed_arith), omega (arith, signed_arith))),
+      omega (
+        arith,
+        signed_arith,
+        ge,
+        days_from_civil-day_count (pos 0) 1 1,
+        day_count-year_bounds (pos 0) (omega (arith, signed_arith), omega (arith, signed_arith)),
+      ),
       omega (arith, signed_arith, lt, days_from_civil-day_count (pos 10000) 1 1, day_count-end),
     )))
     (λ le. let after : int_le first day ≡ true = le_is first day ge in

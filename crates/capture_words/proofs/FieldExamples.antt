@@ -31,7 +31,8 @@ unfolding format_of link_layer_address_from
 solicitation = refl
 
 -- a report of a listener (RFC 2710, section 3.1), and a query with a maximum response code of 10,000
-report : fields_of (131 ∷ (replicate 7 0 ++ target)) ≡ record { target = None; destination = None; group = Some target; link_layer_address = None }
+report : fields_of (131 ∷ (replicate 7 0 ++ target))
+    ≡ record { target = None; destination = None; group = Some target; link_layer_address = None }
 unfolding format_of
 report = refl
 

@@ -9,5 +9,6 @@ any_mapped : {X : Type 0} (named : X → NamedFlag) (flags : List X)
 any_mapped named [] = refl
 any_mapped named (flag ∷ flags) = simp (any_mapped named flags)
 
-pub flags_mapped : {X : Type 0} (named : X → NamedFlag) (flags : List X) → flags_text named flags ≡ flags_text (λ flag. flag) (map named flags)
+pub flags_mapped : {X : Type 0} (named : X → NamedFlag) (flags : List X)
+    → flags_text named flags ≡ flags_text (λ flag. flag) (map named flags)
 flags_mapped named flags = simp (flat_map-map flag_text named flags, any_mapped named flags)

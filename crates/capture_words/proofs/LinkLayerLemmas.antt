@@ -78,7 +78,8 @@ next_at options rest left long is_other some =
     let (next, room, same) = other options rest left long is_other in record {
       more = next;
       room = omega (arith, room, long, some, length-drop (slice_index rest 1 * 8) rest);
-      same = same ∙ ap (λ b. if b then None else link_layer_address_from next (drop (slice_index rest 1 * 8) rest)) (is_not_zero (slice_index rest 1) some);
+      same = same ∙ ap (λ b. if b then None else link_layer_address_from next (drop (slice_index rest 1 * 8) rest))
+          (is_not_zero (slice_index rest 1) some);
     }
 
 -- an option that is longer than the bytes that are left

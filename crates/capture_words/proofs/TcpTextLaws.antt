@@ -18,7 +18,8 @@ one_of P f one s t is also = is.2 ∙ ap f (one is.0 also.0 is.1 also.1) ∙ sym
 -- ---- options
 
 -- bytes that consist of one element consist of only this element
-one_element : (bytes : List ℕ) (element other : TcpOptionElement) → BeginsWith bytes element [] → BeginsWith bytes other [] → element ≡ other
+one_element : (bytes : List ℕ) (element other : TcpOptionElement) → BeginsWith bytes element [] → BeginsWith bytes other []
+    → element ≡ other
 one_element bytes element other begins again =
     ap (first_or element) (one_reading bytes (Ok element ∷ []) (Ok other ∷ []) ([], begins, inl refl) ([], again, inl refl))
   where
@@ -65,7 +66,8 @@ items_of bytes (text ∷ texts) (inr (inr one)) =
 cons_same : (x y : List ℕ) (xs ys : List (List ℕ)) → x ≡ y → xs ≡ ys → x ∷ xs ≡ y ∷ ys
 cons_same x y xs ys p q = ap (λ first. first ∷ xs) p ∙ ap (λ rest. y ∷ rest) q
 
-same_texts : (bytes : List ℕ) (items : List RawItem) (texts others : List (List ℕ)) → AreItemTexts bytes items texts → AreItemTexts bytes items others
+same_texts : (bytes : List ℕ) (items : List RawItem) (texts others : List (List ℕ)) → AreItemTexts bytes items texts
+    → AreItemTexts bytes items others
     → texts ≡ others
 same_texts bytes [] [] [] is also = refl
 same_texts bytes [] [] (other ∷ others) none some = absurd (omega (arith, ap length none, some.0))
@@ -79,9 +81,11 @@ same_texts bytes (Ok option ∷ items) (text ∷ texts) (other ∷ others) is al
     (same_texts is.0 items texts others is.3 (subst (λ left. AreItemTexts left items others) rest also.3))
 same_texts bytes (Err error ∷ items) [] others is also = absurd is
 same_texts bytes (Err error ∷ items) (text ∷ texts) [] is also = absurd also
-same_texts bytes (Err error ∷ items) (text ∷ texts) (other ∷ others) is also = cons_same text other texts others (is.0 ∙ sym also.0) (is.1 ∙ sym also.1)
+same_texts bytes (Err error ∷ items) (text ∷ texts) (other ∷ others) is also =
+    cons_same text other texts others (is.0 ∙ sym also.0) (is.1 ∙ sym also.1)
 
-pub one_option_list : (bytes : List ℕ) (texts others : List (List ℕ)) → AreOptionTexts bytes texts → AreOptionTexts bytes others → texts ≡ others
+pub one_option_list : (bytes : List ℕ) (texts others : List (List ℕ)) → AreOptionTexts bytes texts → AreOptionTexts bytes others
+    → texts ≡ others
 one_option_list bytes texts others are also =
     let first = items_of bytes texts are in
     let second = items_of bytes others also in

@@ -44,7 +44,8 @@ list_more a b c d texts text is_first first p q r =
     (Appends-trans a c d (listed texts ++ separator is_first) text (Appends-trans a b c (listed texts) (separator is_first) p q) r)
 
 -- the last text was written
-pub list_last : {T E : Type 0} (r : Result T E) (a b c d : Option (List ℕ)) (bytes : List ℕ) (texts : List (List ℕ)) (text : List ℕ) (is_first : Bool)
+pub list_last : {T E : Type 0} (r : Result T E) (a b c d : Option (List ℕ)) (bytes : List ℕ) (texts : List (List ℕ)) (text : List ℕ)
+    (is_first : Bool)
     → is_first ≡ is_none texts → AreOptionTexts bytes (texts ++ text ∷ [])
     → Appends a b (listed texts) → Appends b c (separator is_first) → OnOk r (Appends c d text) → OnOk r (AppendsOne a d (IsListText bytes))
 list_last r a b c d bytes texts text is_first first are p q =

@@ -40,7 +40,8 @@ abbrev pub header_text : List ℕ
 header_text =
     codes "flags PSH ACK, sequence 1000, acknowledgment 0, window 64240, options [no operation, option 3 with length 254 above the 3 bytes left]"
 
-segment_options : AreOptionTexts (1 ∷ 3 ∷ 254 ∷ 0 ∷ []) (codes "no operation" ∷ codes "option 3 with length 254 above the 3 bytes left" ∷ [])
+segment_options : AreOptionTexts (1 ∷ 3 ∷ 254 ∷ 0 ∷ [])
+    (codes "no operation" ∷ codes "option 3 with length 254 above the 3 bytes left" ∷ [])
 unfolding digits
 segment_options = inr (inr (
   record { kind = 1; value = [] },

@@ -74,13 +74,15 @@ abbrev pub message_text : Icmpv4Type → List ℕ
 message_text (Unknown type code bytes) = unknown_text type code bytes
 message_text (EchoReply echo) = echo_text (codes "echo reply") echo
 message_text (DestinationUnreachable header) =
-    named_message (codes "destination unreachable") (dest_unreachable_code header) (unreachable_reason header) ++ optional_field (codes "next-hop MTU") (mtu_of header)
+    named_message (codes "destination unreachable") (dest_unreachable_code header) (unreachable_reason header)
+    ++ optional_field (codes "next-hop MTU") (mtu_of header)
 message_text (Redirect header) =
     named_message (codes "redirect") (redirect_code header.code) (redirected_datagrams header.code)
     ++ (codes ", gateway " ++ ipv4_text header.gateway_internet_address)
 message_text (EchoRequest echo) = echo_text (codes "echo request") echo
 message_text (TimeExceeded code) = named_message (codes "time exceeded") (time_exceeded_code code) (exceeded_time code)
 message_text (ParameterProblem header) =
-    named_message (codes "parameter problem") (parameter_problem_code header) (problem_name header) ++ optional_field (codes "pointer") (pointer_of header)
+    named_message (codes "parameter problem") (parameter_problem_code header) (problem_name header)
+    ++ optional_field (codes "pointer") (pointer_of header)
 message_text (TimestampRequest times) = timestamp_text (codes "timestamp") times
 message_text (TimestampReply times) = timestamp_text (codes "timestamp reply") times

@@ -56,7 +56,8 @@ router_text router =
 abbrev pub neighbor_text : NeighborAdvertisementHeader → List ℕ
 neighbor_text neighbor =
     codes "neighbor advertisement, code 0, "
-    ++ flags_text (λ flag. flag) ((neighbor.router, codes "router") ∷ (neighbor.solicited, codes "solicited") ∷ (neighbor.override_flag, codes "override") ∷ [])
+    ++ flags_text (λ flag. flag) ((neighbor.router, codes "router") ∷ (neighbor.solicited, codes "solicited")
+    ∷ (neighbor.override_flag, codes "override") ∷ [])
 
 -- the name of a message about multicast listeners, by its type (RFC 2710, section 3; RFC 3810, section 5); `None` for any other type
 abbrev pub listener_name : ℕ → Option (List ℕ)
@@ -67,8 +68,8 @@ listener_name type =
     else if type == 143 then Some (codes "version 2 multicast listener report")
     else None
 
--- The number in bytes 5 to 8 of a message about multicast listeners. A query contains the maximum response code (RFC 3810, section 5.1), and
--- a version 2 report the number of its records (RFC 3810, section 5.2).
+-- The number in bytes 5 to 8 of a message about multicast listeners. A query contains the maximum response code (RFC 3810, section 5.1),
+-- and a version 2 report the number of its records (RFC 3810, section 5.2).
 abbrev pub listener_number : ℕ → List ℕ → List ℕ
 listener_number type bytes =
     if type == 130 then field_text (codes "maximum response code") (be_number bytes 0 2)

@@ -55,7 +55,8 @@ use Rattle.transport_part.proofs.VerdictLemmas.{some_udp}
 
 -- ---- rules without errors
 
-pub none_first : {E : Type 0} (rule : Option E) (rules : List (Option E)) → first_of (rule ∷ rules) ≡ None → (rule ≡ None) × (first_of rules ≡ None)
+pub none_first : {E : Type 0} (rule : Option E) (rules : List (Option E)) → first_of (rule ∷ rules) ≡ None
+    → (rule ≡ None) × (first_of rules ≡ None)
 none_first None rules none = (refl, none)
 none_first (Some error) rules none = absurd (grind arith)
 
@@ -91,7 +92,8 @@ found_right between protocol message found is same number same_message whole fro
     let carried : proto_in found ≡ Some protocol =
     ap (λ part. if part then None else proto_over (by_value found.addresses) found.protocol.0) whole
     ∙ ap (λ from. proto_over from found.protocol.0) same ∙ ap (proto_over between) number ∙ is.carried in
-    let keeps : kept found ≡ Some is.transport = ap (λ proto. kept_by proto found.payload.now) carried ∙ ap (kept_by (Some protocol)) same_message ∙ is.kept in
+    let keeps : kept found ≡ Some is.transport =
+    ap (λ proto. kept_by proto found.payload.now) carried ∙ ap (kept_by (Some protocol)) same_message ∙ is.kept in
     let Over : Addresses → Type 0 = λ from. Judges from is.transport Right in
     let judged : Judges (by_value found.addresses) is.transport Right = subst Over (sym same) is.right in
     let Kept : Option TransportSlice → Type 0 =
@@ -118,7 +120,8 @@ found_right between protocol message found is same number same_message whole fro
 -- ---- UDP
 
 -- a packet whose length field counts all its bytes is accepted
-strict_accepts : (bytes : List ℕ) → udp.refusal bytes ≡ None → 8 ≤ length bytes → length_field bytes ≡ length bytes → strict_refusal bytes ≡ None
+strict_accepts : (bytes : List ℕ) → udp.refusal bytes ≡ None → 8 ≤ length bytes → length_field bytes ≡ length bytes
+    → strict_refusal bytes ≡ None
 strict_accepts bytes accepted there counts = grind (arith, nat_tests)
 
 kept_whole : (counts : Bool) (n : ℕ) (bytes : List ℕ) → n ≡ length bytes → (if counts then take n bytes else bytes) ≡ bytes
@@ -132,11 +135,13 @@ has_length bytes there counts =
 
 -- the checksum of a packet with a length that is not too long is judged
 judged_over_ipv4 : (source destination : List ℕ) (transport : TransportSlice) → lacks_length transport ≡ false
-    → is_too_long_over_ipv4 transport ≡ false → JudgesOverIpv4 source destination transport Right → Judges (addresses.Ipv4 source destination) transport Right
+    → is_too_long_over_ipv4 transport ≡ false → JudgesOverIpv4 source destination transport Right
+    → Judges (addresses.Ipv4 source destination) transport Right
 judged_over_ipv4 source destination transport has short judged =
     let Short : Bool → Type 0 = λ b. MatchBool b (Right ≡ Untested TooLong) (JudgesOverIpv4 source destination transport Right) in
     let over : JudgesOver (addresses.Ipv4 source destination) transport Right = subst Short (sym short) judged in
-    let Has : Bool → Type 0 = λ b. MatchBool b (Right ≡ Untested ZeroLength) (JudgesOver (addresses.Ipv4 source destination) transport Right) in
+    let Has : Bool → Type 0 = λ b. MatchBool b (Right ≡ Untested ZeroLength) (JudgesOver
+    (addresses.Ipv4 source destination) transport Right) in
     subst Has (sym has) over
 
 judged_over_ipv6 : (source destination : List ℕ) (transport : TransportSlice) → lacks_length transport ≡ false
@@ -145,7 +150,8 @@ judged_over_ipv6 : (source destination : List ℕ) (transport : TransportSlice) 
 judged_over_ipv6 source destination transport has short judged =
     let Short : Bool → Type 0 = λ b. MatchBool b (Right ≡ Untested TooLong) (JudgesOverIpv6 source destination transport Right) in
     let over : JudgesOver (addresses.Ipv6 source (Some destination)) transport Right = subst Short (sym short) judged in
-    let Has : Bool → Type 0 = λ b. MatchBool b (Right ≡ Untested ZeroLength) (JudgesOver (addresses.Ipv6 source (Some destination)) transport Right) in
+    let Has : Bool → Type 0 = λ b. MatchBool b (Right ≡ Untested ZeroLength) (JudgesOver
+    (addresses.Ipv6 source (Some destination)) transport Right) in
     subst Has (sym has) over
 
 pub not_above : (limit n : ℕ) → n ≤ limit → nat_lt limit n ≡ false
@@ -210,7 +216,8 @@ tcp_right_ipv6 source destination message accepted short valid = record {
   carried = refl;
   accepted = accepted;
   kept = refl;
-  right = judged_over_ipv6 source destination (slices.Tcp message) refl (not_above 4294967295 (length message) (omega (arith, short))) valid;
+  right = judged_over_ipv6 source destination (slices.Tcp message) refl
+      (not_above 4294967295 (length message) (omega (arith, short))) valid;
 }
 
 pub icmpv4_right : (source destination message : List ℕ) → icmpv4.refusal message ≡ None
@@ -267,12 +274,17 @@ either P false true x y z is_x is_y is_z = is_y
 either P false false x y z is_x is_y is_z = is_z
 
 -- a message without a payload is read, or refused only because it needs 20 bytes
-refused_alone : (message : Icmpv4Type) (checksum : ℕ) → IfErr (icmpv4_back.reads_back message checksum []) (λ error. error.required_len ≡ 20)
+refused_alone : (message : Icmpv4Type) (checksum : ℕ)
+    → IfErr (icmpv4_back.reads_back message checksum []) (λ error. error.required_len ≡ 20)
 refused_alone (messages.Unknown type code bytes5to8) checksum =
     either (λ error. error.required_len ≡ 20) ((type == 13) && (code == 0)) ((type == 14) && (code == 0))
     (icmpv4_back.raw_timestamp_reads_back messages.TimestampRequest layers.Icmpv4Timestamp bytes5to8 checksum [])
     (icmpv4_back.raw_timestamp_reads_back messages.TimestampReply layers.Icmpv4TimestampReply bytes5to8 checksum [])
-    (Ok (icmpv4_back.icmpv4_header (unwrap_or (icmpv4_back.listed_kind type code bytes5to8) (messages.Unknown type code bytes5to8)) checksum, []))
+    (Ok (
+      icmpv4_back.icmpv4_header (unwrap_or (icmpv4_back.listed_kind type code bytes5to8)
+          (messages.Unknown type code bytes5to8)) checksum,
+      [],
+    ))
     refl refl tt
 refused_alone (messages.EchoReply echo) checksum = tt
 refused_alone (messages.DestinationUnreachable header) checksum = tt
@@ -283,16 +295,20 @@ refused_alone (messages.ParameterProblem header) checksum = tt
 refused_alone (messages.TimestampRequest message) checksum = tt
 refused_alone (messages.TimestampReply message) checksum = tt
 
-icmpv4_header_long : (header : Icmpv4Header) → ((payload : List ℕ) → IsReadBack (headers.Icmpv4 header) payload) → 8 ≤ length (icmpv4.wire header)
+icmpv4_header_long : (header : Icmpv4Header) → ((payload : List ℕ) → IsReadBack (headers.Icmpv4 header) payload)
+    → 8 ≤ length (icmpv4.wire header)
 icmpv4_header_long header back =
     let Long : List ℕ → Type 0 = λ bytes. 8 ≤ length bytes in
     subst Long (append-nil (icmpv4.wire header))
-    (whole_by (icmpv4.wire header ++ []) (icmpv4_back.reads_back header.icmp_type header.checksum []) (back []) (refused_alone header.icmp_type header.checksum))
+    (whole_by (icmpv4.wire header ++ []) (icmpv4_back.reads_back header.icmp_type header.checksum []) (back [])
+    (refused_alone header.icmp_type header.checksum))
 
-icmpv6_header_long : (header : Icmpv6Header) → ((payload : List ℕ) → IsReadBack (headers.Icmpv6 header) payload) → 8 ≤ length (icmpv6.wire header)
+icmpv6_header_long : (header : Icmpv6Header) → ((payload : List ℕ) → IsReadBack (headers.Icmpv6 header) payload)
+    → 8 ≤ length (icmpv6.wire header)
 icmpv6_header_long header back =
     let Long : List ℕ → Type 0 = λ bytes. 8 ≤ length bytes in
-    let decodes : icmpv6.DecodesAs (icmpv6.wire header ++ []) (icmpv6_back.icmpv6_header (icmpv6_back.message_reads_back header.icmp_type) header.checksum) [] = back [] in
+    let decodes : icmpv6.DecodesAs (icmpv6.wire header ++ [])
+    (icmpv6_back.icmpv6_header (icmpv6_back.message_reads_back header.icmp_type) header.checksum) [] = back [] in
     subst Long (append-nil (icmpv6.wire header)) (accepted-length (icmpv6.wire header ++ []) decodes.accepted).shortest
 
 -- each header is at least eight bytes long
@@ -309,7 +325,8 @@ pub joined : (slice front rest header message : List ℕ) (header_len len : ℕ)
     → rest ≡ message ++ drop len (drop header_len slice) → front ++ rest ≡ (header ++ message) ++ drop (header_len + len) slice
 joined slice front rest header message header_len len is_front is_rest =
     ap (λ bytes. bytes ++ rest) is_front ∙ ap (λ bytes. header ++ bytes) is_rest
-    ∙ ap (λ bytes. header ++ (message ++ bytes)) (drop-drop len header_len slice) ∙ sym (append_assoc header message (drop (header_len + len) slice))
+    ∙ ap (λ bytes. header ++ (message ++ bytes)) (drop-drop len header_len slice)
+    ∙ sym (append_assoc header message (drop (header_len + len) slice))
 
 -- ---- the header that is sent
 
@@ -327,25 +344,51 @@ record IsSent (header sent : TransportHeader) (payload : List ℕ) : Type 0 wher
   pub counts : Counts sent (length payload)
   pub timestamps : timestamp_refusal sent payload ≡ timestamp_refusal header payload
 
-sent_ipv4 : (source destination payload : List ℕ) (header : TransportHeader) → IsSent header (sent_over_ipv4 source destination header payload) payload
+sent_ipv4 : (source destination payload : List ℕ) (header : TransportHeader)
+    → IsSent header (sent_over_ipv4 source destination header payload) payload
 sent_ipv4 source destination payload (headers.Udp header) =
     record { protocol = refl; len = omega arith; counts = refl; timestamps = refl }
 sent_ipv4 source destination payload (headers.Tcp header) =
     record { protocol = refl; len = omega (arith, length-append header.options payload); counts = tt; timestamps = refl }
 sent_ipv4 source destination payload (headers.Icmpv4 header) =
-    record { protocol = refl; len = omega (arith, length-append (icmpv4.written header.icmp_type).fields payload); counts = tt; timestamps = refl }
+    record {
+      protocol = refl;
+      len =
+          omega (arith, length-append (icmpv4.written header.icmp_type).fields payload);
+      counts = tt;
+      timestamps = refl;
+    }
 sent_ipv4 source destination payload (headers.Icmpv6 header) =
-    record { protocol = refl; len = omega (arith, length-append (icmpv6.written header.icmp_type).fields payload); counts = tt; timestamps = refl }
+    record {
+      protocol = refl;
+      len =
+          omega (arith, length-append (icmpv6.written header.icmp_type).fields payload);
+      counts = tt;
+      timestamps = refl;
+    }
 
-sent_ipv6 : (source destination payload : List ℕ) (header : TransportHeader) → IsSent header (sent_over_ipv6 source destination header payload) payload
+sent_ipv6 : (source destination payload : List ℕ) (header : TransportHeader)
+    → IsSent header (sent_over_ipv6 source destination header payload) payload
 sent_ipv6 source destination payload (headers.Udp header) =
     record { protocol = refl; len = omega arith; counts = refl; timestamps = refl }
 sent_ipv6 source destination payload (headers.Tcp header) =
     record { protocol = refl; len = omega (arith, length-append header.options payload); counts = tt; timestamps = refl }
 sent_ipv6 source destination payload (headers.Icmpv4 header) =
-    record { protocol = refl; len = omega (arith, length-append (icmpv4.written header.icmp_type).fields payload); counts = tt; timestamps = refl }
+    record {
+      protocol = refl;
+      len =
+          omega (arith, length-append (icmpv4.written header.icmp_type).fields payload);
+      counts = tt;
+      timestamps = refl;
+    }
 sent_ipv6 source destination payload (headers.Icmpv6 header) =
-    record { protocol = refl; len = omega (arith, length-append (icmpv6.written header.icmp_type).fields payload); counts = tt; timestamps = refl }
+    record {
+      protocol = refl;
+      len =
+          omega (arith, length-append (icmpv6.written header.icmp_type).fields payload);
+      counts = tt;
+      timestamps = refl;
+    }
 
 stored_sum : (source destination payload : List ℕ) (header : TransportHeader) → StoresSum (sent_over_ipv4 source destination header payload)
 unfolding StoresSum
@@ -356,7 +399,8 @@ stored_sum source destination payload (headers.Icmpv6 header) = tt
 
 -- ---- the sent message is right
 
-right_ipv4 : (source destination payload : List ℕ) (sent : TransportHeader) → IsReadBack sent payload → Counts sent (length payload) → StoresSum sent
+right_ipv4 : (source destination payload : List ℕ) (sent : TransportHeader) → IsReadBack sent payload → Counts sent (length payload)
+    → StoresSum sent
     → length (wire sent ++ payload) ≤ 65535 → timestamp_refusal sent payload ≡ None → IsValidOverIpv4 source destination sent payload
     → IsRight (addresses.Ipv4 source destination) (proto_of sent) (wire sent ++ payload)
 unfolding StoresSum
@@ -380,7 +424,8 @@ right_ipv6 source destination payload (headers.Icmpv6 header) reads counts short
     let message : List ℕ = icmpv6.wire header ++ payload in
     let above : nat_lt icmpv6.max_payload_len (length payload) ≡ false =
     not_above icmpv6.max_payload_len (length payload) (omega (arith, short, length-append (icmpv6.wire header) payload)) in
-    icmpv6_right source destination message (icmpv6_accepted message _ _ (nat_lt icmpv6.max_payload_len (length payload)) above reads) (omega (arith, short)) valid
+    icmpv6_right source destination message (icmpv6_accepted message _ _ (nat_lt icmpv6.max_payload_len (length payload)) above reads)
+    (omega (arith, short)) valid
 
 -- ---- the packet
 
@@ -420,18 +465,22 @@ read_ipv4 source destination payload padding time_to_live header len len_too sho
     let number : ℕ = number_of (proto_of header) in
     let first_len : List ℕ = to_be_bytes w16 total_len in
     let start : Start = built_start total_len in
-    let checksum : List ℕ = to_be_bytes w16 (checksum_of (total (ipv4_fields (ipv4_start total_len) time_to_live number source destination 0))) in
+    let checksum : List ℕ = to_be_bytes w16
+    (checksum_of (total (ipv4_fields (ipv4_start total_len) time_to_live number source destination 0))) in
     let front : List ℕ → List ℕ = front_ipv4 start time_to_live number (slice_index checksum 0) (slice_index checksum 1) in
     let is : IsSent header sent payload = sent_ipv4 source destination payload header in
     let after_version = none_first (other_version_ipv4 header) _ accepted in
     let after_payload = none_first (payload_above max_message_len_ipv4 (length (wire header)) (length payload)) _ after_version.1 in
     let after_timestamp = none_first (timestamp_refusal header payload) _ after_payload.1 in
-    let within : length payload ≤ max_message_len_ipv4 - length (wire header) = at_most max_message_len_ipv4 (length (wire header)) (length payload) after_payload.0 in
+    let within : length payload ≤ max_message_len_ipv4 - length (wire header) =
+    at_most max_message_len_ipv4 (length (wire header)) (length payload) after_payload.0 in
     let counted : slice_index first_len 0 * 256 + slice_index first_len 1 ≡ 20 + length message =
     two_bytes total_len (omega (arith, short, within)) ∙ ap (λ n. 20 + n) (sym is.len) in
     let has : HasMessage (front ((source ++ destination) ++ (message ++ padding))) (addresses.Ipv4 source destination) number message =
-    message_over_ipv4 start time_to_live number _ _ source destination message padding len len_too counted refl (no_authentication header) in
-    let packet_is : ipv4_packet source destination time_to_live header payload ++ padding ≡ front ((source ++ destination) ++ (message ++ padding)) =
+    message_over_ipv4 start time_to_live number _ _ source destination message padding len len_too counted refl
+    (no_authentication header) in
+    let packet_is : ipv4_packet source destination time_to_live header payload ++ padding
+    ≡ front ((source ++ destination) ++ (message ++ padding)) =
     ap front (append_assoc (source ++ destination) message padding) in
     let right : IsRight (addresses.Ipv4 source destination) (proto_of sent) message =
     right_ipv4 source destination payload sent reads is.counts (stored_sum source destination payload header)
@@ -492,13 +541,17 @@ read_ipv6 source destination payload padding hop_limit header len len_too short 
     let is : IsSent header sent payload = sent_ipv6 source destination payload header in
     let after_version = none_first (other_version_ipv6 header) _ accepted in
     let after_payload = none_first (payload_above max_message_len_ipv6 (length (wire header)) (length payload)) _ after_version.1 in
-    let within : length payload ≤ max_message_len_ipv6 - length (wire header) = at_most max_message_len_ipv6 (length (wire header)) (length payload) after_payload.0 in
+    let within : length payload ≤ max_message_len_ipv6 - length (wire header) =
+    at_most max_message_len_ipv6 (length (wire header)) (length payload) after_payload.0 in
     let counted : slice_index payload_len 0 * 256 + slice_index payload_len 1 ≡ length message =
     two_bytes (message_len header (length payload)) (omega (arith, short, within)) ∙ sym is.len in
-    let has : HasMessage (front ((source ++ destination) ++ (message ++ padding))) (addresses.Ipv6 source (Some destination)) number message =
-    message_over_ipv6 start number hop_limit source destination message padding len len_too refl counted (omega (arith, is.len, some_header header))
+    let has : HasMessage (front ((source ++ destination) ++ (message ++ padding))) (addresses.Ipv6 source (Some destination)) number message
+    =
+    message_over_ipv6 start number hop_limit source destination message padding len len_too refl counted
+    (omega (arith, is.len, some_header header))
     (no_extension header) in
-    let packet_is : ipv6_packet source destination hop_limit header payload ++ padding ≡ front ((source ++ destination) ++ (message ++ padding)) =
+    let packet_is : ipv6_packet source destination hop_limit header payload ++ padding
+    ≡ front ((source ++ destination) ++ (message ++ padding)) =
     ap front (append_assoc (source ++ destination) message padding) in
     let right : IsRight (addresses.Ipv6 source (Some destination)) (proto_of sent) message =
     right_ipv6 source destination payload sent reads is.counts (omega (arith, is.len, short, within))

@@ -25,7 +25,8 @@ use Rattle.etherparse_transport.specs.declared.transport_header.TransportHeader.
 
 -- if masked bytes have the masks of the bytes, masking them again changes nothing
 masked_again : (layout_of : List ℕ → HeaderLayout) (bytes : List ℕ) → layout_of (masked ((layout_of bytes).masks) bytes) ≡ layout_of bytes
-    → masked ((layout_of (masked ((layout_of bytes).masks) bytes)).masks) (masked ((layout_of bytes).masks) bytes) ≡ masked ((layout_of bytes).masks) bytes
+    → masked ((layout_of (masked ((layout_of bytes).masks) bytes)).masks) (masked ((layout_of bytes).masks) bytes)
+    ≡ masked ((layout_of bytes).masks) bytes
 masked_again layout_of bytes same =
     ap (λ layout. masked (layout.masks) (masked ((layout_of bytes).masks) bytes)) same ∙ masked-masked ((layout_of bytes).masks) bytes
 
@@ -50,7 +51,8 @@ canonical_tcp bytes fits accepted =
     let long = tcp_laws.length-accepted bytes accepted in
     let len = length-masked ((tcp.layout_of bytes).masks) bytes in
     record {
-      accepted = tcp_laws.accepted_whole (tcp.canonical bytes) (omega (arith, long.0, long.1, len)) (omega (arith, long.0, offset)) (omega (arith, long.1, offset, len));
+      accepted = tcp_laws.accepted_whole (tcp.canonical bytes) (omega (arith, long.0, long.1, len)) (omega (arith, long.0, offset))
+          (omega (arith, long.1, offset, len));
       unchanged = masked_again tcp.layout_of bytes (layout_of_offset (tcp.canonical bytes) bytes offset);
     }
 
@@ -61,7 +63,8 @@ unfolding icmpv4.format_of
 icmpv4_format_of_alike bytes other type code =
     ap (λ t. icmpv4.format_at t (slice_index other 1)) type ∙ ap (λ c. icmpv4.format_at (slice_index bytes 0) c) code
 
-icmpv4_accepted_alike : (bytes other : List ℕ) → length other ≡ length bytes → slice_index other 0 ≡ slice_index bytes 0 → slice_index other 1 ≡ slice_index bytes 1
+icmpv4_accepted_alike : (bytes other : List ℕ) → length other ≡ length bytes → slice_index other 0 ≡ slice_index bytes 0
+    → slice_index other 1 ≡ slice_index bytes 1
     → icmpv4.refusal bytes ≡ None → icmpv4.refusal other ≡ None
 icmpv4_accepted_alike bytes other len type code accepted = grind (arith, nat_tests)
 
@@ -73,7 +76,8 @@ canonical_icmpv4 bytes fits accepted =
     let len = length-masked ((icmpv4.layout_of bytes).masks) bytes in
     record {
       accepted = ap (option_map Len) (icmpv4_accepted_alike bytes (icmpv4.canonical bytes) len type code accepted);
-      unchanged = masked_again icmpv4.layout_of bytes (ap (λ format. format.layout) (icmpv4_format_of_alike bytes (icmpv4.canonical bytes) type code));
+      unchanged = masked_again icmpv4.layout_of bytes
+          (ap (λ format. format.layout) (icmpv4_format_of_alike bytes (icmpv4.canonical bytes) type code));
     }
 
 -- type and code determine the format of an ICMPv6 message
@@ -83,7 +87,8 @@ unfolding icmpv6.format_of
 icmpv6_format_of_alike bytes other type code =
     ap (λ t. icmpv6.format_at t (slice_index other 1)) type ∙ ap (λ c. icmpv6.format_at (slice_index bytes 0) c) code
 
-icmpv6_accepted_alike : (bytes other : List ℕ) → length other ≡ length bytes → slice_index other 0 ≡ slice_index bytes 0 → slice_index other 1 ≡ slice_index bytes 1
+icmpv6_accepted_alike : (bytes other : List ℕ) → length other ≡ length bytes → slice_index other 0 ≡ slice_index bytes 0
+    → slice_index other 1 ≡ slice_index bytes 1
     → icmpv6.refusal bytes ≡ None → icmpv6.refusal other ≡ None
 icmpv6_accepted_alike bytes other len type code accepted = grind (arith, nat_tests)
 
@@ -95,7 +100,8 @@ canonical_icmpv6 bytes fits accepted =
     let len = length-masked ((icmpv6.layout_of bytes).masks) bytes in
     record {
       accepted = ap (option_map Len) (icmpv6_accepted_alike bytes (icmpv6.canonical bytes) len type code accepted);
-      unchanged = masked_again icmpv6.layout_of bytes (ap (λ format. format.layout) (icmpv6_format_of_alike bytes (icmpv6.canonical bytes) type code));
+      unchanged = masked_again icmpv6.layout_of bytes
+          (ap (λ format. format.layout) (icmpv6_format_of_alike bytes (icmpv6.canonical bytes) type code));
     }
 
 -- an error that becomes no error as `Len` is no error
@@ -103,7 +109,8 @@ accepted_by_len : (refusal : Option LenError) → option_map Len refusal ≡ Non
 accepted_by_len None accepted = refl
 accepted_by_len (Some error) accepted = absurd (grind arith)
 
-is_canonical : (protocol : Proto) (bytes : List ℕ) → IsBytes bytes → refusal protocol bytes ≡ None → IsCanonical protocol (canonical protocol bytes)
+is_canonical : (protocol : Proto) (bytes : List ℕ) → IsBytes bytes → refusal protocol bytes ≡ None
+    → IsCanonical protocol (canonical protocol bytes)
 is_canonical Udp bytes fits accepted = canonical_udp bytes fits (accepted_by_len (udp.refusal bytes) accepted)
 is_canonical Tcp bytes fits accepted = canonical_tcp bytes fits accepted
 is_canonical Icmpv4 bytes fits accepted = canonical_icmpv4 bytes fits (accepted_by_len (icmpv4.refusal bytes) accepted)
@@ -117,7 +124,8 @@ canonical_again protocol bytes written fits accepted same =
     subst P (sym same) (is_canonical protocol bytes fits accepted)
 
 -- accepted bytes contain their whole header
-header_len-within : (protocol : Proto) (bytes : List ℕ) → refusal protocol bytes ≡ None → (layout_of protocol bytes).header_len ≤ length bytes
+header_len-within : (protocol : Proto) (bytes : List ℕ) → refusal protocol bytes ≡ None
+    → (layout_of protocol bytes).header_len ≤ length bytes
 header_len-within Udp bytes accepted = udp_laws.length-accepted bytes (accepted_by_len (udp.refusal bytes) accepted)
 header_len-within Tcp bytes accepted = (tcp_laws.length-accepted bytes accepted).1
 header_len-within Icmpv4 bytes accepted =
@@ -138,14 +146,16 @@ canonical_front : (protocol : Proto) (bytes header rest : List ℕ) → refusal 
     → header ≡ take (layout_of protocol bytes).header_len (canonical protocol bytes)
 canonical_front protocol bytes header rest accepted whole after =
     let within = header_len-within protocol bytes accepted in
-    let rest_len : length rest ≡ length bytes - (layout_of protocol bytes).header_len = rw after (length-drop (layout_of protocol bytes).header_len bytes) in
+    let rest_len : length rest ≡ length bytes - (layout_of protocol bytes).header_len =
+    rw after (length-drop (layout_of protocol bytes).header_len bytes) in
     let whole_len : length header + length rest ≡ length bytes =
     sym (length-append header rest) ∙ ap length whole ∙ length-canonical protocol bytes in
     let len : length header ≡ (layout_of protocol bytes).header_len = omega arith in
     sym (take-append_seam header rest) ∙ ap (λ n. take n (header ++ rest)) len ∙ ap (take (layout_of protocol bytes).header_len) whole
 
 -- bytes that are read are accepted, and the rest is the bytes after the header
-decoded-accepted : (bytes : List ℕ) (header : TransportHeader) (rest : List ℕ) → DecodesAs bytes header rest → refusal (proto_of header) bytes ≡ None
+decoded-accepted : (bytes : List ℕ) (header : TransportHeader) (rest : List ℕ) → DecodesAs bytes header rest
+    → refusal (proto_of header) bytes ≡ None
 decoded-accepted bytes (headers.Udp header) rest decodes = ap (option_map Len) decodes.accepted
 decoded-accepted bytes (headers.Tcp header) rest decodes = decodes.accepted
 decoded-accepted bytes (headers.Icmpv4 header) rest decodes = ap (option_map Len) decodes.accepted
@@ -159,7 +169,8 @@ decoded-rest bytes (headers.Icmpv4 header) rest decodes = decodes.after_header
 decoded-rest bytes (headers.Icmpv6 header) rest decodes = decodes.after_header
 
 -- bytes whose decoded header and rest are written are accepted
-written-accepted : (protocol : Proto) (bytes header rest : List ℕ) → WritesDecoded protocol bytes header rest → refusal protocol bytes ≡ None
+written-accepted : (protocol : Proto) (bytes header rest : List ℕ) → WritesDecoded protocol bytes header rest
+    → refusal protocol bytes ≡ None
 written-accepted protocol bytes header rest written =
     let P : Proto → Type 0 = λ p. refusal p bytes ≡ None in
     subst P written.protocol_of_header (decoded-accepted bytes written.header rest written.decodes)

@@ -58,7 +58,8 @@ below_all_ones n some = omega (arith, folded-some n some)
 -- the sum of a message by its first eight bytes, the last four of which are these fields
 pub message_total : (message fields : List ℕ) → 8 ≤ length message
     → fields ≡ slice_index message 4 ∷ slice_index message 5 ∷ slice_index message 6 ∷ slice_index message 7 ∷ []
-    → total message ≡ slice_index message 0 * 256 + slice_index message 1 + (be_number message 2 2 + (total fields + total (drop 8 message)))
+    → total message ≡ slice_index message 0 * 256 + slice_index message 1
+    + (be_number message 2 2 + (total fields + total (drop 8 message)))
 message_total (a ∷ (b ∷ (c ∷ (d ∷ (e ∷ (f ∷ (g ∷ (h ∷ rest)))))))) fields long is = omega (arith, ap total is)
 message_total [] fields long is = absurd (omega arith)
 message_total (a ∷ []) fields long is = absurd (omega arith)
@@ -71,7 +72,8 @@ message_total (a ∷ (b ∷ (c ∷ (d ∷ (e ∷ (f ∷ (g ∷ []))))))) fields 
 
 -- the sum for the checksum of an ICMPv4 echo request
 pub icmpv4_request_sum : (echo : IcmpEchoHeader) (payload : List ℕ)
-    → icmpv4.checksummed (record { icmp_type = v4.EchoRequest echo; checksum = 0 }) payload ≡ 2048 + (total (echo_fields echo) + total payload)
+    → icmpv4.checksummed (record { icmp_type = v4.EchoRequest echo; checksum = 0 }) payload ≡ 2048
+    + (total (echo_fields echo) + total payload)
 icmpv4_request_sum echo payload = omega arith
 
 pub icmpv4_reply_sum : (echo : IcmpEchoHeader) (payload : List ℕ)
@@ -102,7 +104,8 @@ pub record IsEchoRequest (type : ℕ) (message : List ℕ) (sum : ℕ) : Type 0 
 pub icmpv4_request : (message : List ℕ) → icmpv4_refusal message ≡ None → IsEchoRequest 8 message (total message)
 icmpv4_request message accepted =
     let after_message = none_first (option_map Len (icmpv4.refusal message)) _ accepted in
-    let after_type = none_first (refused_if (not (slice_index message 0 == 8 && slice_index message 1 == 0)) NoEchoRequest) _ after_message.1 in
+    let after_type = none_first (refused_if (not (slice_index message 0 == 8 && slice_index message 1 == 0)) NoEchoRequest) _
+    after_message.1 in
     let after_sum = none_first (refused_if (not (is_all_ones (total message))) Checksum) _ after_type.1 in
     let kind = both (slice_index message 0 == 8) (slice_index message 1 == 0) (none_if _ NoEchoRequest after_type.0) in
     record {
@@ -117,7 +120,8 @@ pub icmpv6_request : (source destination message : List ℕ) → icmpv6_refusal 
 icmpv6_request source destination message accepted =
     let sum : ℕ = total (ipv6_pseudo_header source destination 58 (length message)) + total message in
     let after_message = none_first (option_map Len (icmpv6.refusal message)) _ accepted in
-    let after_type = none_first (refused_if (not (slice_index message 0 == 128 && slice_index message 1 == 0)) NoEchoRequest) _ after_message.1 in
+    let after_type = none_first (refused_if (not (slice_index message 0 == 128 && slice_index message 1 == 0)) NoEchoRequest) _
+    after_message.1 in
     let after_sum = none_first (refused_if (not (is_all_ones sum)) Checksum) _ after_type.1 in
     let kind = both (slice_index message 0 == 128) (slice_index message 1 == 0) (none_if _ NoEchoRequest after_type.0) in
     record {
@@ -216,7 +220,8 @@ read_as packet between header payload has right reads = record {
   carries = λ found carries.
       found_right between (proto_of header) (wire header ++ payload) found right
       (has.addresses found carries) (has.protocol found carries) (has.message found carries)
-      (has.is_fragment found carries) (has.is_later_fragment found carries) (has.is_cut_off found carries) (has.is_length_missing found carries);
+      (has.is_fragment found carries) (has.is_later_fragment found carries) (has.is_cut_off found carries)
+      (has.is_length_missing found carries);
   read_back = reads;
 }
 
@@ -231,7 +236,8 @@ icmpv4_reply_valid echo payload =
 pub ipv4_reply_has : (packet source destination : List ℕ) (time_to_live : ℕ) (echo : IcmpEchoHeader) → IsPlainRequest packet
     → length source ≡ 4 → length destination ≡ 4
     → HasMessage
-    (ipv4_header (ipv4_reply_start packet) time_to_live 1 source destination ++ (icmpv4.wire (icmpv4_reply echo (drop 8 (message_after 20 packet))) ++ drop 28 packet))
+    (ipv4_header (ipv4_reply_start packet) time_to_live 1 source destination
+    ++ (icmpv4.wire (icmpv4_reply echo (drop 8 (message_after 20 packet))) ++ drop 28 packet))
     (addresses.Ipv4 source destination) 1
     (icmpv4.wire (icmpv4_reply echo (drop 8 (message_after 20 packet))) ++ drop 8 (message_after 20 packet))
 ipv4_reply_has packet source destination time_to_live echo is len len_too =
@@ -242,7 +248,8 @@ ipv4_reply_has packet source destination time_to_live echo is len len_too =
     let header : Icmpv4Header = icmpv4_reply echo payload in
     let sent : List ℕ = icmpv4.wire header ++ payload in
     let start : Start = reply_start_of packet in
-    let packet_is : packet ≡ start_bytes (start_of packet) ++ drop 8 packet = starts packet (omega (arith, is.end, is.there)) is.five_words in
+    let packet_is : packet ≡ start_bytes (start_of packet) ++ drop 8 packet =
+    starts packet (omega (arith, is.end, is.there)) is.five_words in
     let payload_len : length payload ≡ length message - 8 = length-drop 8 message in
     let counts : start.len_high * 256 + start.len_low ≡ 20 + length sent =
     omega (arith, ap ip.total_len packet_is, ap (counted_len false) packet_is, is.end, shortest, payload_len) in
@@ -255,7 +262,8 @@ ipv4_reply_has packet source destination time_to_live echo is len len_too =
     after_message_header 20 (counted_len false packet) packet (omega (arith, is.end, shortest)) is.there in
     let reply_is : ipv4_header (ipv4_reply_start packet) time_to_live 1 source destination ++ (icmpv4.wire header ++ drop 28 packet)
     ≡ front ((source ++ destination) ++ (sent ++ padding)) =
-    ap (λ bytes. ipv4_header bytes time_to_live 1 source destination ++ (icmpv4.wire header ++ drop 28 packet)) (ap ipv4_reply_start packet_is)
+    ap (λ bytes. ipv4_header bytes time_to_live 1 source destination ++ (icmpv4.wire header ++ drop 28 packet))
+    (ap ipv4_reply_start packet_is)
     ∙ ap (λ bytes. front ((source ++ destination) ++ (icmpv4.wire header ++ bytes))) after
     ∙ ap (λ bytes. front ((source ++ destination) ++ bytes)) (sym (append_assoc (icmpv4.wire header) payload padding)) in
     let Has : List ℕ → Type 0 = λ bytes. HasMessage bytes (addresses.Ipv4 source destination) 1 sent in
@@ -265,8 +273,10 @@ pub ipv4_reply_read : (packet source destination : List ℕ) (time_to_live : ℕ
     → length source ≡ 4 → length destination ≡ 4
     → IsReadBack (headers.Icmpv4 (icmpv4_reply echo (drop 8 (message_after 20 packet)))) (drop 8 (message_after 20 packet))
     → IsReadAs
-    (ipv4_header (ipv4_reply_start packet) time_to_live 1 source destination ++ (icmpv4.wire (icmpv4_reply echo (drop 8 (message_after 20 packet))) ++ drop 28 packet))
-    (addresses.Ipv4 source destination) (headers.Icmpv4 (icmpv4_reply echo (drop 8 (message_after 20 packet)))) (drop 8 (message_after 20 packet))
+    (ipv4_header (ipv4_reply_start packet) time_to_live 1 source destination
+    ++ (icmpv4.wire (icmpv4_reply echo (drop 8 (message_after 20 packet))) ++ drop 28 packet))
+    (addresses.Ipv4 source destination) (headers.Icmpv4 (icmpv4_reply echo (drop 8 (message_after 20 packet))))
+    (drop 8 (message_after 20 packet))
 ipv4_reply_read packet source destination time_to_live echo is len len_too reads =
     let payload : List ℕ = drop 8 (message_after 20 packet) in
     let header : Icmpv4Header = icmpv4_reply echo payload in
@@ -278,9 +288,11 @@ pub ipv4_reply_verifies : (packet source destination after : List ℕ) (time_to_
     → length source ≡ 4 → length destination ≡ 4
     → Verifies [] (ip.ipv4_header (ipv4_header (ipv4_reply_start packet) time_to_live 1 source destination ++ after))
 ipv4_reply_verifies packet source destination after time_to_live is len len_too =
-    let packet_is : packet ≡ start_bytes (start_of packet) ++ drop 8 packet = starts packet (omega (arith, is.end, is.there)) is.five_words in
+    let packet_is : packet ≡ start_bytes (start_of packet) ++ drop 8 packet =
+    starts packet (omega (arith, is.end, is.there)) is.five_words in
     let Sums : List ℕ → Type 0 = λ start. Verifies [] (ip.ipv4_header (ipv4_header start time_to_live 1 source destination ++ after)) in
-    subst Sums (sym (ap ipv4_reply_start packet_is)) (ipv4_header_verifies (reply_start_of packet) time_to_live 1 source destination after len len_too)
+    subst Sums (sym (ap ipv4_reply_start packet_is))
+    (ipv4_header_verifies (reply_start_of packet) time_to_live 1 source destination after len len_too)
 
 -- the first four bytes, each taken from another list that is equal to `bytes`
 pub first_four : (first second third fourth bytes : List ℕ) → first ≡ bytes → second ≡ bytes → third ≡ bytes → fourth ≡ bytes
@@ -300,7 +312,8 @@ pub ipv4_written : (packet new first part source : List ℕ) (time_to_live : ℕ
     → length source ≡ 4 → length (slice_range packet 12 16) ≡ 4
     → first ≡ ipv4_header (ipv4_reply_start packet) time_to_live 1 source (slice_range packet 12 16)
     → part ≡ take 4 (icmpv4.wire (icmpv4_reply_to (message_after 20 packet)))
-    → echoed (icmpv4.wire (icmpv4_reply_to (message_after 20 packet)) ++ drop 8 (message_after 20 packet)) ≡ echoed (message_after 20 packet)
+    → echoed (icmpv4.wire (icmpv4_reply_to (message_after 20 packet)) ++ drop 8 (message_after 20 packet))
+    ≡ echoed (message_after 20 packet)
     → new ≡ first ++ (part ++ drop (length first + length part) packet) → new ≡ plain_reply source time_to_live packet
 ipv4_written packet new first part source time_to_live is len len_too first_is part_is same new_is =
     let start_len : length (ipv4_reply_start packet) ≡ 8 = reply_start_len packet (omega (arith, is.end, is.there)) in
@@ -309,22 +322,33 @@ ipv4_written packet new first part source time_to_live is len len_too first_is p
     let checksum : ℕ = checksum_of (total (ipv4_fields (ipv4_reply_start packet) time_to_live 1 source destination 0)) in
     let fields : List ℕ = (time_to_live ∷ 1 ∷ to_be_bytes w16 checksum) ++ (source ++ destination) in
     let first_len : length first ≡ 20 =
-    omega (arith, ap length first_is, start_len, len, len_too, length-append source destination, length-append (ipv4_reply_start packet) fields) in
+    omega (
+      arith,
+      ap length first_is,
+      start_len,
+      len,
+      len_too,
+      length-append source destination,
+      length-append (ipv4_reply_start packet) fields,
+    ) in
     let both_len : length first + length part ≡ 24 = omega (arith, first_len, ap length part_is) in
     let shortest : 8 ≤ length (message_after 20 packet) = (icmpv4_request (message_after 20 packet) is.message).shortest in
     new_is ∙ ap (λ n. first ++ (part ++ drop n packet)) both_len
     ∙ ap (λ bytes. bytes ++ (part ++ drop 24 packet)) first_is
     ∙ ap (λ bytes. header ++ (bytes ++ drop 24 packet)) part_is
-    ∙ ap (λ bytes. header ++ bytes) (reply_in_packet 20 (counted_len false packet) packet (icmpv4.wire (icmpv4_reply_to (message_after 20 packet)))
+    ∙ ap (λ bytes. header ++ bytes) (reply_in_packet 20 (counted_len false packet) packet
+    (icmpv4.wire (icmpv4_reply_to (message_after 20 packet)))
     (omega (arith, is.end, shortest)) is.there refl same)
 
 -- ---- over IPv6
 
 -- the sum of a pseudo header
 pseudo_total : (source destination : List ℕ) (len : ℕ) → length source ≡ 16 → length destination ≡ 16
-    → total (ipv6_pseudo_header source destination 58 len) ≡ total source + (total destination + total (to_be_bytes w32 len ++ (0 ∷ 0 ∷ 0 ∷ 58 ∷ [])))
+    → total (ipv6_pseudo_header source destination 58 len) ≡ total source
+    + (total destination + total (to_be_bytes w32 len ++ (0 ∷ 0 ∷ 0 ∷ 58 ∷ [])))
 pseudo_total source destination len source_len destination_len =
-    total-append_twice source destination (to_be_bytes w32 len ++ (0 ∷ 0 ∷ 0 ∷ 58 ∷ [])) (omega (arith, source_len)) (omega (arith, destination_len))
+    total-append_twice source destination (to_be_bytes w32 len ++ (0 ∷ 0 ∷ 0 ∷ 58 ∷ [])) (omega (arith, source_len))
+    (omega (arith, destination_len))
 
 -- the sum of an echo message from a source to a destination
 abbrev pub icmpv6_sum : List ℕ → List ℕ → Icmpv6Type → List ℕ → ℕ
@@ -332,15 +356,21 @@ icmpv6_sum source destination message payload = icmpv6.checksummed source destin
 
 -- the sum for the checksum of a reply differs from the sum for its request only by the type
 pub icmpv6_type_changed : (source destination payload : List ℕ) (echo : IcmpEchoHeader)
-    → icmpv6_sum source destination (v6.EchoReply echo) payload + 32768 ≡ icmpv6_sum source destination (v6.EchoRequest echo) payload + 33024
+    → icmpv6_sum source destination (v6.EchoReply echo) payload + 32768 ≡ icmpv6_sum source destination (v6.EchoRequest echo) payload
+    + 33024
 icmpv6_type_changed source destination payload echo = omega arith
 
 -- the sum stays if source and destination are exchanged: the source of the request is the destination of the reply
 pub icmpv6_addresses_changed : (source destination from payload : List ℕ) (echo : IcmpEchoHeader)
     → length source ≡ 16 → length destination ≡ 16 → length from ≡ 16
-    → icmpv6_sum from source (v6.EchoReply echo) payload + total destination ≡ icmpv6_sum source destination (v6.EchoReply echo) payload + total from
+    → icmpv6_sum from source (v6.EchoReply echo) payload + total destination ≡ icmpv6_sum source destination (v6.EchoReply echo) payload
+    + total from
 icmpv6_addresses_changed source destination from payload echo source_len destination_len from_len =
-    omega (arith, pseudo_total source destination (8 + length payload) source_len destination_len, pseudo_total from source (8 + length payload) from_len source_len)
+    omega (
+      arith,
+      pseudo_total source destination (8 + length payload) source_len destination_len,
+      pseudo_total from source (8 + length payload) from_len source_len,
+    )
 
 -- the sum of a request with its checksum is all ones
 pub icmpv6_request_sum : (source destination message : List ℕ) (echo : IcmpEchoHeader) (stored : ℕ)
@@ -367,7 +397,8 @@ longest_request packet is =
 -- the checksum of the reply is right
 pub icmpv6_reply_valid : (packet source : List ℕ) (echo : IcmpEchoHeader) → IsIpv6Request packet
     → IsValidIcmpv6 source (slice_range packet 8 24)
-    (icmpv6.wire (icmpv6_reply source (slice_range packet 8 24) echo (drop 8 (message_after 40 packet))) ++ drop 8 (message_after 40 packet))
+    (icmpv6.wire (icmpv6_reply source (slice_range packet 8 24) echo (drop 8 (message_after 40 packet)))
+    ++ drop 8 (message_after 40 packet))
 icmpv6_reply_valid packet source echo is =
     let destination : List ℕ = slice_range packet 8 24 in
     let payload : List ℕ = drop 8 (message_after 40 packet) in
@@ -383,7 +414,8 @@ pub ipv6_reply_has : (packet source : List ℕ) (hop_limit : ℕ) (echo : IcmpEc
     (ipv6_header (take 6 packet) 58 hop_limit source (slice_range packet 8 24)
     ++ (icmpv6.wire (icmpv6_reply source (slice_range packet 8 24) echo (drop 8 (message_after 40 packet))) ++ drop 48 packet))
     (addresses.Ipv6 source (Some (slice_range packet 8 24))) 58
-    (icmpv6.wire (icmpv6_reply source (slice_range packet 8 24) echo (drop 8 (message_after 40 packet))) ++ drop 8 (message_after 40 packet))
+    (icmpv6.wire (icmpv6_reply source (slice_range packet 8 24) echo (drop 8 (message_after 40 packet)))
+    ++ drop 8 (message_after 40 packet))
 ipv6_reply_has packet source hop_limit echo is len len_too =
     let message : List ℕ = message_after 40 packet in
     let destination : List ℕ = slice_range packet 8 24 in
@@ -412,23 +444,28 @@ ipv6_reply_has packet source hop_limit echo is len len_too =
 
 -- a slice accepts the reply
 pub icmpv6_reply_accepted : (packet source : List ℕ) (echo : IcmpEchoHeader) → IsIpv6Request packet
-    → IsReadBack (headers.Icmpv6 (icmpv6_reply source (slice_range packet 8 24) echo (drop 8 (message_after 40 packet)))) (drop 8 (message_after 40 packet))
-    → icmpv6.refusal (icmpv6.wire (icmpv6_reply source (slice_range packet 8 24) echo (drop 8 (message_after 40 packet))) ++ drop 8 (message_after 40 packet))
+    → IsReadBack (headers.Icmpv6 (icmpv6_reply source (slice_range packet 8 24) echo (drop 8 (message_after 40 packet))))
+    (drop 8 (message_after 40 packet))
+    → icmpv6.refusal (icmpv6.wire (icmpv6_reply source (slice_range packet 8 24) echo (drop 8 (message_after 40 packet)))
+    ++ drop 8 (message_after 40 packet))
     ≡ None
 icmpv6_reply_accepted packet source echo is reads =
     let payload : List ℕ = drop 8 (message_after 40 packet) in
     let sent : List ℕ = icmpv6.wire (icmpv6_reply source (slice_range packet 8 24) echo payload) ++ payload in
     icmpv6_accepted sent _ _ (nat_lt icmpv6.max_payload_len (length payload))
-    (not_above icmpv6.max_payload_len (length payload) (omega (arith, length-drop 8 (message_after 40 packet), longest_request packet is))) reads
+    (not_above icmpv6.max_payload_len (length payload) (omega (arith, length-drop 8 (message_after 40 packet), longest_request packet is)))
+    reads
 
 pub ipv6_reply_read : (packet source : List ℕ) (hop_limit : ℕ) (echo : IcmpEchoHeader) → IsIpv6Request packet
     → length source ≡ 16 → length (slice_range packet 8 24) ≡ 16
-    → IsReadBack (headers.Icmpv6 (icmpv6_reply source (slice_range packet 8 24) echo (drop 8 (message_after 40 packet)))) (drop 8 (message_after 40 packet))
+    → IsReadBack (headers.Icmpv6 (icmpv6_reply source (slice_range packet 8 24) echo (drop 8 (message_after 40 packet))))
+    (drop 8 (message_after 40 packet))
     → IsReadAs
     (ipv6_header (take 6 packet) 58 hop_limit source (slice_range packet 8 24)
     ++ (icmpv6.wire (icmpv6_reply source (slice_range packet 8 24) echo (drop 8 (message_after 40 packet))) ++ drop 48 packet))
     (addresses.Ipv6 source (Some (slice_range packet 8 24)))
-    (headers.Icmpv6 (icmpv6_reply source (slice_range packet 8 24) echo (drop 8 (message_after 40 packet)))) (drop 8 (message_after 40 packet))
+    (headers.Icmpv6 (icmpv6_reply source (slice_range packet 8 24) echo (drop 8 (message_after 40 packet))))
+    (drop 8 (message_after 40 packet))
 ipv6_reply_read packet source hop_limit echo is len len_too reads =
     let destination : List ℕ = slice_range packet 8 24 in
     let payload : List ℕ = drop 8 (message_after 40 packet) in
@@ -439,7 +476,8 @@ ipv6_reply_read packet source hop_limit echo is len len_too reads =
     omega (arith, length-drop 8 (message_after 40 packet), longest_request packet is, request.shortest) in
     read_as _ (addresses.Ipv6 source (Some destination)) (headers.Icmpv6 header) payload
     (ipv6_reply_has packet source hop_limit echo is len len_too)
-    (icmpv6_right source destination sent (icmpv6_reply_accepted packet source echo is reads) short (icmpv6_reply_valid packet source echo is)) reads
+    (icmpv6_right source destination sent (icmpv6_reply_accepted packet source echo is reads) short
+    (icmpv6_reply_valid packet source echo is)) reads
 
 -- the bytes that are written are the packet of the reply
 pub ipv6_written : (packet new first part source : List ℕ) (hop_limit : ℕ) → IsIpv6Request packet
@@ -469,5 +507,6 @@ ipv6_written packet new first part source hop_limit is len len_too first_is part
     new_is ∙ ap (λ n. first ++ (part ++ drop n packet)) both_len
     ∙ ap (λ bytes. bytes ++ (part ++ drop 44 packet)) first_is
     ∙ ap (λ bytes. header ++ (bytes ++ drop 44 packet)) part_is
-    ∙ ap (λ bytes. header ++ bytes) (reply_in_packet 40 (counted_len false packet) packet (icmpv6.wire (icmpv6_reply_to source destination message))
+    ∙ ap (λ bytes. header ++ bytes) (reply_in_packet 40 (counted_len false packet) packet
+    (icmpv6.wire (icmpv6_reply_to source destination message))
     (omega (arith, is.end, shortest)) is.there refl same)

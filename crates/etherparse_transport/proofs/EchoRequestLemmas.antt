@@ -25,7 +25,8 @@ use Rattle.etherparse_transport.proofs.EchoReplyLemmas.{is_number, once}
 -- a receiver's test as a truth value
 pub is_all_ones_by : (valid : Bool) (n : ℕ) → (IsTrue valid ↔ IsAllOnes (0 + n)) → is_all_ones n ≡ valid
 is_all_ones_by true n is = let ones : folded n ≡ 65535 = ap folded (omega arith) ∙ is.0 refl in grind (arith, nat_tests)
-is_all_ones_by false n is = let others : folded n ≢ 65535 = λ ones. let clash : false ≡ true = is.1 (ap folded (omega arith) ∙ ones) in grind arith in grind (arith, nat_tests)
+is_all_ones_by false n is = let others : folded n ≢ 65535 =
+    λ ones. let clash : false ≡ true = is.1 (ap folded (omega arith) ∙ ones) in grind arith in grind (arith, nat_tests)
 
 only_rule : (rule : Option AnswerEchoError) → first_of (rule ∷ []) ≡ rule
 only_rule None = refl
@@ -41,7 +42,8 @@ by_rules packet headers rules accepted read =
     ∙ only_rule (rules headers)
 
 -- a rule that does not refuse can be left out
-pub skipped : (rule : Option AnswerEchoError) (rules : List (Option AnswerEchoError)) → rule ≡ None → first_of (rule ∷ rules) ≡ first_of rules
+pub skipped : (rule : Option AnswerEchoError) (rules : List (Option AnswerEchoError)) → rule ≡ None
+    → first_of (rule ∷ rules) ≡ first_of rules
 skipped rule rules none = ap (λ rule. first_of (rule ∷ rules)) none
 
 -- ---- the addresses of a header
@@ -70,7 +72,8 @@ pub record IsFoundTransport (found : TransportInIp) (number header_len : ℕ) : 
   pub offset : found.payload_offset ≡ header_len
 
 pub found_transport : (number header_len : ℕ) (found : TransportInIp)
-    → transport_refusal number header_len found.is_fragment found.protocol.0 found.payload_offset ≡ None → IsFoundTransport found number header_len
+    → transport_refusal number header_len found.is_fragment found.protocol.0 found.payload_offset ≡ None
+    → IsFoundTransport found number header_len
 found_transport number header_len found accepted =
     let after_fragment = none_first (refused_if found.is_fragment Fragment) _ accepted in
     let after_number = none_first (refused_if (not (found.protocol.0 == number)) NoEchoRequest) _ after_fragment.1 in
@@ -95,11 +98,14 @@ pub found_at : (packet : List ℕ) (found : TransportInIp) (header_len : ℕ) �
 found_at packet found header_len carries stated whole offset =
     let same_len : carries.headers.len ≡ header_len = sym carries.payload_offset ∙ offset in
     let message_is : found.payload.now ≡ message_after header_len packet =
-    carries.payload ∙ ap (λ missing. drop carries.headers.len (counted missing packet)) stated ∙ ap (λ n. drop n (counted false packet)) same_len in
-    let cut : found.is_cut_off ≡ nat_lt (length packet) (counted_len false packet) = carries.is_cut_off ∙ ap (λ missing. ip.is_cut_off missing packet) stated in
+    carries.payload ∙ ap (λ missing. drop carries.headers.len (counted missing packet)) stated
+    ∙ ap (λ n. drop n (counted false packet)) same_len in
+    let cut : found.is_cut_off ≡ nat_lt (length packet) (counted_len false packet) =
+    carries.is_cut_off ∙ ap (λ missing. ip.is_cut_off missing packet) stated in
     let there : counted_len false packet ≤ length packet = not_cut found.is_cut_off (length packet) (counted_len false packet) cut whole in
     let counted_is : length (counted false packet) ≡ counted_len false packet = length-take-le (counted_len false packet) packet there in
-    let within : carries.headers.len ≤ length (counted false packet) = rw (sym (ap (λ missing. counted missing packet) stated)) carries.within in
+    let within : carries.headers.len ≤ length (counted false packet) =
+    rw (sym (ap (λ missing. counted missing packet) stated)) carries.within in
     record {
       message_is = message_is;
       end = omega (arith, ap length message_is, length-drop header_len (counted false packet), counted_is, within, same_len);
@@ -130,7 +136,8 @@ last_rules padding message sums host =
     refused_if (not padding) Options ∷ message ∷ refused_if (not sums) HeaderChecksum ∷ refused_if (not host) RequestSource ∷ []
 
 -- the IPv4 header at the front of a packet has the addresses of the packet
-pub addresses_of : (packet header : List ℕ) (found : Ipv4Header) → BeginsWithIpv4Header packet → header ≡ take (ipv4_header_len packet) packet
+pub addresses_of : (packet header : List ℕ) (found : Ipv4Header) → BeginsWithIpv4Header packet
+    → header ≡ take (ipv4_header_len packet) packet
     → found ≡ ipv4_header_of header → found ≡ ipv4_header_of packet
 addresses_of packet header found begins kept is =
     is ∙ ap ipv4_header_of kept
@@ -148,7 +155,8 @@ pub ipv4_last_rules : (packet : List ℕ) (found : TransportInIp) → ip.refusal
     → BeginsWithIpv4Header packet → found.is_length_missing ≡ false → found.is_cut_off ≡ false
     → transport_refusal 1 (ipv4_header_len packet) found.is_fragment found.protocol.0 found.payload_offset ≡ None
     → ipv4_request_refusal packet
-    ≡ first_of (last_rules (are_padding (ipv4_options packet)) (icmpv4_refusal found.payload.now) (is_all_ones (total (ip.ipv4_header packet)))
+    ≡ first_of (last_rules (are_padding (ipv4_options packet)) (icmpv4_refusal found.payload.now)
+    (is_all_ones (total (ip.ipv4_header packet)))
     (is_host_ipv4 (slice_range packet 12 16)))
 ipv4_last_rules packet found accepted carries begins stated whole transport =
     let headers : Headers = carries.headers in
@@ -162,9 +170,11 @@ ipv4_last_rules packet found accepted carries begins stated whole transport =
     ∙ sym (ap (λ n. transport_refusal 1 len found.is_fragment found.protocol.0 n) carries.payload_offset) ∙ transport in
     let sums : Bool = is_all_ones (total (ip.ipv4_header packet)) in
     by_rules packet headers (ipv4_rules packet) accepted read
-    ∙ skipped (refused_if (not (version packet == 4)) NoEchoRequest) _ (ap (λ v. refused_if (not (v == 4)) NoEchoRequest) begins.is_version_4)
+    ∙ skipped (refused_if (not (version packet == 4)) NoEchoRequest) _
+    (ap (λ v. refused_if (not (v == 4)) NoEchoRequest) begins.is_version_4)
     ∙ skipped (transport_refusal 1 len headers.is_fragment headers.protocol.0 headers.len) _ same_transport
-    ∙ ap (λ message. first_of (last_rules (are_padding (ipv4_options packet)) (icmpv4_refusal message) sums (is_host_ipv4 (slice_range packet 12 16))))
+    ∙ ap (λ message. first_of (last_rules (are_padding (ipv4_options packet)) (icmpv4_refusal message) sums
+    (is_host_ipv4 (slice_range packet 12 16))))
     (sym at.message_is)
 
 -- what is known of a packet over IPv4 whose transport, options and message are accepted
@@ -179,11 +189,14 @@ pub record IsIpv4Echo (packet header : List ℕ) (found : TransportInIp) : Type 
   pub message : icmpv4_refusal found.payload.now ≡ None
   pub kept : header ≡ ip.ipv4_header packet
 
-pub ipv4_echo : (packet header bytes options : List ℕ) (found : TransportInIp) (padding : Bool) → ip.refusal packet ≡ None → Carries packet found
-    → BeginsWithIpv4Header packet → found.is_length_missing ≡ false → found.is_cut_off ≡ false → header ≡ ip.ipv4_header packet → bytes ≡ header
+pub ipv4_echo : (packet header bytes options : List ℕ) (found : TransportInIp) (padding : Bool) → ip.refusal packet ≡ None
+    → Carries packet found
+    → BeginsWithIpv4Header packet → found.is_length_missing ≡ false → found.is_cut_off ≡ false → header ≡ ip.ipv4_header packet
+    → bytes ≡ header
     → transport_refusal 1 (length bytes) found.is_fragment found.protocol.0 found.payload_offset ≡ None → options ≡ drop 20 header
     → padding ≡ are_padding options → padding ≡ true → icmpv4_refusal found.payload.now ≡ None → IsIpv4Echo packet header found
-ipv4_echo packet header bytes options found padding accepted carries begins stated whole kept bytes_are transport options_are padding_is is_padding message =
+ipv4_echo packet header bytes options found padding accepted carries begins stated whole kept bytes_are transport options_are padding_is
+    is_padding message =
     let len_is : length bytes ≡ ipv4_header_len packet =
     ap length (bytes_are ∙ kept) ∙ length-take-le (ipv4_header_len packet) packet begins.whole in
     record {
@@ -209,7 +222,8 @@ ipv4_rules_left packet header found valid is verifies =
     ipv4_last_rules packet found is.accepted is.carries is.begins is.stated is.whole is.transport
     ∙ ap (λ padding. first_of (last_rules padding (icmpv4_refusal found.payload.now) sums host)) is.padding
     ∙ ap (λ message. first_of (last_rules true message sums host)) is.message
-    ∙ ap (λ sums. first_of (last_rules true None sums host)) (is_all_ones_by valid (total (ip.ipv4_header packet)) (subst Sums is.kept verifies))
+    ∙ ap (λ sums. first_of (last_rules true None sums host))
+    (is_all_ones_by valid (total (ip.ipv4_header packet)) (subst Sums is.kept verifies))
 
 -- ---- an accepted IPv6 packet
 
@@ -222,11 +236,13 @@ no_extensions is_ipv6 may_be_extended number protocol (header ∷ headers) chain
     absurd (omega (arith, none, shortest, length-append header.bytes (bytes_of headers)))
 
 -- the header of a packet whose message comes after 40 bytes names the protocol of the message
-pub next_is : (packet : List ℕ) (found : TransportInIp) → IsAfterHeaders packet found → BeginsWithIpv6Header packet → found.payload_offset ≡ 40
+pub next_is : (packet : List ℕ) (found : TransportInIp) → IsAfterHeaders packet found → BeginsWithIpv6Header packet
+    → found.payload_offset ≡ 40
     → next_header packet ≡ found.protocol.0
 next_is packet found after begins offset =
     let header_is : length (ip.ip_header packet) ≡ 40 =
-    ap (λ v. length (if v == 4 then ip.ipv4_header packet else ip.ipv6_header packet)) begins.is_version_6 ∙ length-take-le 40 packet begins.whole in
+    ap (λ v. length (if v == 4 then ip.ipv4_header packet else ip.ipv6_header packet)) begins.is_version_6
+    ∙ length-take-le 40 packet begins.whole in
     let number_is : ip.first_number packet ≡ next_header packet =
     ap (λ v. if v == 4 then slice_index (ip.ipv4_header packet) 9 else next_header packet) begins.is_version_6 in
     sym number_is ∙ no_extensions _ _ _ _ after.extensions after.reads.chain (omega (arith, after.offset, offset, header_is))
@@ -243,7 +259,8 @@ no_jumbo_len packet number next other =
     never true len = refl
     never false len = refl
 
-pub ipv6_request_of : (packet : List ℕ) (found : TransportInIp) → Carries packet found → IsAfterHeaders packet found → BeginsWithIpv6Header packet
+pub ipv6_request_of : (packet : List ℕ) (found : TransportInIp) → Carries packet found → IsAfterHeaders packet found
+    → BeginsWithIpv6Header packet
     → found.is_length_missing ≡ false → found.is_cut_off ≡ false
     → transport_refusal 58 40 found.is_fragment found.protocol.0 found.payload_offset ≡ None
     → icmpv6_refusal (slice_range packet 8 24) (slice_range packet 24 40) found.payload.now ≡ None → IsIpv6Request packet
@@ -272,11 +289,13 @@ ipv6_addresses_of packet header found kept is =
     ∙ ap (λ destination. record { source = slice_range packet 8 24; destination = destination }) (in_front 40 24 16 packet (omega arith))
 
 -- an accepted packet is refused only by the rules for its message and the rules after them
-pub ipv6_message_rules : (packet : List ℕ) (found : TransportInIp) (addresses : Ipv6Header) → ip.refusal packet ≡ None → (carries : Carries packet found)
+pub ipv6_message_rules : (packet : List ℕ) (found : TransportInIp) (addresses : Ipv6Header) → ip.refusal packet ≡ None
+    → (carries : Carries packet found)
     → BeginsWithIpv6Header packet → found.is_length_missing ≡ false → found.is_cut_off ≡ false
     → transport_refusal 58 40 found.is_fragment found.protocol.0 found.payload_offset ≡ None → addresses ≡ ipv6_header_of packet
     → ipv6_request_refusal packet
-    ≡ first_of (icmpv6_refusal addresses.source addresses.destination found.payload.now ∷ refused_if (not (is_host_ipv6 addresses.source)) RequestSource ∷ [])
+    ≡ first_of (icmpv6_refusal addresses.source addresses.destination found.payload.now
+    ∷ refused_if (not (is_host_ipv6 addresses.source)) RequestSource ∷ [])
 ipv6_message_rules packet found addresses accepted carries begins stated whole transport is_addresses =
     let headers : Headers = carries.headers in
     let is : IsFoundTransport found 58 40 = found_transport 58 40 found transport in
@@ -287,7 +306,8 @@ ipv6_message_rules packet found addresses accepted carries begins stated whole t
     ∙ sym (ap (λ protocol. transport_refusal 58 40 found.is_fragment protocol.0 headers.len) carries.protocol)
     ∙ sym (ap (λ n. transport_refusal 58 40 found.is_fragment found.protocol.0 n) carries.payload_offset) ∙ transport in
     by_rules packet headers (ipv6_rules packet) accepted read
-    ∙ skipped (refused_if (not (version packet == 6)) NoEchoRequest) _ (ap (λ v. refused_if (not (v == 6)) NoEchoRequest) begins.is_version_6)
+    ∙ skipped (refused_if (not (version packet == 6)) NoEchoRequest) _
+    (ap (λ v. refused_if (not (v == 6)) NoEchoRequest) begins.is_version_6)
     ∙ skipped (transport_refusal 58 40 headers.is_fragment headers.protocol.0 headers.len) _ same_transport
     ∙ ap (λ message. first_of (icmpv6_refusal (slice_range packet 8 24) (slice_range packet 24 40) message
     ∷ refused_if (not (is_host_ipv6 (slice_range packet 8 24))) RequestSource ∷ [])) (sym at.message_is)

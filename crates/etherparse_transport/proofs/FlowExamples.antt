@@ -32,7 +32,11 @@ udp_ports = refl
 
 -- the same bytes in the first fragment, and in a fragment at the offset 8
 first_fragment : flow_of (over_ipv4 28 0x20 0 17 udp_header)
-    ≡ Some (record { ends = record (ends_over_ipv4 17) { is_fragment = true; source_port = Some 5000; destination_port = Some 53 }; quoted = None })
+    ≡ Some (record {
+      ends = record (ends_over_ipv4 17) { is_fragment = true; source_port = Some 5000; destination_port = Some 53 };
+      quoted =
+          None;
+    })
 unfolding headers_to_transport options_within
 first_fragment = refl
 

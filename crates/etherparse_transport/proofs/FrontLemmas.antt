@@ -75,7 +75,8 @@ by_number false false words = omega arith
 at_least_eight : (number : ℕ) (rest : List ℕ) → 8 ≤ extension_len number rest
 at_least_eight number rest = by_number (number == 44) (number == 51) (slice_index rest 1)
 
-both_whole : (short cut : Bool) (a b : IpError) (other : Option IpError) → first_of (refused_if short a ∷ refused_if cut b ∷ other ∷ []) ≡ None
+both_whole : (short cut : Bool) (a b : IpError) (other : Option IpError)
+    → first_of (refused_if short a ∷ refused_if cut b ∷ other ∷ []) ≡ None
     → (short ≡ false) × (cut ≡ false)
 both_whole true cut a b other none = absurd (cc none)
 both_whole false true a b other none = absurd (cc none)
@@ -106,7 +107,8 @@ longer_if true None more headers last header bytes others read = omega (arith, o
 longer_if false refused more headers last header bytes others read =
     let same : headers ≡ last = cc read in omega (arith, ap (λ h. h.len) same)
 
-pub longer : (more : ℕ) (headers last : Headers) (bytes : List ℕ) → headers_to_transport more headers bytes ≡ Ok last → headers.len ≤ last.len
+pub longer : (more : ℕ) (headers last : Headers) (bytes : List ℕ) → headers_to_transport more headers bytes ≡ Ok last
+    → headers.len ≤ last.len
 unfolding headers_to_transport
 longer zero headers last bytes read = let same : headers ≡ last = cc read in omega (arith, ap (λ h. h.len) same)
 longer (suc more) headers last bytes read =
@@ -121,7 +123,8 @@ record IsWithin (headers last : Headers) (bytes : List ℕ) : Type 0 where
 
 within_if : (refused : Option IpError) (more : ℕ) (headers last : Headers) (bytes : List ℕ)
     → extension_refusal headers (drop headers.len bytes) ≡ refused
-    → unless_refused refused (headers_to_transport more (headers_after headers (extension_header headers (drop headers.len bytes))) bytes) ≡ Ok last
+    → unless_refused refused (headers_to_transport more (headers_after headers (extension_header headers (drop headers.len bytes))) bytes)
+    ≡ Ok last
     → IsWithin headers last bytes
 within_if (Some error) more headers last bytes refuses read = absurd (cc read)
 within_if None more headers last bytes refuses read =
@@ -134,7 +137,8 @@ within_by : (is : Bool) (more : ℕ) (headers last : Headers) (bytes : List ℕ)
     → (if is then unless_refused (extension_refusal headers (drop headers.len bytes))
     (headers_to_transport more (headers_after headers (extension_header headers (drop headers.len bytes))) bytes) else Ok headers) ≡ Ok last
     → IsWithin headers last bytes
-within_by true more headers last bytes is read = within_if (extension_refusal headers (drop headers.len bytes)) more headers last bytes refl read
+within_by true more headers last bytes is read =
+    within_if (extension_refusal headers (drop headers.len bytes)) more headers last bytes refl read
 within_by false more headers last bytes is read = absurd (cc is)
 
 first_within : (more : ℕ) (headers last : Headers) (bytes : List ℕ) → is_extended headers ≡ true
@@ -147,16 +151,21 @@ same_range : (len from count : ℕ) (bytes changed : List ℕ) → from + count 
     → HasFront count (drop from bytes) (drop from changed)
 same_range len from count bytes changed within same = record {
   len_is = length-drop from changed ∙ ap (λ n. n - from) same.len_is ∙ sym (length-drop from bytes);
-  front = sym (drop-take from count changed) ∙ ap (drop from) (shorter len (from + count) bytes changed within same) ∙ drop-take from count bytes;
+  front = sym (drop-take from count changed) ∙ ap (drop from) (shorter len (from + count) bytes changed within same)
+      ∙ drop-take from count bytes;
 }
 
-kept_if : (is : Bool) (refused : Option IpError) (more : ℕ) (headers last : Headers) (bytes changed : List ℕ) → HasFront last.len bytes changed
+kept_if : (is : Bool) (refused : Option IpError) (more : ℕ) (headers last : Headers) (bytes changed : List ℕ)
+    → HasFront last.len bytes changed
     → extension_refusal headers (drop headers.len bytes) ≡ refused
     → (headers_to_transport more (headers_after headers (extension_header headers (drop headers.len bytes))) bytes ≡ Ok last
     → headers_to_transport more (headers_after headers (extension_header headers (drop headers.len bytes))) changed ≡ Ok last)
-    → (if is then unless_refused refused (headers_to_transport more (headers_after headers (extension_header headers (drop headers.len bytes))) bytes) else Ok headers) ≡ Ok last
+    → (if is then unless_refused refused
+    (headers_to_transport more (headers_after headers (extension_header headers (drop headers.len bytes))) bytes) else Ok headers)
+    ≡ Ok last
     → (if is then unless_refused (extension_refusal headers (drop headers.len changed))
-    (headers_to_transport more (headers_after headers (extension_header headers (drop headers.len changed))) changed) else Ok headers) ≡ Ok last
+    (headers_to_transport more (headers_after headers (extension_header headers (drop headers.len changed))) changed) else Ok headers)
+    ≡ Ok last
 kept_if true (Some error) more headers last bytes changed same refuses others read = absurd (cc read)
 kept_if false refused more headers last bytes changed same refuses others read = read
 kept_if true None more headers last bytes changed same refuses others read =
@@ -164,8 +173,10 @@ kept_if true None more headers last bytes changed same refuses others read =
     let rest_too : List ℕ = drop headers.len changed in
     let count : ℕ = extension_len headers.protocol.0 rest in
     let front = within_if None more headers last bytes refuses read in
-    let alike = same_header headers rest rest_too (at_least_eight headers.protocol.0 rest) (same_range last.len headers.len count bytes changed front.end same) in
-    ap (λ refused. unless_refused refused (headers_to_transport more (headers_after headers (extension_header headers rest_too)) changed)) (alike.refused ∙ refuses)
+    let alike = same_header headers rest rest_too (at_least_eight headers.protocol.0 rest)
+    (same_range last.len headers.len count bytes changed front.end same) in
+    ap (λ refused. unless_refused refused (headers_to_transport more (headers_after headers (extension_header headers rest_too)) changed))
+    (alike.refused ∙ refuses)
     ∙ ap (λ header. headers_to_transport more (headers_after headers header) changed) alike.header
     ∙ others read
 
@@ -200,11 +211,13 @@ four_error len header_len header = first_of (
     ∷ refused_if (nat_lt header_len 20) (HeaderLength header_len)
     ∷ refused_if (nat_lt len header_len) (HeaderCutOff header_len len)
     ∷ [])
-    ∷ refused_if (not (be_number header 2 2 == 0) && nat_lt (be_number header 2 2) header_len) (TotalLength (be_number header 2 2) header_len)
+    ∷ refused_if (not (be_number header 2 2 == 0) && nat_lt (be_number header 2 2) header_len)
+    (TotalLength (be_number header 2 2) header_len)
     ∷ [])
 
 four_refused : (packet : List ℕ) → version packet ≡ 4
-    → header_refusal packet ≡ (if length packet == 0 then Some (HeaderCutOff 1 0) else four_error (length packet) (ipv4_header_len packet) (ip.ipv4_header packet))
+    → header_refusal packet ≡ (if length packet == 0 then Some (HeaderCutOff 1 0)
+    else four_error (length packet) (ipv4_header_len packet) (ip.ipv4_header packet))
 unfolding four_error
 four_refused packet is =
     ap (λ v. if length packet == 0 then Some (HeaderCutOff 1 0) else if v == 4 then ip.ipv4_refusal packet
@@ -216,7 +229,8 @@ six_refused packet is =
     ap (λ v. if length packet == 0 then Some (HeaderCutOff 1 0) else if v == 4 then ip.ipv4_refusal packet
     else if v == 6 then ip.ipv6_refusal packet else Some (Version v)) is
 
-four_alike : (len : ℕ) (packet changed : List ℕ) → version packet ≡ 4 → 0 < len → ipv4_header_len packet ≤ len → HasFront len packet changed → IsAlike packet changed
+four_alike : (len : ℕ) (packet changed : List ℕ) → version packet ≡ 4 → 0 < len → ipv4_header_len packet ≤ len → HasFront len packet changed
+    → IsAlike packet changed
 four_alike len packet changed is some long same =
     let first_byte = same_byte len 0 packet changed some same in
     let is_too : version changed ≡ 4 = ap (λ byte. byte / 16) first_byte ∙ is in
@@ -224,14 +238,16 @@ four_alike len packet changed is some long same =
     let header : ip.ipv4_header changed ≡ ip.ipv4_header packet =
     ap (λ n. take n changed) header_len ∙ shorter len (ipv4_header_len packet) packet changed long same in
     let total : ip.total_len changed ≡ ip.total_len packet = ap (λ header. be_number header 2 2) header in
-    let error : ℕ → ℕ → List ℕ → Option IpError = λ n header_len header. if n == 0 then Some (HeaderCutOff 1 0) else four_error n header_len header in
+    let error : ℕ → ℕ → List ℕ → Option IpError =
+    λ n header_len header. if n == 0 then Some (HeaderCutOff 1 0) else four_error n header_len header in
     record {
       refused = four_refused changed is_too
           ∙ ap (λ n. error n (ipv4_header_len changed) (ip.ipv4_header changed)) same.len_is
           ∙ ap (λ n. error (length packet) n (ip.ipv4_header changed)) header_len
           ∙ ap (error (length packet) (ipv4_header_len packet)) header
           ∙ sym (four_refused packet is);
-      lacks = ap is_none (four_if (version changed) _ _ is_too) ∙ ap (λ n. is_none (if n == 0 then None else Some n)) total ∙ sym (ap is_none (four_if (version packet) _ _ is));
+      lacks = ap is_none (four_if (version changed) _ _ is_too) ∙ ap (λ n. is_none (if n == 0 then None else Some n)) total
+          ∙ sym (ap is_none (four_if (version packet) _ _ is));
       first = four_if (version changed) _ _ is_too ∙ ap (λ n. ip.ipv4_headers n (ip.ipv4_header changed)) header_len
           ∙ ap (ip.ipv4_headers (ipv4_header_len packet)) header ∙ sym (four_if (version packet) _ _ is);
       counts = four_if (version changed) _ _ is_too ∙ total ∙ sym (four_if (version packet) _ _ is);
@@ -258,7 +274,8 @@ unfolding options_error
 same_options rest changed same =
     let count : ℕ = extension_len hop_by_hop_options rest in
     let eight = at_least_eight hop_by_hop_options rest in
-    let len : extension_len hop_by_hop_options changed ≡ count = ap (λ byte. (byte + 1) * 8) (same_byte count 1 rest changed (omega (arith, eight)) same) in
+    let len : extension_len hop_by_hop_options changed ≡ count =
+    ap (λ byte. (byte + 1) * 8) (same_byte count 1 rest changed (omega (arith, eight)) same) in
     let options : ip.options_at changed ≡ ip.options_at rest = ap (λ n. take n changed) len ∙ same.front in
     record {
       refused = ap (λ n. options_error n (extension_len hop_by_hop_options changed) (ip.options_at changed)) same.len_is
@@ -272,7 +289,8 @@ record IsSameJumbogram (packet changed : List ℕ) : Type 0 where
   stated : ip.jumbo_len changed ≡ ip.jumbo_len packet
 
 same_jumbogram : (has : Bool) (packet changed : List ℕ) → ip.has_len_in_options packet ≡ has → ip.has_len_in_options changed ≡ has
-    → (has ≡ true → HasFront (extension_len hop_by_hop_options (drop 40 packet)) (drop 40 packet) (drop 40 changed)) → IsSameJumbogram packet changed
+    → (has ≡ true → HasFront (extension_len hop_by_hop_options (drop 40 packet)) (drop 40 packet) (drop 40 changed))
+    → IsSameJumbogram packet changed
 same_jumbogram true packet changed is is_too same =
     let alike = same_options (drop 40 packet) (drop 40 changed) (same refl) in
     let error : List ℕ → Bool → Option IpError = λ bytes has. if has then ip.len_in_options_refusal (drop 40 bytes) else None in
@@ -290,7 +308,8 @@ same_jumbogram false packet changed is is_too same =
     }
 
 six_alike : (len : ℕ) (packet changed : List ℕ) → version packet ≡ 6 → 40 ≤ len → HasFront len packet changed
-    → (ip.has_len_in_options packet ≡ true → HasFront (extension_len hop_by_hop_options (drop 40 packet)) (drop 40 packet) (drop 40 changed))
+    → (ip.has_len_in_options packet ≡ true → HasFront (extension_len hop_by_hop_options (drop 40 packet)) (drop 40 packet)
+    (drop 40 changed))
     → IsAlike packet changed
 six_alike len packet changed is long same options =
     let first_byte = same_byte len 0 packet changed (omega (arith, long)) same in
@@ -301,7 +320,8 @@ six_alike len packet changed is long same options =
     let jumbogram = same_jumbogram (ip.has_len_in_options packet) packet changed refl has options in
     let error : ℕ → Option IpError → Option IpError = λ n refused. if n == 0 then Some (HeaderCutOff 1 0)
     else first_of (refused_if (nat_lt n 40) (HeaderCutOff 40 n) ∷ refused ∷ []) in
-    let stated : Option ℕ → List ℕ → Bool = λ jumbo_len header. is_none (ip.ipv6_stated_len jumbo_len (be_number header 4 2) (slice_index header 6)) in
+    let stated : Option ℕ → List ℕ → Bool =
+    λ jumbo_len header. is_none (ip.ipv6_stated_len jumbo_len (be_number header 4 2) (slice_index header 6)) in
     record {
       refused = six_refused changed is_too
           ∙ ap (λ n. error n (ip.jumbo_refusal changed)) same.len_is ∙ ap (error (length packet)) jumbogram.refused
@@ -351,13 +371,15 @@ pub record IsReadAlike (packet changed : List ℕ) (headers : Headers) : Type 0 
   pub counts : counted_len false changed ≡ counted_len false packet
 
 by_parts : (packet changed : List ℕ) (headers : Headers) → refusal packet ≡ None → headers_of false packet ≡ Ok headers
-    → headers.len ≤ length (counted false packet) → HasFront headers.len packet changed → IsAlike packet changed → IsReadAlike packet changed headers
+    → headers.len ≤ length (counted false packet) → HasFront headers.len packet changed → IsAlike packet changed
+    → IsReadAlike packet changed headers
 unfolding refused_by
 by_parts packet changed headers accepted read within same alike =
     let n : ℕ = counted_len false packet in
     let first : Headers = first_headers packet in
     let long : headers.len ≤ n = omega (arith, within, length-take n packet) in
-    let len : length (take n changed) ≡ length (take n packet) = length-take n changed ∙ ap (min n) same.len_is ∙ sym (length-take n packet) in
+    let len : length (take n changed) ≡ length (take n packet) =
+    length-take n changed ∙ ap (min n) same.len_is ∙ sym (length-take n packet) in
     let front : HasFront headers.len (take n packet) (take n changed) = record {
       len_is = len;
       front = take-take headers.len n changed long ∙ same.front ∙ sym (take-take headers.len n packet long);
@@ -368,11 +390,16 @@ by_parts packet changed headers accepted read within same alike =
     ∙ ap (λ first. headers_to_transport (suc (length (take n packet))) first (take n changed)) alike.first
     ∙ chain_kept (suc (length (take n packet))) first headers (take n packet) (take n changed) front read in
     record {
-      accepted = ap (λ header. refused_by header (ip.lacks_len changed) (first_headers changed) (length changed) (counted_len false changed) (headers_of false changed)) alike.refused
-          ∙ ap (λ lacks. refused_by (header_refusal packet) lacks (first_headers changed) (length changed) (counted_len false changed) (headers_of false changed)) alike.lacks
-          ∙ ap (λ first. refused_by (header_refusal packet) (ip.lacks_len packet) first (length changed) (counted_len false changed) (headers_of false changed)) alike.first
-          ∙ ap (λ len. refused_by (header_refusal packet) (ip.lacks_len packet) first len (counted_len false changed) (headers_of false changed)) same.len_is
-          ∙ ap (λ counts. refused_by (header_refusal packet) (ip.lacks_len packet) first (length packet) counts (headers_of false changed)) alike.counts
+      accepted = ap (λ header. refused_by header (ip.lacks_len changed) (first_headers changed) (length changed) (counted_len false changed)
+          (headers_of false changed)) alike.refused
+          ∙ ap (λ lacks. refused_by (header_refusal packet) lacks (first_headers changed) (length changed) (counted_len false changed)
+          (headers_of false changed)) alike.lacks
+          ∙ ap (λ first. refused_by (header_refusal packet) (ip.lacks_len packet) first (length changed) (counted_len false changed)
+          (headers_of false changed)) alike.first
+          ∙ ap (λ len. refused_by (header_refusal packet) (ip.lacks_len packet) first len (counted_len false changed)
+          (headers_of false changed)) same.len_is
+          ∙ ap (λ counts. refused_by (header_refusal packet) (ip.lacks_len packet) first (length packet) counts (headers_of false changed))
+          alike.counts
           ∙ ap (refused_by (header_refusal packet) (ip.lacks_len packet) first (length packet) n) (again ∙ sym read)
           ∙ accepted;
       read = again;
@@ -414,7 +441,8 @@ read_alike packet changed headers accepted read within same =
     let header = none_first (header_refusal packet) _ strict.0 in
     let first : (first_headers packet).len ≤ headers.len =
     longer (suc (length (counted false packet))) (first_headers packet) headers (counted false packet) read in
-    by_version (versions (length packet == 0) (version packet == 4) (version packet == 6) (version packet) (ip.ipv4_refusal packet) (ip.ipv6_refusal packet)
+    by_version (versions (length packet == 0) (version packet == 4) (version packet == 6) (version packet) (ip.ipv4_refusal packet)
+    (ip.ipv6_refusal packet)
     refl refl header.0)
     first
   where

@@ -47,7 +47,8 @@ module _ (packet word : List ℕ) (checksum : ℕ) (is : BeginsWithIpv4Header pa
         bytes_total 8 word stored refl room,
         ap total old_word,
         front_total (ipv4_header_len packet) packet (even_len (slice_index packet 0)) is.whole,
-        front_total (ipv4_header_len packet) new (even_len (slice_index packet 0)) (omega (arith, is.whole, stored_len, length_kept 8 word stored room)),
+        front_total (ipv4_header_len packet) new (even_len (slice_index packet 0))
+            (omega (arith, is.whole, stored_len, length_kept 8 word stored room)),
         ap total rest_kept,
       )
 
@@ -69,7 +70,8 @@ module _ (packet word : List ℕ) (checksum : ℕ) (is : BeginsWithIpv4Header pa
       let is_now : ℕ = total (take len new) in
       let updated = remainder (is_now + total (hop_word packet)) (is_now + total word) (omega arith) in
       let alike : is_now % 65535 ≡ was % 65535 = omega (arith, updated, new_total) in
-      let first : slice_index (take len packet) 0 ≢ 0 = λ none. some (sym (get_or-take len packet 0 0 (omega (arith, is.five_words))) ∙ none) in
+      let first : slice_index (take len packet) 0 ≢ 0 =
+      λ none. some (sym (get_or-take len packet 0 0 (omega (arith, is.five_words))) ∙ none) in
       let first_too : slice_index (take len new) 0 ≢ 0 = λ none.
       some (sym (get_or-take len new 0 0 (omega (arith, is.five_words)) ∙ first_kept) ∙ none) in
       let iff = both_accepted was is_now alike (first_counts (take len packet) first) (first_counts (take len new) first_too) in

@@ -23,7 +23,8 @@ use Rattle.etherparse_transport.specs.Packets.{ipv4_header, ipv4_packet, ipv4_st
 no_error : {E : Type 0} (condition : Bool) (error : E) → condition ≡ false → refused_if condition error ≡ None
 no_error condition error none = ap (λ b. if b then Some error else None) none
 
-all_none : {E : Type 0} (a b c d : Option E) → a ≡ None → b ≡ None → c ≡ None → d ≡ None → first_of (first_of (a ∷ b ∷ c ∷ []) ∷ d ∷ []) ≡ None
+all_none : {E : Type 0} (a b c d : Option E) → a ≡ None → b ≡ None → c ≡ None → d ≡ None
+    → first_of (first_of (a ∷ b ∷ c ∷ []) ∷ d ∷ []) ≡ None
 all_none a b c d none none_too none_three none_four =
     ap (λ a. first_of (first_of (a ∷ b ∷ c ∷ []) ∷ d ∷ [])) none
     ∙ ap (λ b. first_of (first_of (None ∷ b ∷ c ∷ []) ∷ d ∷ [])) none_too
@@ -71,19 +72,26 @@ icmpv4_header_len (v4.TimestampRequest message) checksum is gateway = absurd (gr
 icmpv4_header_len (v4.TimestampReply message) checksum is gateway = absurd (grind arith)
 
 -- a slice accepts bytes of a type that is no timestamp
-accepted_by : (bytes : List ℕ) → (slice_index bytes 0 == 13) ≡ false → (slice_index bytes 0 == 14) ≡ false → 8 ≤ length bytes → icmpv4.refusal bytes ≡ None
+accepted_by : (bytes : List ℕ) → (slice_index bytes 0 == 13) ≡ false → (slice_index bytes 0 == 14) ≡ false → 8 ≤ length bytes
+    → icmpv4.refusal bytes ≡ None
 accepted_by bytes request reply long =
     let short : nat_lt (length bytes) 8 ≡ false = grind (arith, nat_tests) in
     ap (λ b. first_of (refused_if b (wrong_length layers.Icmpv4 8 (length bytes))
     ∷ icmpv4.timestamp_refusal 13 layers.Icmpv4Timestamp bytes ∷ icmpv4.timestamp_refusal 14 layers.Icmpv4TimestampReply bytes ∷ [])) short
-    ∙ ap (λ b. first_of (refused_if (b && (slice_index bytes 1 == 0) && not (length bytes == 20)) (wrong_length layers.Icmpv4Timestamp 20 (length bytes))
+    ∙ ap (λ b. first_of (refused_if (b && (slice_index bytes 1 == 0) && not (length bytes == 20))
+    (wrong_length layers.Icmpv4Timestamp 20 (length bytes))
     ∷ icmpv4.timestamp_refusal 14 layers.Icmpv4TimestampReply bytes ∷ [])) request
-    ∙ ap (λ b. first_of (refused_if (b && (slice_index bytes 1 == 0) && not (length bytes == 20)) (wrong_length layers.Icmpv4TimestampReply 20 (length bytes)) ∷ [])) reply
+    ∙ ap (λ b. first_of (refused_if (b && (slice_index bytes 1 == 0) && not (length bytes == 20))
+    (wrong_length layers.Icmpv4TimestampReply 20 (length bytes)) ∷ [])) reply
 
 icmpv4_long : (icmp_type : Icmpv4Type) (payload : List ℕ) → is_icmpv4_error_type icmp_type ≡ true → HasGateway icmp_type
     → 8 ≤ length (icmpv4.wire (record { icmp_type = icmp_type; checksum = 0 }) ++ payload)
 icmpv4_long icmp_type payload is gateway =
-    omega (arith, length-append (icmpv4.wire (record { icmp_type = icmp_type; checksum = 0 })) payload, icmpv4_header_len icmp_type 0 is gateway)
+    omega (
+      arith,
+      length-append (icmpv4.wire (record { icmp_type = icmp_type; checksum = 0 })) payload,
+      icmpv4_header_len icmp_type 0 is gateway,
+    )
 
 icmpv4_accepted : (icmp_type : Icmpv4Type) (payload : List ℕ) → is_icmpv4_error_type icmp_type ≡ true → HasGateway icmp_type
     → icmpv4.refusal (icmpv4.wire (record { icmp_type = icmp_type; checksum = 0 }) ++ payload) ≡ None
@@ -161,10 +169,12 @@ message_in front message rest front_len len is is_too =
 module _ (icmp_type : Icmpv4Type) (source destination payload : List ℕ) (time_to_live : ℕ) (is : is_icmpv4_error_type icmp_type ≡ true)
     (gateway : HasGateway icmp_type) where
   -- there is room, so it is written
-  pub icmpv4_written : (room : ℕ) → length payload ≤ 548 → 28 + length payload ≤ room → ipv4_write_refusal (icmpv4_header icmp_type) payload room ≡ None
+  pub icmpv4_written : (room : ℕ) → length payload ≤ 548 → 28 + length payload ≤ room
+      → ipv4_write_refusal (icmpv4_header icmp_type) payload room ≡ None
   icmpv4_written room short there =
       let len : length (icmpv4.wire (record { icmp_type = icmp_type; checksum = 0 })) ≡ 8 = icmpv4_header_len icmp_type 0 is gateway in
-      let counted : nat_lt (65515 - length (icmpv4.wire (record { icmp_type = icmp_type; checksum = 0 }))) (length payload) ≡ false = grind (arith, nat_tests) in
+      let counted : nat_lt (65515 - length (icmpv4.wire (record { icmp_type = icmp_type; checksum = 0 }))) (length payload) ≡ false =
+      grind (arith, nat_tests) in
       let enough : nat_lt room (20 + (length (icmpv4.wire (record { icmp_type = icmp_type; checksum = 0 })) + length payload)) ≡ false =
       grind (arith, nat_tests) in
       all_none _ _ _ _ refl (no_error _ _ counted) (ap (option_map _) (icmpv4_accepted icmp_type payload is gateway)) (no_error _ _ enough)
@@ -182,22 +192,28 @@ module _ (icmp_type : Icmpv4Type) (source destination payload : List ℕ) (time_
     ipv4_message_is : length ipv4_message ≡ 8 + length payload
     ipv4_message_is =
         length-append (wire (sent_over_ipv4 source destination (icmpv4_header icmp_type) payload)) payload
-        ∙ ap (λ n. n + length payload) (icmpv4_header_len icmp_type (checksum_of (icmpv4.checksummed (record { icmp_type = icmp_type; checksum = 0 }) payload)) is gateway)
+        ∙ ap (λ n. n + length payload)
+        (icmpv4_header_len icmp_type (checksum_of (icmpv4.checksummed (record { icmp_type = icmp_type; checksum = 0 }) payload)) is
+        gateway)
 
     pub icmpv4_error_len : length (ipv4_packet source destination time_to_live (icmpv4_header icmp_type) payload) ≡ 28 + length payload
     icmpv4_error_len = omega (arith, length-append ipv4_front ipv4_message, ipv4_front_is, ipv4_message_is)
 
     pub icmpv4_quoted : (rest : List ℕ) (len : ℕ) → len ≡ 28 + length payload
-        → quoted_by_icmpv4 (slice_range (ipv4_packet source destination time_to_live (icmpv4_header icmp_type) payload ++ rest) 20 len) ≡ Some payload
+        → quoted_by_icmpv4 (slice_range (ipv4_packet source destination time_to_live (icmpv4_header icmp_type) payload ++ rest) 20 len)
+        ≡ Some payload
     icmpv4_quoted rest len len_is =
         ap quoted_by_icmpv4 (message_in ipv4_front ipv4_message rest 20 len ipv4_front_is (omega (arith, len_is, ipv4_message_is)))
-        ∙ icmpv4_quotes icmp_type (checksum_of (icmpv4.checksummed (record { icmp_type = icmp_type; checksum = 0 }) payload)) payload is gateway
+        ∙ icmpv4_quotes icmp_type (checksum_of (icmpv4.checksummed (record { icmp_type = icmp_type; checksum = 0 }) payload)) payload is
+        gateway
 
 module _ (icmp_type : Icmpv6Type) (source destination payload : List ℕ) (hop_limit : ℕ) (is : is_icmpv6_error_type icmp_type ≡ true) where
-  pub icmpv6_written : (room : ℕ) → length payload ≤ 1232 → 48 + length payload ≤ room → ipv6_write_refusal (icmpv6_header icmp_type) payload room ≡ None
+  pub icmpv6_written : (room : ℕ) → length payload ≤ 1232 → 48 + length payload ≤ room
+      → ipv6_write_refusal (icmpv6_header icmp_type) payload room ≡ None
   icmpv6_written room short there =
       let len : length (icmpv6.wire (record { icmp_type = icmp_type; checksum = 0 })) ≡ 8 = icmpv6_header_len icmp_type 0 is in
-      let counted : nat_lt (65535 - length (icmpv6.wire (record { icmp_type = icmp_type; checksum = 0 }))) (length payload) ≡ false = grind (arith, nat_tests) in
+      let counted : nat_lt (65535 - length (icmpv6.wire (record { icmp_type = icmp_type; checksum = 0 }))) (length payload) ≡ false =
+      grind (arith, nat_tests) in
       let enough : nat_lt room (40 + (length (icmpv6.wire (record { icmp_type = icmp_type; checksum = 0 })) + length payload)) ≡ false =
       grind (arith, nat_tests) in
       both_none _ _ _ refl (no_error _ _ counted) (no_error _ _ enough)
@@ -215,13 +231,17 @@ module _ (icmp_type : Icmpv6Type) (source destination payload : List ℕ) (hop_l
     ipv6_message_is : length ipv6_message ≡ 8 + length payload
     ipv6_message_is =
         length-append (wire (sent_over_ipv6 source destination (icmpv6_header icmp_type) payload)) payload
-        ∙ ap (λ n. n + length payload) (icmpv6_header_len icmp_type (checksum_of (icmpv6.checksummed source destination (record { icmp_type = icmp_type; checksum = 0 }) payload)) is)
+        ∙ ap (λ n. n + length payload)
+        (icmpv6_header_len icmp_type (checksum_of
+        (icmpv6.checksummed source destination (record { icmp_type = icmp_type; checksum = 0 }) payload)) is)
 
     pub icmpv6_error_len : length (ipv6_packet source destination hop_limit (icmpv6_header icmp_type) payload) ≡ 48 + length payload
     icmpv6_error_len = omega (arith, length-append ipv6_front ipv6_message, ipv6_front_is, ipv6_message_is)
 
     pub icmpv6_quoted : (rest : List ℕ) (len : ℕ) → len ≡ 48 + length payload
-        → quoted_by_icmpv6 (slice_range (ipv6_packet source destination hop_limit (icmpv6_header icmp_type) payload ++ rest) 40 len) ≡ Some payload
+        → quoted_by_icmpv6 (slice_range (ipv6_packet source destination hop_limit (icmpv6_header icmp_type) payload ++ rest) 40 len)
+        ≡ Some payload
     icmpv6_quoted rest len len_is =
         ap quoted_by_icmpv6 (message_in ipv6_front ipv6_message rest 40 len ipv6_front_is (omega (arith, len_is, ipv6_message_is)))
-        ∙ icmpv6_quotes icmp_type (checksum_of (icmpv6.checksummed source destination (record { icmp_type = icmp_type; checksum = 0 }) payload)) payload is
+        ∙ icmpv6_quotes icmp_type (checksum_of (icmpv6.checksummed source destination
+        (record { icmp_type = icmp_type; checksum = 0 }) payload)) payload is

@@ -34,7 +34,8 @@ use Rattle.etherparse_transport.proofs.TranslatedAgain.{error_accepted, ports_ac
 
 -- ---- a translated packet
 
-module _ (is_quoted : Bool) (new : Ipv4Translation) (packet message : List ℕ) (proto : Option Proto) (flow : IsIpv4Flow is_quoted packet proto)
+module _ (is_quoted : Bool) (new : Ipv4Translation) (packet message : List ℕ) (proto : Option Proto)
+    (flow : IsIpv4Flow is_quoted packet proto)
     (four : AreIpv4Addresses (ipv4_addresses new packet)) (same : length message ≡ length (message_in_ipv4 is_quoted packet)) where
   abbrev start : ℕ
   start = ipv4_header_len packet
@@ -67,9 +68,11 @@ module _ (is_quoted : Bool) (new : Ipv4Translation) (packet message : List ℕ) 
       let added : ℕ = sum_of_ipv4 (ipv4_addresses new packet) in
       ap (λ n. updated_checksum_of n (sum_of_ipv4 (ipv4_header_of between)) added)
       (ap (number 10) between_is ∙ number_put start message 10 packet (omega (arith, flow.five_words)))
-      ∙ ap (λ source. updated_checksum_of (number 10 packet) (sum_of_ipv4 (record { source = source; destination = slice_range between 16 20 })) added)
+      ∙ ap (λ source. updated_checksum_of (number 10 packet)
+      (sum_of_ipv4 (record { source = source; destination = slice_range between 16 20 })) added)
       (range_before start message packet there 12 4 (omega (arith, flow.five_words)))
-      ∙ ap (λ destination. updated_checksum_of (number 10 packet) (sum_of_ipv4 (record { source = slice_range packet 12 16; destination = destination })) added)
+      ∙ ap (λ destination. updated_checksum_of (number 10 packet)
+      (sum_of_ipv4 (record { source = slice_range packet 12 16; destination = destination })) added)
       (range_before start message packet there 16 4 (omega (arith, flow.five_words)))
 
   pub translated_is : translated ≡ with_number 10 sum (put 16 destination (put 12 source (put start message packet)))
@@ -82,14 +85,16 @@ module _ (is_quoted : Bool) (new : Ipv4Translation) (packet message : List ℕ) 
       let third_len : length third ≡ length packet = put_len 12 source second ∙ second_len in
       let room : 20 ≤ length packet = omega (arith, flow.five_words, flow.there) in
       ap (λ bytes. with_bytes 16 destination (with_bytes 12 source (with_bytes 10 (to_be_bytes w16 sum) bytes))) between_is
-      ∙ ap (λ bytes. with_bytes 16 destination (with_bytes 12 source bytes)) (sym (put_there 10 (to_be_bytes w16 sum) first (omega (arith, first_len, room))))
+      ∙ ap (λ bytes. with_bytes 16 destination (with_bytes 12 source bytes))
+      (sym (put_there 10 (to_be_bytes w16 sum) first (omega (arith, first_len, room))))
       ∙ ap (with_bytes 16 destination) (sym (put_there 12 source second (omega (arith, second_len, room, four.source))))
       ∙ sym (put_there 16 destination third (omega (arith, third_len, room, four.destination)))
       ∙ ap (put 16 destination) (sym (put_apart 10 12 (to_be_bytes w16 sum) source first (omega arith)))
       ∙ sym (put_apart 10 16 (to_be_bytes w16 sum) destination (put 12 source first) (omega arith))
 
   pub kept : IsIpv4Kept packet translated
-  kept = ipv4_parts_kept start (to_be_bytes w16 sum) source destination message packet flow.five_words refl four.source four.destination there refl
+  kept = ipv4_parts_kept start (to_be_bytes w16 sum) source destination message packet flow.five_words refl four.source four.destination
+      there refl
 
   pub flow_too : IsIpv4Flow is_quoted translated proto
   flow_too = ipv4_flow_kept is_quoted packet translated proto kept flow
@@ -98,10 +103,12 @@ module _ (is_quoted : Bool) (new : Ipv4Translation) (packet message : List ℕ) 
   header_len_is = header_len_kept packet translated kept
 
   pub source_is : slice_range translated 12 16 ≡ source
-  source_is = ipv4_parts_source start (to_be_bytes w16 sum) source destination message packet flow.five_words refl four.source four.destination there
+  source_is = ipv4_parts_source start (to_be_bytes w16 sum) source destination message packet flow.five_words refl four.source
+      four.destination there
 
   pub destination_is : slice_range translated 16 20 ≡ destination
-  destination_is = ipv4_parts_destination start (to_be_bytes w16 sum) source destination message packet flow.five_words refl four.source four.destination there
+  destination_is = ipv4_parts_destination start
+      (to_be_bytes w16 sum) source destination message packet flow.five_words refl four.source four.destination there
 
   pub header_is : ipv4_header_of translated ≡ ipv4_addresses new packet
   header_is =
@@ -113,7 +120,8 @@ module _ (is_quoted : Bool) (new : Ipv4Translation) (packet message : List ℕ) 
       let total_len : ip.total_len translated ≡ ip.total_len packet = total_len_kept packet translated kept flow.five_words in
       let missing : Bool = is_quoted || lacks_len packet in
       let lacks : lacks_len translated ≡ lacks_len packet =
-      ipv4_lacks_len_is translated flow_too.is_ipv4 ∙ ap (λ n. is_none (if n == 0 then None else Some n)) total_len ∙ sym (ipv4_lacks_len_is packet flow.is_ipv4) in
+      ipv4_lacks_len_is translated flow_too.is_ipv4 ∙ ap (λ n. is_none (if n == 0 then None else Some n)) total_len
+      ∙ sym (ipv4_lacks_len_is packet flow.is_ipv4) in
       let counts : counted_len missing translated ≡ counted_len missing packet =
       ipv4_counted_len_is missing translated flow_too.is_ipv4
       ∙ ap (λ n. if missing then n else ip.total_len translated) kept.front.len ∙ ap (λ n. if missing then length packet else n) total_len
@@ -122,7 +130,8 @@ module _ (is_quoted : Bool) (new : Ipv4Translation) (packet message : List ℕ) 
       ∙ ap (λ lacks. drop start (take (counted_len (is_quoted || lacks) translated) translated)) lacks
       ∙ ap (λ n. drop start (take n translated)) counts
       ∙ message_kept start (counted_len missing packet) packet translated message
-      (ipv4_parts_message start (to_be_bytes w16 sum) source destination message packet flow.five_words refl four.source four.destination there)
+      (ipv4_parts_message start (to_be_bytes w16 sum) source destination message packet flow.five_words refl four.source four.destination
+      there)
       same (ipv4_within is_quoted packet proto flow) flow.there
 
   pub number_is : slice_index translated 9 ≡ slice_index packet 9
@@ -142,7 +151,8 @@ module _ (is_quoted : Bool) (new : Ipv4Translation) (packet message : List ℕ) 
   checksum_is =
       let rest : List ℕ = put 16 destination (put 12 source (put start message packet)) in
       let rest_len : length rest ≡ length packet =
-      put_len 16 destination (put 12 source (put start message packet)) ∙ put_len 12 source (put start message packet) ∙ put_len start message packet in
+      put_len 16 destination (put 12 source (put start message packet)) ∙ put_len 12 source (put start message packet)
+      ∙ put_len start message packet in
       ap (number 10) translated_is
       ∙ number_here 10 sum rest (omega (arith, rest_len, flow.five_words, flow.there))
       (updated_small (number 10 between) (sum_of_ipv4 (ipv4_header_of between)) (sum_of_ipv4 (ipv4_addresses new packet)))
@@ -155,14 +165,18 @@ module _ (new : Ipv4Translation) (packet message : List ℕ) (proto : Option Pro
 
   pub quoted_is : ipv4_quoted whole ≡ quoted_in (ipv4_is_later_fragment packet) (ipv4_proto packet) message
   quoted_is =
-      ap (λ later. quoted_in later (ipv4_proto whole) (message_in_ipv4 false whole)) (later_is false new packet message proto flow four same)
-      ∙ ap (λ proto. quoted_in (ipv4_is_later_fragment packet) proto (message_in_ipv4 false whole)) (proto_is false new packet message proto flow four same)
+      ap (λ later. quoted_in later (ipv4_proto whole) (message_in_ipv4 false whole))
+      (later_is false new packet message proto flow four same)
+      ∙ ap (λ proto. quoted_in (ipv4_is_later_fragment packet) proto (message_in_ipv4 false whole))
+      (proto_is false new packet message proto flow four same)
       ∙ ap (quoted_in (ipv4_is_later_fragment packet) (ipv4_proto packet)) (message_is false new packet message proto flow four same)
 
   pub refusal_is : ipv4_message_refusal whole ≡ message_refusal (ipv4_is_later_fragment packet) (ipv4_proto packet) message
   refusal_is =
-      ap (λ later. message_refusal later (ipv4_proto whole) (message_in_ipv4 false whole)) (later_is false new packet message proto flow four same)
-      ∙ ap (λ proto. message_refusal (ipv4_is_later_fragment packet) proto (message_in_ipv4 false whole)) (proto_is false new packet message proto flow four same)
+      ap (λ later. message_refusal later (ipv4_proto whole) (message_in_ipv4 false whole))
+      (later_is false new packet message proto flow four same)
+      ∙ ap (λ proto. message_refusal (ipv4_is_later_fragment packet) proto (message_in_ipv4 false whole))
+      (proto_is false new packet message proto flow four same)
       ∙ ap (message_refusal (ipv4_is_later_fragment packet) (ipv4_proto packet)) (message_is false new packet message proto flow four same)
 
 -- ---- the packet that comes back
@@ -186,7 +200,8 @@ message_there is_quoted packet proto flow =
     ∙ message_is_range len (counted_len (is_quoted || lacks_len packet) packet) packet (ipv4_within is_quoted packet proto flow)
 
 -- the packet with this checksum and this message
-restored_iff : (is_quoted : Bool) (packet message : List ℕ) (checksum : ℕ) (proto : Option Proto) → IsIpv4Flow is_quoted packet proto → IsBytes packet → checksum < 65536
+restored_iff : (is_quoted : Bool) (packet message : List ℕ) (checksum : ℕ) (proto : Option Proto) → IsIpv4Flow is_quoted packet proto
+    → IsBytes packet → checksum < 65536
     → length message ≡ length (message_in_ipv4 is_quoted packet) → (checksum ≡ number 10 packet) ↔ (number 10 packet ≢ 65535)
     → (with_number 10 checksum (put (ipv4_header_len packet) message packet) ≡ packet)
     ↔ ((number 10 packet ≢ 65535) × (message ≡ message_in_ipv4 is_quoted packet))
@@ -194,14 +209,16 @@ restored_iff is_quoted packet message checksum proto flow fits small same iff =
     let start : ℕ = ipv4_header_len packet in
     let old : List ℕ = message_in_ipv4 is_quoted packet in
     let n : ℕ = counted_len (is_quoted || lacks_len packet) packet in
-    let there : start + length message ≤ length packet = omega (arith, same, flow.there, length-drop start (take n packet), length-take n packet) in
+    let there : start + length message ≤ length packet =
+    omega (arith, same, flow.there, length-drop start (take n packet), length-take n packet) in
     let between : List ℕ = put start message packet in
     let room : 12 ≤ length between = omega (arith, put_len start message packet, flow.five_words, flow.there) in
     let other : List ℕ = with_number 10 checksum packet in
     let other_len : length other ≡ length packet = number_len 10 checksum packet in
     let there_too : start + length message ≤ length other = omega (arith, there, other_len) in
     let apart : with_number 10 checksum between ≡ with_bytes start message other =
-    put_apart 10 start (to_be_bytes w16 checksum) message packet (omega (arith, flow.five_words)) ∙ put_there start message other there_too in (
+    put_apart 10 start (to_be_bytes w16 checksum) message packet (omega (arith, flow.five_words))
+    ∙ put_there start message other there_too in (
       λ is. (
         iff.0 (sym (number_here 10 checksum between room small) ∙ ap (number 10) is),
         sym (range_at start message other there_too) ∙ ap (λ bytes. take (length message) (drop start bytes)) (sym apart ∙ is)
@@ -214,9 +231,11 @@ restored_iff is_quoted packet message checksum proto flow fits small same iff =
     )
 
 -- A packet with another message and other addresses, and then with a message and addresses that may be the old ones.
-pub bytes_back : (is_quoted : Bool) (new back : Ipv4Translation) (packet message message_too : List ℕ) (proto : Option Proto) → IsIpv4Flow is_quoted packet proto → IsBytes packet
+pub bytes_back : (is_quoted : Bool) (new back : Ipv4Translation) (packet message message_too : List ℕ) (proto : Option Proto)
+    → IsIpv4Flow is_quoted packet proto → IsBytes packet
     → AreIpv4Addresses (ipv4_addresses new packet) → length message ≡ length (message_in_ipv4 is_quoted packet)
-    → AreIpv4Addresses (ipv4_addresses back (ipv4_with_message new message packet)) → length message_too ≡ length (message_in_ipv4 is_quoted packet)
+    → AreIpv4Addresses (ipv4_addresses back (ipv4_with_message new message packet))
+    → length message_too ≡ length (message_in_ipv4 is_quoted packet)
     → (ipv4_with_message back message_too (ipv4_with_message new message packet) ≡ packet)
     ↔ ((ipv4_addresses back (ipv4_with_message new message packet) ≡ ipv4_header_of packet)
     × ((number 10 packet ≢ 65535) × (message_too ≡ message_in_ipv4 is_quoted packet)))
@@ -233,13 +252,16 @@ bytes_back is_quoted new back packet message message_too proto flow fits four sa
     let removed : ℕ = sum_of_ipv4 old in
     let added : ℕ = sum_of_ipv4 (ipv4_addresses new packet) in
     let result : List ℕ = ipv4_with_message back message_too changed in
-    let once : List ℕ = put 16 (ipv4_addresses new packet).destination (put 12 (ipv4_addresses new packet).source (put start message packet)) in
+    let once : List ℕ = put 16 (ipv4_addresses new packet).destination
+    (put 12 (ipv4_addresses new packet).source (put start message packet)) in
     let twice : List ℕ = put 16 addresses.destination (put 12 addresses.source (put start message_too once)) in
     let small : second < 65536 = updated_small _ _ _ in
     let second_is : addresses ≡ old → second ≡ updated_checksum_of first added removed = λ is.
     sum_is is_quoted back changed message_too proto changed_flow four_too same_back
-    ∙ ap (λ n. updated_checksum_of n (sum_of_ipv4 (ipv4_header_of changed)) (sum_of_ipv4 addresses)) (checksum_is is_quoted new packet message proto flow four same)
-    ∙ ap (λ header. updated_checksum_of first (sum_of_ipv4 header) (sum_of_ipv4 addresses)) (header_is is_quoted new packet message proto flow four same)
+    ∙ ap (λ n. updated_checksum_of n (sum_of_ipv4 (ipv4_header_of changed)) (sum_of_ipv4 addresses))
+    (checksum_is is_quoted new packet message proto flow four same)
+    ∙ ap (λ header. updated_checksum_of first (sum_of_ipv4 header) (sum_of_ipv4 addresses))
+    (header_is is_quoted new packet message proto flow four same)
     ∙ ap (λ header. updated_checksum_of first added (sum_of_ipv4 header)) is in
     let result_is : addresses ≡ old → result ≡ with_number 10 second (put start message_too packet) = λ is.
     translated_is is_quoted back changed message_too proto changed_flow four_too same_back
@@ -251,9 +273,11 @@ bytes_back is_quoted new back packet message message_too proto flow fits four sa
     addresses.source addresses.destination message_too once (omega arith)))
     ∙ number_again 10 first second twice
     ∙ ap (with_number 10 second) (replaced_again 12 16 start 4 (omega arith) (omega (arith, flow.five_words)) _ _ message
-    addresses.source addresses.destination message_too packet four.source four.destination four_too.source four_too.destination (same_too ∙ sym same))
+    addresses.source addresses.destination message_too packet four.source four.destination four_too.source four_too.destination
+    (same_too ∙ sym same))
     ∙ ap (λ header. with_number 10 second (put 16 header.destination (put 12 header.source (put start message_too packet)))) is
-    ∙ ap (with_number 10 second) (replaced_same 12 16 start 4 (omega arith) (omega (arith, flow.five_words)) message_too packet flow.there) in
+    ∙ ap (with_number 10 second) (replaced_same 12 16 start 4 (omega arith)
+    (omega (arith, flow.five_words)) message_too packet flow.there) in
     let iff : addresses ≡ old → (with_number 10 second (put start message_too packet) ≡ packet)
     ↔ ((number 10 packet ≢ 65535) × (message_too ≡ message_in_ipv4 is_quoted packet)) = λ is.
     restored_iff is_quoted packet message_too second proto flow fits small same_too
@@ -281,9 +305,11 @@ pub record IsIpv4FlowOf (is_quoted : Bool) (packet : List ℕ) (proto : Option P
   pub fits : IsBytes packet
 
 -- the addresses come back
-addresses_back : (is_quoted : Bool) (new : Ipv4Translation) (packet message : List ℕ) (proto : Option Proto) → IsIpv4Flow is_quoted packet proto → AreIpv4Addresses (ipv4_addresses new packet)
+addresses_back : (is_quoted : Bool) (new : Ipv4Translation) (packet message : List ℕ) (proto : Option Proto)
+    → IsIpv4Flow is_quoted packet proto → AreIpv4Addresses (ipv4_addresses new packet)
     → length message ≡ length (message_in_ipv4 is_quoted packet)
-    → ipv4_addresses (ipv4_flow_back new (message_in_ipv4 is_quoted packet) packet) (ipv4_with_message new message packet) ≡ ipv4_header_of packet
+    → ipv4_addresses (ipv4_flow_back new (message_in_ipv4 is_quoted packet) packet) (ipv4_with_message new message packet)
+    ≡ ipv4_header_of packet
 addresses_back is_quoted new packet message proto flow four same =
     let old : Ipv4Header = ipv4_header_of packet in
     let back : Ipv4Translation = ipv4_flow_back new (message_in_ipv4 is_quoted packet) packet in
@@ -291,31 +317,45 @@ addresses_back is_quoted new packet message proto flow four same =
       source = unwrap_or back.source header.source;
       destination = unwrap_or back.destination header.destination;
     }) (header_is is_quoted new packet message proto flow four same)
-    ∙ ap {B = Ipv4Header} (λ source. record { source = source; destination = unwrap_or back.destination (ipv4_addresses new packet).destination })
+    ∙ ap {B = Ipv4Header} (λ source. record {
+      source = source;
+      destination =
+          unwrap_or back.destination (ipv4_addresses new packet).destination;
+    })
     (address_back old.source new.source)
-    ∙ ap {B = Ipv4Header} (λ destination. record { source = old.source; destination = destination }) (address_back old.destination new.destination)
+    ∙ ap {B = Ipv4Header} (λ destination. record { source = old.source; destination = destination })
+    (address_back old.destination new.destination)
 
-flow_addresses : (is_quoted : Bool) (new : Ipv4Translation) (packet : List ℕ) (proto : Option Proto) → IsIpv4Flow is_quoted packet proto → AreIpv4Addresses (ipv4_addresses new packet)
-    → ipv4_addresses (ipv4_flow_back new (message_in_ipv4 is_quoted packet) packet) (ipv4_translated_flow new (message_in_ipv4 is_quoted packet) packet) ≡ ipv4_header_of packet
+flow_addresses : (is_quoted : Bool) (new : Ipv4Translation) (packet : List ℕ) (proto : Option Proto) → IsIpv4Flow is_quoted packet proto
+    → AreIpv4Addresses (ipv4_addresses new packet)
+    → ipv4_addresses (ipv4_flow_back new (message_in_ipv4 is_quoted packet) packet)
+    (ipv4_translated_flow new (message_in_ipv4 is_quoted packet) packet) ≡ ipv4_header_of packet
 flow_addresses is_quoted new packet proto flow four =
-    addresses_back is_quoted new packet (ipv4_flow_message new (message_in_ipv4 is_quoted packet) packet) proto flow four (ipv4_flow_message_len new (message_in_ipv4 is_quoted packet) packet)
+    addresses_back is_quoted new packet (ipv4_flow_message new (message_in_ipv4 is_quoted packet) packet) proto flow four
+    (ipv4_flow_message_len new (message_in_ipv4 is_quoted packet) packet)
 
 -- and the length
-flow_len : (is_quoted : Bool) (new : Ipv4Translation) (packet : List ℕ) (proto : Option Proto) → IsIpv4Flow is_quoted packet proto → AreIpv4Addresses (ipv4_addresses new packet)
+flow_len : (is_quoted : Bool) (new : Ipv4Translation) (packet : List ℕ) (proto : Option Proto) → IsIpv4Flow is_quoted packet proto
+    → AreIpv4Addresses (ipv4_addresses new packet)
     → length (ipv4_translated_flow new (message_in_ipv4 is_quoted packet) packet) ≡ length packet
-flow_len is_quoted new packet proto flow four = (kept is_quoted new packet (ipv4_flow_message new (message_in_ipv4 is_quoted packet) packet) proto flow four (ipv4_flow_message_len new (message_in_ipv4 is_quoted packet) packet)).front.len
+flow_len is_quoted new packet proto flow four =
+    (kept is_quoted new packet (ipv4_flow_message new (message_in_ipv4 is_quoted packet) packet) proto flow four
+    (ipv4_flow_message_len new (message_in_ipv4 is_quoted packet) packet)).front.len
 
-pub flow_restored : (is_quoted : Bool) (new : Ipv4Translation) (packet : List ℕ) (proto : Option Proto) → IsIpv4FlowOf is_quoted packet proto → AreIpv4Addresses (ipv4_addresses new packet)
+pub flow_restored : (is_quoted : Bool) (new : Ipv4Translation) (packet : List ℕ) (proto : Option Proto)
+    → IsIpv4FlowOf is_quoted packet proto → AreIpv4Addresses (ipv4_addresses new packet)
     → ArePorts new.source_port new.destination_port
     → (ipv4_translated_flow (ipv4_flow_back new (message_in_ipv4 is_quoted packet) packet)
     (message_in_ipv4 is_quoted (ipv4_translated_flow new (message_in_ipv4 is_quoted packet) packet))
-    (ipv4_translated_flow new (message_in_ipv4 is_quoted packet) packet) ≡ packet) ↔ IsIpv4FlowRestored (message_in_ipv4 is_quoted packet) packet
+    (ipv4_translated_flow new (message_in_ipv4 is_quoted packet) packet) ≡ packet)
+    ↔ IsIpv4FlowRestored (message_in_ipv4 is_quoted packet) packet
 flow_restored is_quoted new packet proto of_proto four ports =
     let flow : IsIpv4Flow is_quoted packet proto = of_proto.flow in
     let old : Ipv4Header = ipv4_header_of packet in
     let back : Ipv4Translation = ipv4_flow_back new (message_in_ipv4 is_quoted packet) packet in
     let message : List ℕ = ipv4_flow_message new (message_in_ipv4 is_quoted packet) packet in
-    let same : length message ≡ length (message_in_ipv4 is_quoted packet) = ipv4_flow_message_len new (message_in_ipv4 is_quoted packet) packet in
+    let same : length message ≡ length (message_in_ipv4 is_quoted packet) =
+    ipv4_flow_message_len new (message_in_ipv4 is_quoted packet) packet in
     let changed : List ℕ = ipv4_with_message new message packet in
     let is_header : ipv4_header_of changed ≡ ipv4_addresses new packet = header_is is_quoted new packet message proto flow four same in
     let addresses_is : ipv4_addresses back changed ≡ old = flow_addresses is_quoted new packet proto flow four in
@@ -323,12 +363,14 @@ flow_restored is_quoted new packet proto of_proto four ports =
     subst AreIpv4Addresses (sym addresses_is) (addresses_there packet (omega (arith, flow.five_words, flow.there))) in
     let is_message : message_in_ipv4 is_quoted changed ≡ message = message_is is_quoted new packet message proto flow four same in
     let message_too : List ℕ = ipv4_flow_message back (message_in_ipv4 is_quoted changed) changed in
-    let same_too : length message_too ≡ length (message_in_ipv4 is_quoted packet) = ipv4_flow_message_len back (message_in_ipv4 is_quoted changed) changed ∙ ap length is_message ∙ same in
+    let same_too : length message_too ≡ length (message_in_ipv4 is_quoted packet) =
+    ipv4_flow_message_len back (message_in_ipv4 is_quoted changed) changed ∙ ap length is_message ∙ same in
     let later : Bool = ipv4_is_later_fragment packet in
     let removed : ℕ = sum_of_ipv4 old in
     let added : ℕ = sum_of_ipv4 (ipv4_addresses new packet) in
     let with_ports : Option Proto → Option ℕ → Option ℕ → List ℕ = λ proto source destination.
-    translated_in later proto added removed source destination (translated_in later proto removed added new.source_port new.destination_port (message_in_ipv4 is_quoted packet)) in
+    translated_in later proto added removed source destination
+    (translated_in later proto removed added new.source_port new.destination_port (message_in_ipv4 is_quoted packet)) in
     let message_too_is : message_too ≡ with_ports proto (instead (port_in proto 0 (message_in_ipv4 is_quoted packet)) new.source_port)
     (instead (port_in proto 2 (message_in_ipv4 is_quoted packet)) new.destination_port) =
     ap (λ later. translated_in later (ipv4_proto changed) (sum_of_ipv4 (ipv4_header_of changed)) (sum_of_ipv4 (ipv4_addresses back changed))
@@ -337,7 +379,8 @@ flow_restored is_quoted new packet proto of_proto four ports =
     back.source_port back.destination_port (message_in_ipv4 is_quoted changed)) (proto_is is_quoted new packet message proto flow four same)
     ∙ ap (λ header. translated_in later (ipv4_proto packet) (sum_of_ipv4 header) (sum_of_ipv4 (ipv4_addresses back changed))
     back.source_port back.destination_port (message_in_ipv4 is_quoted changed)) is_header
-    ∙ ap (λ header. translated_in later (ipv4_proto packet) added (sum_of_ipv4 header) back.source_port back.destination_port (message_in_ipv4 is_quoted changed)) addresses_is
+    ∙ ap (λ header. translated_in later (ipv4_proto packet) added (sum_of_ipv4 header) back.source_port back.destination_port
+    (message_in_ipv4 is_quoted changed)) addresses_is
     ∙ ap (translated_in later (ipv4_proto packet) added removed back.source_port back.destination_port) is_message
     ∙ ap (λ proto. with_ports proto (instead (port_in proto 0 (message_in_ipv4 is_quoted packet)) new.source_port)
     (instead (port_in proto 2 (message_in_ipv4 is_quoted packet)) new.destination_port)) of_proto.known in
@@ -382,7 +425,8 @@ flow_found is_quoted has_port packet fits found =
           is_ipv4 = is;
           five_words = header.0;
           no_route = none_if (has_source_route packet) SourceRoute after_route.0;
-          number = ipv4_accepts has_port (slice_range packet 12 16) (slice_range packet 16 20) (slice_index packet 9) (ipv4_proto packet) refl
+          number = ipv4_accepts has_port (slice_range packet 12 16) (slice_range packet 16 20) (slice_index packet 9)
+              (ipv4_proto packet) refl
               (protocol_accepted is_quoted has_port packet found);
           there = header.1;
         };
@@ -401,7 +445,8 @@ opposite_is new is =
       ports = record { source = is.ports.destination; destination = is.ports.source };
     }
 
-new_addresses : (new : Ipv4Translation) (packet : List ℕ) → IsIpv4Translation new → 20 ≤ length packet → AreIpv4Addresses (ipv4_addresses new packet)
+new_addresses : (new : Ipv4Translation) (packet : List ℕ) → IsIpv4Translation new → 20 ≤ length packet
+    → AreIpv4Addresses (ipv4_addresses new packet)
 new_addresses new packet is there =
     let old : AreIpv4Addresses (ipv4_header_of packet) = addresses_there packet there in
     record {
@@ -410,7 +455,8 @@ new_addresses new packet is there =
     }
 
 -- a translated packet quotes no packet if the packet quotes none
-still_none : (new : Ipv4Translation) (packet : List ℕ) (proto : Option Proto) (of_proto : IsIpv4FlowOf false packet proto) → AreIpv4Addresses (ipv4_addresses new packet)
+still_none : (new : Ipv4Translation) (packet : List ℕ) (proto : Option Proto) (of_proto : IsIpv4FlowOf false packet proto)
+    → AreIpv4Addresses (ipv4_addresses new packet)
     → ipv4_quoted packet ≡ None → ipv4_quoted (ipv4_translated_flow new (message_in_ipv4 false packet) packet) ≡ None
 still_none new packet proto of_proto four none =
     let flow : IsIpv4Flow false packet proto = of_proto.flow in
@@ -420,14 +466,17 @@ still_none new packet proto of_proto four none =
     let old : ℕ = sum_of_ipv4 (ipv4_header_of packet) in
     let added : ℕ = sum_of_ipv4 (ipv4_addresses new packet) in
     quoted_is new packet message proto flow four same
-    ∙ ap (λ proto. quoted_in later proto (translated_in later proto old added new.source_port new.destination_port (message_in_ipv4 false packet))) of_proto.known
+    ∙ ap (λ proto. quoted_in later proto (translated_in later proto old added new.source_port new.destination_port
+    (message_in_ipv4 false packet))) of_proto.known
     ∙ quotes_none later proto old added new.source_port new.destination_port (message_in_ipv4 false packet)
     (sym (ap (λ proto. quoted_in later proto (message_in_ipv4 false packet)) of_proto.known) ∙ none)
 
 -- a packet without a quoted packet
 no_quote_back : (new : Ipv4Translation) (packet : List ℕ) (proto : Option Proto) → IsIpv4FlowOf false packet proto → IsIpv4Translation new
     → ipv4_quoted packet ≡ None
-    → (ipv4_translated (ipv4_flow_back new (message_in_ipv4 false packet) packet) (ipv4_with_message new (ipv4_flow_message new (message_in_ipv4 false packet) packet) packet) ≡ packet) ↔ IsIpv4FlowRestored (message_in_ipv4 false packet) packet
+    → (ipv4_translated (ipv4_flow_back new (message_in_ipv4 false packet) packet)
+    (ipv4_with_message new (ipv4_flow_message new (message_in_ipv4 false packet) packet) packet) ≡ packet)
+    ↔ IsIpv4FlowRestored (message_in_ipv4 false packet) packet
 no_quote_back new packet proto of_proto is none =
     let flow : IsIpv4Flow false packet proto = of_proto.flow in
     let four : AreIpv4Addresses (ipv4_addresses new packet) = new_addresses new packet is (omega (arith, flow.five_words, flow.there)) in
@@ -439,7 +488,8 @@ no_quote_back new packet proto of_proto is none =
     (flow_restored false new packet proto of_proto four is.ports)
 
 -- an ICMP error
-error_back : (new : Ipv4Translation) (packet quoted : List ℕ) (proto quoted_proto : Option Proto) → IsIpv4FlowOf false packet proto → IsIpv4FlowOf true quoted quoted_proto
+error_back : (new : Ipv4Translation) (packet quoted : List ℕ) (proto quoted_proto : Option Proto) → IsIpv4FlowOf false packet proto
+    → IsIpv4FlowOf true quoted quoted_proto
     → IsIpv4Translation new → ipv4_quoted packet ≡ Some quoted → IsRange (message_in_ipv4 false packet) quoted
     → (ipv4_translated (ipv4_opposite (ipv4_flow_back (ipv4_opposite new) (message_in_ipv4 true quoted) quoted))
     (ipv4_with_message new (ipv4_message_with (Some quoted) new packet) packet) ≡ packet) ↔ IsIpv4ErrorRestored new packet quoted
@@ -460,11 +510,13 @@ error_back new packet quoted proto quoted_proto of_proto of_quoted is quotes ran
     let translated : List ℕ = ipv4_translated_flow opposite (message_in_ipv4 true quoted) quoted in
     let translated_len : length translated ≡ length quoted = flow_len true opposite quoted quoted_proto quoted_flow quoted_four in
     let translated_flow : IsIpv4Flow true translated quoted_proto =
-    flow_too true opposite quoted (ipv4_flow_message opposite (message_in_ipv4 true quoted) quoted) quoted_proto quoted_flow quoted_four (ipv4_flow_message_len opposite (message_in_ipv4 true quoted) quoted) in
+    flow_too true opposite quoted (ipv4_flow_message opposite (message_in_ipv4 true quoted) quoted) quoted_proto quoted_flow quoted_four
+    (ipv4_flow_message_len opposite (message_in_ipv4 true quoted) quoted) in
     let restored : List ℕ = ipv4_translated_flow quoted_back (message_in_ipv4 true translated) translated in
     let old_message : List ℕ = message_in_ipv4 false packet in
     let message : List ℕ = ipv4_message_with (Some quoted) new packet in
-    let same : length message ≡ length old_message = quote_len 0 0 quoted translated old_message (omega (arith, range.within, translated_len)) in
+    let same : length message ≡ length old_message =
+    quote_len 0 0 quoted translated old_message (omega (arith, range.within, translated_len)) in
     let changed : List ℕ = ipv4_with_message new message packet in
     let later : Bool = ipv4_is_later_fragment packet in
     let is_message : message_in_ipv4 false changed ≡ message = message_is false new packet message proto flow four same in
@@ -495,7 +547,11 @@ error_back new packet quoted proto quoted_proto of_proto of_quoted is quotes ran
         (address_iff old.destination inner.source new.destination).0 (ap (λ header. header.destination) alike),
       ),
       λ both.
-          ap {B = Ipv4Header} (λ source. record { source = source; destination = unwrap_or back.destination (ipv4_addresses new packet).destination })
+          ap {B = Ipv4Header} (λ source. record {
+            source = source;
+            destination =
+                unwrap_or back.destination (ipv4_addresses new packet).destination;
+          })
           ((address_iff old.source inner.destination new.source).1 both.0)
           ∙ ap {B = Ipv4Header} (λ destination. record { source = old.source; destination = destination })
           ((address_iff old.destination inner.source new.destination).1 both.1),
@@ -506,7 +562,8 @@ error_back new packet quoted proto quoted_proto of_proto of_quoted is quotes ran
     let message_too : List ℕ = with_quote 0 0 translated restored message in
     let same_too : length message_too ≡ length old_message =
     quote_len 0 0 translated restored message (omega (arith, range.within, restored_len, same)) ∙ same in
-    let fits : IsBytes old_message = bytes_drop (ipv4_header_len packet) _ (bytes_take (counted_len (lacks_len packet) packet) packet of_proto.fits) in
+    let fits : IsBytes old_message =
+    bytes_drop (ipv4_header_len packet) _ (bytes_take (counted_len (lacks_len packet) packet) packet of_proto.fits) in
     let quotes_iff = quote_back 0 0 quoted translated restored old_message fits range translated_len restored_len in
     let flow_iff = flow_restored true opposite quoted quoted_proto of_quoted quoted_four (opposite_is new is).ports in
     let bytes_iff = bytes_back false new back packet message message_too proto flow of_proto.fits four same four_too same_too in
@@ -538,7 +595,8 @@ quoted_bytes packet quoted fits range =
     (bytes_drop (ipv4_header_len packet) _ (bytes_take (counted_len (lacks_len packet) packet) packet fits))))
 
 -- the errors of the packet and of its message, and of the quoted packet
-back_by : (has_quoted_port : Bool) (quoted : Option (List ℕ)) (new : Ipv4Translation) (packet : List ℕ) (proto : Option Proto) → IsIpv4FlowOf false packet proto → IsIpv4Translation new
+back_by : (has_quoted_port : Bool) (quoted : Option (List ℕ)) (new : Ipv4Translation) (packet : List ℕ) (proto : Option Proto)
+    → IsIpv4FlowOf false packet proto → IsIpv4Translation new
     → ipv4_message_refusal packet ≡ None → ipv4_quoted packet ≡ quoted → ipv4_quoted_refusal has_quoted_port quoted ≡ None
     → (ipv4_translated (ipv4_back_by quoted new packet) (ipv4_with_message new (ipv4_message_with quoted new packet) packet) ≡ packet)
     ↔ IsIpv4RestoredBy quoted new packet
@@ -550,11 +608,13 @@ back_by has_quoted_port (Some quoted) new packet proto of_proto is accepted quot
     quoted_range later proto message quoted (sym (ap (λ proto. message_refusal later proto message) of_proto.known) ∙ accepted)
     (sym (ap (λ proto. quoted_in later proto message) of_proto.known) ∙ quotes) in
     let fits : IsBytes quoted = quoted_bytes packet quoted of_proto.fits range in
-    let of_quoted = flow_found true has_quoted_port quoted fits (mapped_none (λ _. QuotedPacket) (ipv4_place_refusal true has_quoted_port quoted) found) in
+    let of_quoted = flow_found true has_quoted_port quoted fits
+    (mapped_none (λ _. QuotedPacket) (ipv4_place_refusal true has_quoted_port quoted) found) in
     error_back new packet quoted proto of_quoted.0 of_proto of_quoted.1 is quotes range
 
 -- An accepted IPv4 packet is translated there and back. The result is the packet exactly if its checksums come back.
-pub ipv4_there_and_back : (has_port has_quoted_port : Bool) (new : Ipv4Translation) (packet : List ℕ) → IsBytes packet → IsIpv4Translation new
+pub ipv4_there_and_back : (has_port has_quoted_port : Bool) (new : Ipv4Translation) (packet : List ℕ) → IsBytes packet
+    → IsIpv4Translation new
     → ipv4_refusal_by has_port has_quoted_port packet ≡ None
     → (ipv4_translated (ipv4_way_back new packet) (ipv4_translated new packet) ≡ packet) ↔ IsIpv4Restored new packet
 ipv4_there_and_back has_port has_quoted_port new packet fits is accepted =
@@ -570,7 +630,8 @@ ipv4_there_and_back has_port has_quoted_port new packet fits is accepted =
 both_back : (new rule : Ipv4Translation) (packet quoted : List ℕ) (proto quoted_proto : Option Proto) → IsIpv4FlowOf false packet proto
     → IsIpv4FlowOf true quoted quoted_proto → IsIpv4Translation new → IsIpv4Translation rule → ipv4_quoted packet ≡ Some quoted
     → IsRange (message_in_ipv4 false packet) quoted
-    → (ipv4_translated_with (ipv4_flow_back new (message_in_ipv4 false packet) packet) (ipv4_flow_back rule (message_in_ipv4 true quoted) quoted)
+    → (ipv4_translated_with (ipv4_flow_back new (message_in_ipv4 false packet) packet)
+    (ipv4_flow_back rule (message_in_ipv4 true quoted) quoted)
     (ipv4_with_message new (ipv4_message_by (Some quoted) new rule packet) packet) ≡ packet) ↔ AreIpv4ChecksumsRestored packet quoted
 both_back new rule packet quoted proto quoted_proto of_proto of_quoted is is_rule quotes range =
     let flow : IsIpv4Flow false packet proto = of_proto.flow in
@@ -585,11 +646,13 @@ both_back new rule packet quoted proto quoted_proto of_proto of_quoted is is_rul
     let translated : List ℕ = ipv4_translated_flow rule (message_in_ipv4 true quoted) quoted in
     let translated_len : length translated ≡ length quoted = flow_len true rule quoted quoted_proto quoted_flow quoted_four in
     let translated_flow : IsIpv4Flow true translated quoted_proto =
-    flow_too true rule quoted (ipv4_flow_message rule (message_in_ipv4 true quoted) quoted) quoted_proto quoted_flow quoted_four (ipv4_flow_message_len rule (message_in_ipv4 true quoted) quoted) in
+    flow_too true rule quoted (ipv4_flow_message rule (message_in_ipv4 true quoted) quoted) quoted_proto quoted_flow quoted_four
+    (ipv4_flow_message_len rule (message_in_ipv4 true quoted) quoted) in
     let restored : List ℕ = ipv4_translated_flow quoted_back (message_in_ipv4 true translated) translated in
     let old_message : List ℕ = message_in_ipv4 false packet in
     let message : List ℕ = ipv4_message_by (Some quoted) new rule packet in
-    let same : length message ≡ length old_message = quote_len 0 0 quoted translated old_message (omega (arith, range.within, translated_len)) in
+    let same : length message ≡ length old_message =
+    quote_len 0 0 quoted translated old_message (omega (arith, range.within, translated_len)) in
     let changed : List ℕ = ipv4_with_message new message packet in
     let later : Bool = ipv4_is_later_fragment packet in
     let is_message : message_in_ipv4 false changed ≡ message = message_is false new packet message proto flow four same in
@@ -599,14 +662,17 @@ both_back new rule packet quoted proto quoted_proto of_proto of_quoted is is_rul
     ∙ quotes_translated later proto 0 0 old_message quoted translated range translated_len
     (sym (ap (λ proto. quoted_in later proto old_message) of_proto.known) ∙ quotes) in
     let addresses_is : ipv4_addresses back changed ≡ old = addresses_back false new packet message proto flow four same in
-    let four_too : AreIpv4Addresses (ipv4_addresses back changed) = subst AreIpv4Addresses (sym addresses_is) (addresses_there packet room) in
+    let four_too : AreIpv4Addresses (ipv4_addresses back changed) =
+    subst AreIpv4Addresses (sym addresses_is) (addresses_there packet room) in
     let restored_len : length restored ≡ length quoted =
     flow_len true quoted_back translated quoted_proto translated_flow
-    (subst AreIpv4Addresses (sym (flow_addresses true rule quoted quoted_proto quoted_flow quoted_four)) (addresses_there quoted quoted_room)) ∙ translated_len in
+    (subst AreIpv4Addresses (sym (flow_addresses true rule quoted quoted_proto quoted_flow quoted_four))
+    (addresses_there quoted quoted_room)) ∙ translated_len in
     let message_too : List ℕ = with_quote 0 0 translated restored message in
     let same_too : length message_too ≡ length old_message =
     quote_len 0 0 translated restored message (omega (arith, range.within, restored_len, same)) ∙ same in
-    let fits : IsBytes old_message = bytes_drop (ipv4_header_len packet) _ (bytes_take (counted_len (lacks_len packet) packet) packet of_proto.fits) in
+    let fits : IsBytes old_message =
+    bytes_drop (ipv4_header_len packet) _ (bytes_take (counted_len (lacks_len packet) packet) packet of_proto.fits) in
     let quotes_iff = quote_back 0 0 quoted translated restored old_message fits range translated_len restored_len in
     let flow_iff = flow_restored true rule quoted quoted_proto of_quoted quoted_four is_rule.ports in
     let bytes_iff = bytes_back false new back packet message message_too proto flow of_proto.fits four same four_too same_too in
@@ -645,14 +711,17 @@ both_back_by has_quoted_port (Some quoted) new rule packet proto of_proto is acc
     quoted_range later proto message quoted (sym (ap (λ proto. message_refusal later proto message) of_proto.known) ∙ accepted)
     (sym (ap (λ proto. quoted_in later proto message) of_proto.known) ∙ quotes) in
     let fits : IsBytes quoted = quoted_bytes packet quoted of_proto.fits range in
-    let of_quoted = flow_found true has_quoted_port quoted fits (mapped_none (λ _. QuotedPacket) (ipv4_place_refusal true has_quoted_port quoted) found) in
+    let of_quoted = flow_found true has_quoted_port quoted fits
+    (mapped_none (λ _. QuotedPacket) (ipv4_place_refusal true has_quoted_port quoted) found) in
     both_back new rule packet quoted proto of_quoted.0 of_proto of_quoted.1 is is_rule quotes range
 
 -- An accepted IPv4 packet is translated there and back, and its quoted packet by another rule. The result is the packet exactly if its
 -- checksums come back.
 pub ipv4_both_there_and_back : (has_port has_quoted_port : Bool) (new rule : Ipv4Translation) (packet : List ℕ) → IsBytes packet
-    → IsIpv4Translation new → IfSome (ipv4_quoted packet) (λ _. IsIpv4Translation rule) → ipv4_refusal_by has_port has_quoted_port packet ≡ None
-    → (ipv4_translated_with (ipv4_flow_back new (message_in_ipv4 false packet) packet) (ipv4_quoted_back (ipv4_quoted packet) rule) (ipv4_translated_with new rule packet) ≡ packet)
+    → IsIpv4Translation new → IfSome (ipv4_quoted packet) (λ _. IsIpv4Translation rule)
+    → ipv4_refusal_by has_port has_quoted_port packet ≡ None
+    → (ipv4_translated_with (ipv4_flow_back new (message_in_ipv4 false packet) packet) (ipv4_quoted_back (ipv4_quoted packet) rule)
+    (ipv4_translated_with new rule packet) ≡ packet)
     ↔ IsIpv4RestoredWith packet
 ipv4_both_there_and_back has_port has_quoted_port new rule packet fits is is_rule accepted =
     let after_place = none_first (ipv4_place_refusal false has_port packet) _ accepted in
@@ -663,7 +732,8 @@ ipv4_both_there_and_back has_port has_quoted_port new rule packet fits is is_rul
 
 -- ---- the translated packet is accepted again
 
-refusal_by : {E : Type 0} (first second third : Option E) → first ≡ None → second ≡ None → third ≡ None → first_of (first ∷ second ∷ third ∷ []) ≡ None
+refusal_by : {E : Type 0} (first second third : Option E) → first ≡ None → second ≡ None → third ≡ None
+    → first_of (first ∷ second ∷ third ∷ []) ≡ None
 refusal_by first second third is is_too is_three = last_of_three first second third is is_too ∙ is_three
 
 place_accepted : (is_quoted has_port : Bool) (packet : List ℕ) (proto : Option Proto) → IsIpv4Flow is_quoted packet proto
@@ -679,15 +749,18 @@ place_accepted is_quoted has_port packet proto flow covered =
     ∙ ap (by None 4 false) covered
 
 -- the protocol of a translated packet is accepted
-still_accepted : (is_quoted has_port : Bool) (new : Ipv4Translation) (packet message : List ℕ) (proto : Option Proto) (flow : IsIpv4Flow is_quoted packet proto)
+still_accepted : (is_quoted has_port : Bool) (new : Ipv4Translation) (packet message : List ℕ) (proto : Option Proto)
+    (flow : IsIpv4Flow is_quoted packet proto)
     (four : AreIpv4Addresses (ipv4_addresses new packet)) (same : length message ≡ length (message_in_ipv4 is_quoted packet))
     → is_refused has_port (ipv4_proto packet) (slice_index packet 9) ≡ false
     → is_refused has_port (ipv4_proto (ipv4_with_message new message packet)) (slice_index (ipv4_with_message new message packet) 9) ≡ false
 still_accepted is_quoted has_port new packet message proto flow four same covered =
-    ap (λ proto. is_refused has_port proto (slice_index (ipv4_with_message new message packet) 9)) (proto_is is_quoted new packet message proto flow four same)
+    ap (λ proto. is_refused has_port proto (slice_index (ipv4_with_message new message packet) 9))
+    (proto_is is_quoted new packet message proto flow four same)
     ∙ ap (is_refused has_port (ipv4_proto packet)) (number_is is_quoted new packet message proto flow four same) ∙ covered
 
-again_by : (has_port has_quoted_port : Bool) (quoted : Option (List ℕ)) (new rule : Ipv4Translation) (packet : List ℕ) (proto : Option Proto) → IsIpv4FlowOf false packet proto → IsIpv4Translation new
+again_by : (has_port has_quoted_port : Bool) (quoted : Option (List ℕ)) (new rule : Ipv4Translation) (packet : List ℕ)
+    (proto : Option Proto) → IsIpv4FlowOf false packet proto → IsIpv4Translation new
     → ipv4_message_refusal packet ≡ None → ipv4_quoted packet ≡ quoted → ipv4_quoted_refusal has_quoted_port quoted ≡ None
     → is_refused has_port (ipv4_proto packet) (slice_index packet 9) ≡ false
     → IfSome quoted (λ _. IsIpv4Translation rule)
@@ -702,11 +775,13 @@ again_by has_port has_quoted_port None new rule packet proto of_proto is accepte
     let message : List ℕ = ipv4_flow_message new (message_in_ipv4 false packet) packet in
     let same : length message ≡ length old = ipv4_flow_message_len new (message_in_ipv4 false packet) packet in
     let changed : List ℕ = ipv4_translated_flow new (message_in_ipv4 false packet) packet in
-    refusal_by (ipv4_place_refusal false has_port changed) (ipv4_message_refusal changed) (ipv4_quoted_refusal has_quoted_port (ipv4_quoted changed))
+    refusal_by (ipv4_place_refusal false has_port changed) (ipv4_message_refusal changed)
+    (ipv4_quoted_refusal has_quoted_port (ipv4_quoted changed))
     (place_accepted false has_port changed proto (flow_too false new packet message proto flow four same)
     (still_accepted false has_port new packet message proto flow four same covered))
     (refusal_is new packet message proto flow four same
-    ∙ ap (λ proto. message_refusal later proto (translated_in later proto removed added new.source_port new.destination_port old)) of_proto.known
+    ∙ ap (λ proto. message_refusal later proto (translated_in later proto removed added new.source_port new.destination_port old))
+    of_proto.known
     ∙ ports_accepted later proto removed added new.source_port new.destination_port old
     (sym (ap (λ proto. quoted_in later proto old) of_proto.known) ∙ quotes)
     (sym (ap (λ proto. message_refusal later proto old) of_proto.known) ∙ accepted))
@@ -717,28 +792,36 @@ again_by has_port has_quoted_port (Some quoted) new rule packet proto of_proto i
     let later : Bool = ipv4_is_later_fragment packet in
     let old : List ℕ = message_in_ipv4 false packet in
     let quotes_is : quoted_in later proto old ≡ Some quoted = sym (ap (λ proto. quoted_in later proto old) of_proto.known) ∙ quotes in
-    let accepted_is : message_refusal later proto old ≡ None = sym (ap (λ proto. message_refusal later proto old) of_proto.known) ∙ accepted in
+    let accepted_is : message_refusal later proto old ≡ None =
+    sym (ap (λ proto. message_refusal later proto old) of_proto.known) ∙ accepted in
     let range : IsRange old quoted = quoted_range later proto old quoted accepted_is quotes_is in
-    let of_quoted = flow_found true has_quoted_port quoted (quoted_bytes packet quoted of_proto.fits range) (mapped_none (λ _. QuotedPacket) (ipv4_place_refusal true has_quoted_port quoted) found) in
+    let of_quoted = flow_found true has_quoted_port quoted (quoted_bytes packet quoted of_proto.fits range)
+    (mapped_none (λ _. QuotedPacket) (ipv4_place_refusal true has_quoted_port quoted) found) in
     let quoted_flow : IsIpv4Flow true quoted of_quoted.0 = of_quoted.1.flow in
-    let quoted_four : AreIpv4Addresses (ipv4_addresses rule quoted) = new_addresses rule quoted is_rule (omega (arith, quoted_flow.five_words, quoted_flow.there)) in
+    let quoted_four : AreIpv4Addresses (ipv4_addresses rule quoted) =
+    new_addresses rule quoted is_rule (omega (arith, quoted_flow.five_words, quoted_flow.there)) in
     let translated : List ℕ = ipv4_translated_flow rule (message_in_ipv4 true quoted) quoted in
     let translated_len : length translated ≡ length quoted = flow_len true rule quoted of_quoted.0 quoted_flow quoted_four in
     let inner : List ℕ = ipv4_flow_message rule (message_in_ipv4 true quoted) quoted in
-    let inner_same : length inner ≡ length (message_in_ipv4 true quoted) = ipv4_flow_message_len rule (message_in_ipv4 true quoted) quoted in
+    let inner_same : length inner ≡ length (message_in_ipv4 true quoted) =
+    ipv4_flow_message_len rule (message_in_ipv4 true quoted) quoted in
     let message : List ℕ = ipv4_message_by (Some quoted) new rule packet in
     let same : length message ≡ length old = quote_len 0 0 quoted translated old (omega (arith, range.within, translated_len)) in
     let changed : List ℕ = ipv4_with_message new message packet in
-    refusal_by (ipv4_place_refusal false has_port changed) (ipv4_message_refusal changed) (ipv4_quoted_refusal has_quoted_port (ipv4_quoted changed))
+    refusal_by (ipv4_place_refusal false has_port changed) (ipv4_message_refusal changed)
+    (ipv4_quoted_refusal has_quoted_port (ipv4_quoted changed))
     (place_accepted false has_port changed proto (flow_too false new packet message proto flow four same)
     (still_accepted false has_port new packet message proto flow four same covered))
     (refusal_is new packet message proto flow four same ∙ ap (λ proto. message_refusal later proto message) of_proto.known
     ∙ error_accepted later proto 0 0 old quoted translated range translated_len quotes_is accepted_is)
-    (ap (ipv4_quoted_refusal has_quoted_port) (quoted_is new packet message proto flow four same ∙ ap (λ proto. quoted_in later proto message) of_proto.known
+    (ap (ipv4_quoted_refusal has_quoted_port)
+    (quoted_is new packet message proto flow four same ∙ ap (λ proto. quoted_in later proto message) of_proto.known
     ∙ quotes_translated later proto 0 0 old quoted translated range translated_len quotes_is)
-    ∙ ap (option_map (λ _. QuotedPacket)) (place_accepted true has_quoted_port translated of_quoted.0 (flow_too true rule quoted inner of_quoted.0 quoted_flow quoted_four inner_same)
+    ∙ ap (option_map (λ _. QuotedPacket)) (place_accepted true has_quoted_port translated of_quoted.0
+    (flow_too true rule quoted inner of_quoted.0 quoted_flow quoted_four inner_same)
     (still_accepted true has_quoted_port rule quoted inner of_quoted.0 quoted_flow quoted_four inner_same
-    (protocol_accepted true has_quoted_port quoted (mapped_none (λ _. QuotedPacket) (ipv4_place_refusal true has_quoted_port quoted) found)))))
+    (protocol_accepted true has_quoted_port quoted
+    (mapped_none (λ _. QuotedPacket) (ipv4_place_refusal true has_quoted_port quoted) found)))))
 
 -- a translated packet is accepted, so it can be translated again
 pub ipv4_again : (has_port has_quoted_port : Bool) (new rule : Ipv4Translation) (packet : List ℕ) → IsBytes packet → IsIpv4Translation new
@@ -749,4 +832,5 @@ ipv4_again has_port has_quoted_port new rule packet fits is is_rule accepted =
     let after_message = none_first (ipv4_message_refusal packet) _ after_place.1 in
     let of_proto = flow_found false has_port packet fits after_place.0 in
     again_by has_port has_quoted_port (ipv4_quoted packet) new rule packet of_proto.0 of_proto.1 is after_message.0 refl
-    (none_first (ipv4_quoted_refusal has_quoted_port (ipv4_quoted packet)) _ after_message.1).0 (protocol_accepted false has_port packet after_place.0) is_rule
+    (none_first (ipv4_quoted_refusal has_quoted_port (ipv4_quoted packet)) _ after_message.1).0
+    (protocol_accepted false has_port packet after_place.0) is_rule

@@ -148,9 +148,11 @@ restored_iff packet message proto flow same =
     let start : ℕ = ipv6_start packet in
     let old : List ℕ = message_in_ipv6 packet in
     let n : ℕ = counted_len (lacks_len packet) packet in
-    let there : start + length message ≤ length packet = omega (arith, same, flow.there, length-drop start (take n packet), length-take n packet) in (
+    let there : start + length message ≤ length packet =
+    omega (arith, same, flow.there, length-drop start (take n packet), length-take n packet) in (
       λ is.
-          sym (range_at start message packet there) ∙ ap (λ bytes. take (length message) (drop start bytes)) (sym (put_there start message packet there) ∙ is)
+          sym (range_at start message packet there)
+          ∙ ap (λ bytes. take (length message) (drop start bytes)) (sym (put_there start message packet there) ∙ is)
           ∙ ap (λ n. take n (drop start packet)) same ∙ message_there packet proto flow,
       λ is.
           ap (λ message. put start message packet) (is ∙ sym (message_there packet proto flow))
@@ -206,7 +208,8 @@ pub record IsIpv6FlowOf (packet : List ℕ) (proto : Option Proto) : Type 0 wher
   pub fits : IsBytes packet
 
 -- the addresses come back if the packet is translated back
-addresses_back : (new : Ipv6Translation) (packet message : List ℕ) (proto : Option Proto) → IsIpv6Flow packet proto → AreIpv6Addresses (ipv6_addresses new packet)
+addresses_back : (new : Ipv6Translation) (packet message : List ℕ) (proto : Option Proto) → IsIpv6Flow packet proto
+    → AreIpv6Addresses (ipv6_addresses new packet)
     → length message ≡ length (message_in_ipv6 packet)
     → ipv6_addresses (ipv6_flow_back new packet) (ipv6_with_message new message packet) ≡ ipv6_header_of packet
 addresses_back new packet message proto flow sixteen same =
@@ -216,21 +219,30 @@ addresses_back new packet message proto flow sixteen same =
       source = unwrap_or back.source header.source;
       destination = unwrap_or back.destination header.destination;
     }) (header_is new packet message proto flow sixteen same)
-    ∙ ap {B = Ipv6Header} (λ source. record { source = source; destination = unwrap_or back.destination (ipv6_addresses new packet).destination })
+    ∙ ap {B = Ipv6Header} (λ source. record {
+      source = source;
+      destination =
+          unwrap_or back.destination (ipv6_addresses new packet).destination;
+    })
     (address_back old.source new.source)
-    ∙ ap {B = Ipv6Header} (λ destination. record { source = old.source; destination = destination }) (address_back old.destination new.destination)
+    ∙ ap {B = Ipv6Header} (λ destination. record { source = old.source; destination = destination })
+    (address_back old.destination new.destination)
 
-flow_addresses : (new : Ipv6Translation) (packet : List ℕ) (proto : Option Proto) → IsIpv6Flow packet proto → AreIpv6Addresses (ipv6_addresses new packet)
+flow_addresses : (new : Ipv6Translation) (packet : List ℕ) (proto : Option Proto) → IsIpv6Flow packet proto
+    → AreIpv6Addresses (ipv6_addresses new packet)
     → ipv6_addresses (ipv6_flow_back new packet) (ipv6_translated_flow new packet) ≡ ipv6_header_of packet
 flow_addresses new packet proto flow sixteen =
     addresses_back new packet (ipv6_flow_message new packet) proto flow sixteen (ipv6_flow_message_len new packet)
 
 -- a translated packet has the length of the packet
-flow_len : (new : Ipv6Translation) (packet : List ℕ) (proto : Option Proto) → IsIpv6Flow packet proto → AreIpv6Addresses (ipv6_addresses new packet)
+flow_len : (new : Ipv6Translation) (packet : List ℕ) (proto : Option Proto) → IsIpv6Flow packet proto
+    → AreIpv6Addresses (ipv6_addresses new packet)
     → length (ipv6_translated_flow new packet) ≡ length packet
-flow_len new packet proto flow sixteen = (kept new packet (ipv6_flow_message new packet) proto flow sixteen (ipv6_flow_message_len new packet)).front.len
+flow_len new packet proto flow sixteen =
+    (kept new packet (ipv6_flow_message new packet) proto flow sixteen (ipv6_flow_message_len new packet)).front.len
 
-pub flow_restored : (new : Ipv6Translation) (packet : List ℕ) (proto : Option Proto) → IsIpv6FlowOf packet proto → AreIpv6Addresses (ipv6_addresses new packet)
+pub flow_restored : (new : Ipv6Translation) (packet : List ℕ) (proto : Option Proto) → IsIpv6FlowOf packet proto
+    → AreIpv6Addresses (ipv6_addresses new packet)
     → ArePorts new.source_port new.destination_port
     → (ipv6_translated_flow (ipv6_flow_back new packet) (ipv6_translated_flow new packet) ≡ packet) ↔ IsIpv6FlowRestored packet
 flow_restored new packet proto of_proto sixteen ports =
@@ -246,12 +258,14 @@ flow_restored new packet proto of_proto sixteen ports =
     subst AreIpv6Addresses (sym addresses_is) (addresses_there packet (header_there packet proto flow)) in
     let is_message : message_in_ipv6 changed ≡ message = message_is new packet message proto flow sixteen same in
     let message_too : List ℕ = ipv6_flow_message back changed in
-    let same_too : length message_too ≡ length (message_in_ipv6 packet) = ipv6_flow_message_len back changed ∙ ap length is_message ∙ same in
+    let same_too : length message_too ≡ length (message_in_ipv6 packet) =
+    ipv6_flow_message_len back changed ∙ ap length is_message ∙ same in
     let later : Bool = ipv6_is_later_fragment packet in
     let removed : ℕ = sum_of_ipv6 old in
     let added : ℕ = sum_of_ipv6 (ipv6_addresses new packet) in
     let with_ports : Option Proto → Option ℕ → Option ℕ → List ℕ = λ proto source destination.
-    translated_in later proto added removed source destination (translated_in later proto removed added new.source_port new.destination_port (message_in_ipv6 packet)) in
+    translated_in later proto added removed source destination
+    (translated_in later proto removed added new.source_port new.destination_port (message_in_ipv6 packet)) in
     let message_too_is : message_too ≡ with_ports proto (instead (port_in proto 0 (message_in_ipv6 packet)) new.source_port)
     (instead (port_in proto 2 (message_in_ipv6 packet)) new.destination_port) =
     ap (λ later. translated_in later (ipv6_proto changed) (sum_of_ipv6 (ipv6_header_of changed)) (sum_of_ipv6 (ipv6_addresses back changed))
@@ -260,7 +274,8 @@ flow_restored new packet proto of_proto sixteen ports =
     back.source_port back.destination_port (message_in_ipv6 changed)) (proto_is new packet message proto flow sixteen same)
     ∙ ap (λ header. translated_in later (ipv6_proto packet) (sum_of_ipv6 header) (sum_of_ipv6 (ipv6_addresses back changed))
     back.source_port back.destination_port (message_in_ipv6 changed)) is_header
-    ∙ ap (λ header. translated_in later (ipv6_proto packet) added (sum_of_ipv6 header) back.source_port back.destination_port (message_in_ipv6 changed)) addresses_is
+    ∙ ap (λ header. translated_in later (ipv6_proto packet) added (sum_of_ipv6 header) back.source_port back.destination_port
+    (message_in_ipv6 changed)) addresses_is
     ∙ ap (translated_in later (ipv6_proto packet) added removed back.source_port back.destination_port) is_message
     ∙ ap (λ proto. with_ports proto (instead (port_in proto 0 (message_in_ipv6 packet)) new.source_port)
     (instead (port_in proto 2 (message_in_ipv6 packet)) new.destination_port)) of_proto.known in
@@ -320,7 +335,8 @@ opposite_is new is =
       ports = record { source = is.ports.destination; destination = is.ports.source };
     }
 
-new_addresses : (new : Ipv6Translation) (packet : List ℕ) → IsIpv6Translation new → 40 ≤ length packet → AreIpv6Addresses (ipv6_addresses new packet)
+new_addresses : (new : Ipv6Translation) (packet : List ℕ) → IsIpv6Translation new → 40 ≤ length packet
+    → AreIpv6Addresses (ipv6_addresses new packet)
 new_addresses new packet is there =
     let old : AreIpv6Addresses (ipv6_header_of packet) = addresses_there packet there in
     record {
@@ -329,7 +345,8 @@ new_addresses new packet is there =
     }
 
 -- a translated packet quotes no packet if the packet quotes none
-still_none : (new : Ipv6Translation) (packet : List ℕ) (proto : Option Proto) (of_proto : IsIpv6FlowOf packet proto) → AreIpv6Addresses (ipv6_addresses new packet)
+still_none : (new : Ipv6Translation) (packet : List ℕ) (proto : Option Proto) (of_proto : IsIpv6FlowOf packet proto)
+    → AreIpv6Addresses (ipv6_addresses new packet)
     → ipv6_quoted packet ≡ None → ipv6_quoted (ipv6_translated_flow new packet) ≡ None
 still_none new packet proto of_proto sixteen none =
     let flow : IsIpv6Flow packet proto = of_proto.flow in
@@ -339,14 +356,16 @@ still_none new packet proto of_proto sixteen none =
     let old : ℕ = sum_of_ipv6 (ipv6_header_of packet) in
     let added : ℕ = sum_of_ipv6 (ipv6_addresses new packet) in
     quoted_is new packet message proto flow sixteen same
-    ∙ ap (λ proto. quoted_in later proto (translated_in later proto old added new.source_port new.destination_port (message_in_ipv6 packet))) of_proto.known
+    ∙ ap (λ proto. quoted_in later proto (translated_in later proto old added new.source_port new.destination_port
+    (message_in_ipv6 packet))) of_proto.known
     ∙ quotes_none later proto old added new.source_port new.destination_port (message_in_ipv6 packet)
     (sym (ap (λ proto. quoted_in later proto (message_in_ipv6 packet)) of_proto.known) ∙ none)
 
 -- the law for a packet that quotes no packet
 no_quote_back : (new : Ipv6Translation) (packet : List ℕ) (proto : Option Proto) → IsIpv6FlowOf packet proto → IsIpv6Translation new
     → ipv6_quoted packet ≡ None
-    → (ipv6_translated (ipv6_flow_back new packet) (ipv6_with_message new (ipv6_flow_message new packet) packet) ≡ packet) ↔ IsIpv6FlowRestored packet
+    → (ipv6_translated (ipv6_flow_back new packet) (ipv6_with_message new (ipv6_flow_message new packet) packet) ≡ packet)
+    ↔ IsIpv6FlowRestored packet
 no_quote_back new packet proto of_proto is none =
     let flow : IsIpv6Flow packet proto = of_proto.flow in
     let sixteen : AreIpv6Addresses (ipv6_addresses new packet) = new_addresses new packet is (header_there packet proto flow) in
@@ -358,7 +377,8 @@ no_quote_back new packet proto of_proto is none =
     (flow_restored new packet proto of_proto sixteen is.ports)
 
 -- the law for an ICMP error that quotes a packet
-error_back : (new : Ipv6Translation) (packet quoted : List ℕ) (proto quoted_proto : Option Proto) → IsIpv6FlowOf packet proto → IsIpv6FlowOf quoted quoted_proto
+error_back : (new : Ipv6Translation) (packet quoted : List ℕ) (proto quoted_proto : Option Proto) → IsIpv6FlowOf packet proto
+    → IsIpv6FlowOf quoted quoted_proto
     → IsIpv6Translation new → ipv6_quoted packet ≡ Some quoted → IsRange (message_in_ipv6 packet) quoted
     → (ipv6_translated (ipv6_opposite (ipv6_flow_back (ipv6_opposite new) quoted))
     (ipv6_with_message new (ipv6_message_with (Some quoted) new packet) packet) ≡ packet) ↔ IsIpv6ErrorRestored new packet quoted
@@ -373,19 +393,22 @@ error_back new packet quoted proto quoted_proto of_proto of_quoted is quotes ran
     let inner : Ipv6Header = ipv6_header_of quoted in
     let inner_sixteen : AreIpv6Addresses inner = addresses_there quoted quoted_room in
     let opposite : Ipv6Translation = ipv6_opposite new in
-    let quoted_sixteen : AreIpv6Addresses (ipv6_addresses opposite quoted) = new_addresses opposite quoted (opposite_is new is) quoted_room in
+    let quoted_sixteen : AreIpv6Addresses (ipv6_addresses opposite quoted) =
+    new_addresses opposite quoted (opposite_is new is) quoted_room in
     let quoted_back : Ipv6Translation = ipv6_flow_back opposite quoted in
     let back : Ipv6Translation = ipv6_opposite quoted_back in
     let translated : List ℕ = ipv6_translated_flow opposite quoted in
     let translated_len : length translated ≡ length quoted = flow_len opposite quoted quoted_proto quoted_flow quoted_sixteen in
     let translated_flow : IsIpv6Flow translated quoted_proto =
-    flow_too opposite quoted (ipv6_flow_message opposite quoted) quoted_proto quoted_flow quoted_sixteen (ipv6_flow_message_len opposite quoted) in
+    flow_too opposite quoted (ipv6_flow_message opposite quoted) quoted_proto quoted_flow quoted_sixteen
+    (ipv6_flow_message_len opposite quoted) in
     let restored : List ℕ = ipv6_translated_flow quoted_back translated in
     let old_message : List ℕ = message_in_ipv6 packet in
     let removed : ℕ = sum_of_ipv6 old in
     let added : ℕ = sum_of_ipv6 (ipv6_addresses new packet) in
     let message : List ℕ = ipv6_message_with (Some quoted) new packet in
-    let same : length message ≡ length old_message = quote_len removed added quoted translated old_message (omega (arith, range.within, translated_len)) in
+    let same : length message ≡ length old_message =
+    quote_len removed added quoted translated old_message (omega (arith, range.within, translated_len)) in
     let changed : List ℕ = ipv6_with_message new message packet in
     let later : Bool = ipv6_is_later_fragment packet in
     let is_message : message_in_ipv6 changed ≡ message = message_is new packet message proto flow sixteen same in
@@ -416,19 +439,25 @@ error_back new packet quoted proto quoted_proto of_proto of_quoted is quotes ran
         (address_iff old.destination inner.source new.destination).0 (ap (λ header. header.destination) alike),
       ),
       λ both.
-          ap {B = Ipv6Header} (λ source. record { source = source; destination = unwrap_or back.destination (ipv6_addresses new packet).destination })
+          ap {B = Ipv6Header} (λ source. record {
+            source = source;
+            destination =
+                unwrap_or back.destination (ipv6_addresses new packet).destination;
+          })
           ((address_iff old.source inner.destination new.source).1 both.0)
           ∙ ap {B = Ipv6Header} (λ destination. record { source = old.source; destination = destination })
           ((address_iff old.destination inner.source new.destination).1 both.1),
     ) in
     let restored_len : length restored ≡ length quoted =
     flow_len quoted_back translated quoted_proto translated_flow
-    (subst AreIpv6Addresses (sym (flow_addresses opposite quoted quoted_proto quoted_flow quoted_sixteen)) inner_sixteen) ∙ translated_len in
+    (subst AreIpv6Addresses (sym (flow_addresses opposite quoted quoted_proto quoted_flow quoted_sixteen)) inner_sixteen)
+    ∙ translated_len in
     let removed_too : ℕ = sum_of_ipv6 (ipv6_addresses back changed) in
     let message_too : List ℕ = with_quote added removed_too translated restored message in
     let same_too : length message_too ≡ length old_message =
     quote_len added removed_too translated restored message (omega (arith, range.within, restored_len, same)) ∙ same in
-    let fits : IsBytes old_message = bytes_drop (ipv6_start packet) _ (bytes_take (counted_len (lacks_len packet) packet) packet of_proto.fits) in
+    let fits : IsBytes old_message =
+    bytes_drop (ipv6_start packet) _ (bytes_take (counted_len (lacks_len packet) packet) packet of_proto.fits) in
     let quotes_iff = quote_back removed added quoted translated restored old_message fits range translated_len restored_len in
     let flow_iff = flow_restored opposite quoted quoted_proto of_quoted quoted_sixteen (opposite_is new is).ports in
     let bytes_iff = bytes_back new back packet message message_too proto flow sixteen same sixteen_too same_too in
@@ -436,7 +465,8 @@ error_back new packet quoted proto quoted_proto of_proto of_quoted is quotes ran
     ap (λ header. with_quote added (sum_of_ipv6 header) translated restored message) alike in
     iff_along (ipv6_translated back changed) (ipv6_with_message back message_too changed) packet
     (ap (λ quoted. ipv6_with_message back (ipv6_message_with quoted back changed) changed) quotes_too
-    ∙ ap (λ header. ipv6_with_message back (with_quote (sum_of_ipv6 header) removed_too translated restored (message_in_ipv6 changed)) changed) is_header
+    ∙ ap (λ header. ipv6_with_message back (with_quote (sum_of_ipv6 header) removed_too translated restored
+    (message_in_ipv6 changed)) changed) is_header
     ∙ ap (λ message. ipv6_with_message back (with_quote added removed_too translated restored message) changed) is_message) (
       λ whole.
           let parts = bytes_iff.0 whole in
@@ -460,7 +490,8 @@ quoted_bytes packet quoted fits range =
     (bytes_drop (ipv6_start packet) _ (bytes_take (counted_len (lacks_len packet) packet) packet fits))))
 
 -- the law for any accepted packet, given the packet that it quotes
-back_by : (has_quoted_port : Bool) (quoted : Option (List ℕ)) (new : Ipv6Translation) (packet : List ℕ) (proto : Option Proto) → IsIpv6FlowOf packet proto → IsIpv6Translation new
+back_by : (has_quoted_port : Bool) (quoted : Option (List ℕ)) (new : Ipv6Translation) (packet : List ℕ) (proto : Option Proto)
+    → IsIpv6FlowOf packet proto → IsIpv6Translation new
     → ipv6_message_refusal packet ≡ None → ipv6_quoted packet ≡ quoted → ipv6_quoted_refusal has_quoted_port quoted ≡ None
     → (ipv6_translated (ipv6_back_by quoted new packet) (ipv6_with_message new (ipv6_message_with quoted new packet) packet) ≡ packet)
     ↔ IsIpv6RestoredBy quoted new packet
@@ -472,11 +503,13 @@ back_by has_quoted_port (Some quoted) new packet proto of_proto is accepted quot
     quoted_range later proto message quoted (sym (ap (λ proto. message_refusal later proto message) of_proto.known) ∙ accepted)
     (sym (ap (λ proto. quoted_in later proto message) of_proto.known) ∙ quotes) in
     let fits : IsBytes quoted = quoted_bytes packet quoted of_proto.fits range in
-    let of_quoted = flow_found has_quoted_port quoted fits (mapped_none (λ _. QuotedPacket) (ipv6_place_refusal has_quoted_port quoted) found) in
+    let of_quoted = flow_found has_quoted_port quoted fits
+    (mapped_none (λ _. QuotedPacket) (ipv6_place_refusal has_quoted_port quoted) found) in
     error_back new packet quoted proto of_quoted.0 of_proto of_quoted.1 is quotes range
 
 -- An accepted IPv6 packet is translated there and back. The result is the packet exactly if its checksums come back.
-pub ipv6_there_and_back : (has_port has_quoted_port : Bool) (new : Ipv6Translation) (packet : List ℕ) → IsBytes packet → IsIpv6Translation new
+pub ipv6_there_and_back : (has_port has_quoted_port : Bool) (new : Ipv6Translation) (packet : List ℕ) → IsBytes packet
+    → IsIpv6Translation new
     → ipv6_refusal_by has_port has_quoted_port packet ≡ None
     → (ipv6_translated (ipv6_way_back new packet) (ipv6_translated new packet) ≡ packet) ↔ IsIpv6Restored new packet
 ipv6_there_and_back has_port has_quoted_port new packet fits is accepted =
@@ -513,7 +546,8 @@ both_back new rule packet quoted proto quoted_proto of_proto of_quoted is is_rul
     let removed : ℕ = sum_of_ipv6 old in
     let added : ℕ = sum_of_ipv6 (ipv6_addresses new packet) in
     let message : List ℕ = ipv6_message_by (Some quoted) new rule packet in
-    let same : length message ≡ length old_message = quote_len removed added quoted translated old_message (omega (arith, range.within, translated_len)) in
+    let same : length message ≡ length old_message =
+    quote_len removed added quoted translated old_message (omega (arith, range.within, translated_len)) in
     let changed : List ℕ = ipv6_with_message new message packet in
     let later : Bool = ipv6_is_later_fragment packet in
     let is_message : message_in_ipv6 changed ≡ message = message_is new packet message proto flow sixteen same in
@@ -523,16 +557,19 @@ both_back new rule packet quoted proto quoted_proto of_proto of_quoted is is_rul
     ∙ quotes_translated later proto removed added old_message quoted translated range translated_len
     (sym (ap (λ proto. quoted_in later proto old_message) of_proto.known) ∙ quotes) in
     let addresses_is : ipv6_addresses back changed ≡ old = addresses_back new packet message proto flow sixteen same in
-    let sixteen_too : AreIpv6Addresses (ipv6_addresses back changed) = subst AreIpv6Addresses (sym addresses_is) (addresses_there packet room) in
+    let sixteen_too : AreIpv6Addresses (ipv6_addresses back changed) =
+    subst AreIpv6Addresses (sym addresses_is) (addresses_there packet room) in
     let restored_len : length restored ≡ length quoted =
     flow_len quoted_back translated quoted_proto translated_flow
-    (subst AreIpv6Addresses (sym (flow_addresses rule quoted quoted_proto quoted_flow quoted_sixteen)) (addresses_there quoted quoted_room)) ∙ translated_len in
+    (subst AreIpv6Addresses (sym (flow_addresses rule quoted quoted_proto quoted_flow quoted_sixteen)) (addresses_there quoted quoted_room))
+    ∙ translated_len in
     let is_header : ipv6_header_of changed ≡ ipv6_addresses new packet = header_is new packet message proto flow sixteen same in
     let removed_too : ℕ = sum_of_ipv6 (ipv6_addresses back changed) in
     let message_too : List ℕ = with_quote added removed_too translated restored message in
     let same_too : length message_too ≡ length old_message =
     quote_len added removed_too translated restored message (omega (arith, range.within, restored_len, same)) ∙ same in
-    let fits : IsBytes old_message = bytes_drop (ipv6_start packet) _ (bytes_take (counted_len (lacks_len packet) packet) packet of_proto.fits) in
+    let fits : IsBytes old_message =
+    bytes_drop (ipv6_start packet) _ (bytes_take (counted_len (lacks_len packet) packet) packet of_proto.fits) in
     let quotes_iff = quote_back removed added quoted translated restored old_message fits range translated_len restored_len in
     let flow_iff = flow_restored rule quoted quoted_proto of_quoted quoted_sixteen is_rule.ports in
     let bytes_iff = bytes_back new back packet message message_too proto flow sixteen same sixteen_too same_too in
@@ -540,7 +577,8 @@ both_back new rule packet quoted proto quoted_proto of_proto of_quoted is is_rul
     ap (λ header. with_quote added (sum_of_ipv6 header) translated restored message) addresses_is in
     iff_along (ipv6_translated_with back quoted_back changed) (ipv6_with_message back message_too changed) packet
     (ap (λ quoted. ipv6_with_message back (ipv6_message_by quoted back quoted_back changed) changed) quotes_too
-    ∙ ap (λ header. ipv6_with_message back (with_quote (sum_of_ipv6 header) removed_too translated restored (message_in_ipv6 changed)) changed) is_header
+    ∙ ap (λ header. ipv6_with_message back (with_quote (sum_of_ipv6 header) removed_too translated restored
+    (message_in_ipv6 changed)) changed) is_header
     ∙ ap (λ message. ipv6_with_message back (with_quote added removed_too translated restored message) changed) is_message) (
       λ whole.
           let quotes = quotes_iff.0 (sym message_too_is ∙ (bytes_iff.0 whole).1) in
@@ -572,14 +610,17 @@ both_back_by has_quoted_port (Some quoted) new rule packet proto of_proto is acc
     quoted_range later proto message quoted (sym (ap (λ proto. message_refusal later proto message) of_proto.known) ∙ accepted)
     (sym (ap (λ proto. quoted_in later proto message) of_proto.known) ∙ quotes) in
     let fits : IsBytes quoted = quoted_bytes packet quoted of_proto.fits range in
-    let of_quoted = flow_found has_quoted_port quoted fits (mapped_none (λ _. QuotedPacket) (ipv6_place_refusal has_quoted_port quoted) found) in
+    let of_quoted = flow_found has_quoted_port quoted fits
+    (mapped_none (λ _. QuotedPacket) (ipv6_place_refusal has_quoted_port quoted) found) in
     both_back new rule packet quoted proto of_quoted.0 of_proto of_quoted.1 is is_rule quotes range
 
 -- An accepted IPv6 packet is translated there and back, and its quoted packet by another rule. The result is the packet exactly if its
 -- checksums come back.
 pub ipv6_both_there_and_back : (has_port has_quoted_port : Bool) (new rule : Ipv6Translation) (packet : List ℕ) → IsBytes packet
-    → IsIpv6Translation new → IfSome (ipv6_quoted packet) (λ _. IsIpv6Translation rule) → ipv6_refusal_by has_port has_quoted_port packet ≡ None
-    → (ipv6_translated_with (ipv6_flow_back new packet) (ipv6_quoted_back (ipv6_quoted packet) rule) (ipv6_translated_with new rule packet) ≡ packet)
+    → IsIpv6Translation new → IfSome (ipv6_quoted packet) (λ _. IsIpv6Translation rule)
+    → ipv6_refusal_by has_port has_quoted_port packet ≡ None
+    → (ipv6_translated_with (ipv6_flow_back new packet) (ipv6_quoted_back (ipv6_quoted packet) rule) (ipv6_translated_with new rule packet)
+    ≡ packet)
     ↔ IsIpv6RestoredWith packet
 ipv6_both_there_and_back has_port has_quoted_port new rule packet fits is is_rule accepted =
     let after_place = none_first (ipv6_place_refusal has_port packet) _ accepted in
@@ -590,7 +631,8 @@ ipv6_both_there_and_back has_port has_quoted_port new rule packet fits is is_rul
 
 -- ---- the translated packet is accepted again
 
-refusal_by : {E : Type 0} (first second third : Option E) → first ≡ None → second ≡ None → third ≡ None → first_of (first ∷ second ∷ third ∷ []) ≡ None
+refusal_by : {E : Type 0} (first second third : Option E) → first ≡ None → second ≡ None → third ≡ None
+    → first_of (first ∷ second ∷ third ∷ []) ≡ None
 refusal_by first second third is is_too is_three = last_of_three first second third is is_too ∙ is_three
 
 place_accepted : (has_port : Bool) (packet : List ℕ) (proto : Option Proto) → IsIpv6Flow packet proto
@@ -610,10 +652,12 @@ still_accepted : (has_port : Bool) (new : Ipv6Translation) (packet message : Lis
     → is_refused has_port (ipv6_proto packet) (ipv6_protocol packet) ≡ false
     → is_refused has_port (ipv6_proto (ipv6_with_message new message packet)) (ipv6_protocol (ipv6_with_message new message packet)) ≡ false
 still_accepted has_port new packet message proto flow sixteen same covered =
-    ap (λ proto. is_refused has_port proto (ipv6_protocol (ipv6_with_message new message packet))) (proto_is new packet message proto flow sixteen same)
+    ap (λ proto. is_refused has_port proto (ipv6_protocol (ipv6_with_message new message packet)))
+    (proto_is new packet message proto flow sixteen same)
     ∙ ap (is_refused has_port (ipv6_proto packet)) (number_is new packet message proto flow sixteen same) ∙ covered
 
-again_by : (has_port has_quoted_port : Bool) (quoted : Option (List ℕ)) (new rule : Ipv6Translation) (packet : List ℕ) (proto : Option Proto) → IsIpv6FlowOf packet proto → IsIpv6Translation new
+again_by : (has_port has_quoted_port : Bool) (quoted : Option (List ℕ)) (new rule : Ipv6Translation) (packet : List ℕ)
+    (proto : Option Proto) → IsIpv6FlowOf packet proto → IsIpv6Translation new
     → ipv6_message_refusal packet ≡ None → ipv6_quoted packet ≡ quoted → ipv6_quoted_refusal has_quoted_port quoted ≡ None
     → is_refused has_port (ipv6_proto packet) (ipv6_protocol packet) ≡ false
     → IfSome quoted (λ _. IsIpv6Translation rule)
@@ -628,11 +672,13 @@ again_by has_port has_quoted_port None new rule packet proto of_proto is accepte
     let message : List ℕ = ipv6_flow_message new packet in
     let same : length message ≡ length old = ipv6_flow_message_len new packet in
     let changed : List ℕ = ipv6_translated_flow new packet in
-    refusal_by (ipv6_place_refusal has_port changed) (ipv6_message_refusal changed) (ipv6_quoted_refusal has_quoted_port (ipv6_quoted changed))
+    refusal_by (ipv6_place_refusal has_port changed) (ipv6_message_refusal changed)
+    (ipv6_quoted_refusal has_quoted_port (ipv6_quoted changed))
     (place_accepted has_port changed proto (flow_too new packet message proto flow sixteen same)
     (still_accepted has_port new packet message proto flow sixteen same covered))
     (refusal_is new packet message proto flow sixteen same
-    ∙ ap (λ proto. message_refusal later proto (translated_in later proto removed added new.source_port new.destination_port old)) of_proto.known
+    ∙ ap (λ proto. message_refusal later proto (translated_in later proto removed added new.source_port new.destination_port old))
+    of_proto.known
     ∙ ports_accepted later proto removed added new.source_port new.destination_port old
     (sym (ap (λ proto. quoted_in later proto old) of_proto.known) ∙ quotes)
     (sym (ap (λ proto. message_refusal later proto old) of_proto.known) ∙ accepted))
@@ -643,26 +689,36 @@ again_by has_port has_quoted_port (Some quoted) new rule packet proto of_proto i
     let later : Bool = ipv6_is_later_fragment packet in
     let old : List ℕ = message_in_ipv6 packet in
     let quotes_is : quoted_in later proto old ≡ Some quoted = sym (ap (λ proto. quoted_in later proto old) of_proto.known) ∙ quotes in
-    let accepted_is : message_refusal later proto old ≡ None = sym (ap (λ proto. message_refusal later proto old) of_proto.known) ∙ accepted in
+    let accepted_is : message_refusal later proto old ≡ None =
+    sym (ap (λ proto. message_refusal later proto old) of_proto.known) ∙ accepted in
     let range : IsRange old quoted = quoted_range later proto old quoted accepted_is quotes_is in
-    let of_quoted = flow_found has_quoted_port quoted (quoted_bytes packet quoted of_proto.fits range) (mapped_none (λ _. QuotedPacket) (ipv6_place_refusal has_quoted_port quoted) found) in
+    let of_quoted = flow_found has_quoted_port quoted (quoted_bytes packet quoted of_proto.fits range)
+    (mapped_none (λ _. QuotedPacket) (ipv6_place_refusal has_quoted_port quoted) found) in
     let quoted_flow : IsIpv6Flow quoted of_quoted.0 = of_quoted.1.flow in
-    let quoted_sixteen : AreIpv6Addresses (ipv6_addresses rule quoted) = new_addresses rule quoted is_rule (header_there quoted of_quoted.0 quoted_flow) in
+    let quoted_sixteen : AreIpv6Addresses (ipv6_addresses rule quoted) =
+    new_addresses rule quoted is_rule (header_there quoted of_quoted.0 quoted_flow) in
     let translated : List ℕ = ipv6_translated_flow rule quoted in
     let translated_len : length translated ≡ length quoted = flow_len rule quoted of_quoted.0 quoted_flow quoted_sixteen in
     let inner : List ℕ = ipv6_flow_message rule quoted in
     let inner_same : length inner ≡ length (message_in_ipv6 quoted) = ipv6_flow_message_len rule quoted in
     let message : List ℕ = ipv6_message_by (Some quoted) new rule packet in
-    let same : length message ≡ length old = quote_len (sum_of_ipv6 (ipv6_header_of packet)) (sum_of_ipv6 (ipv6_addresses new packet)) quoted translated old (omega (arith, range.within, translated_len)) in
+    let same : length message ≡ length old =
+    quote_len (sum_of_ipv6 (ipv6_header_of packet)) (sum_of_ipv6 (ipv6_addresses new packet)) quoted translated old
+    (omega (arith, range.within, translated_len)) in
     let changed : List ℕ = ipv6_with_message new message packet in
-    refusal_by (ipv6_place_refusal has_port changed) (ipv6_message_refusal changed) (ipv6_quoted_refusal has_quoted_port (ipv6_quoted changed))
+    refusal_by (ipv6_place_refusal has_port changed) (ipv6_message_refusal changed)
+    (ipv6_quoted_refusal has_quoted_port (ipv6_quoted changed))
     (place_accepted has_port changed proto (flow_too new packet message proto flow sixteen same)
     (still_accepted has_port new packet message proto flow sixteen same covered))
     (refusal_is new packet message proto flow sixteen same ∙ ap (λ proto. message_refusal later proto message) of_proto.known
-    ∙ error_accepted later proto (sum_of_ipv6 (ipv6_header_of packet)) (sum_of_ipv6 (ipv6_addresses new packet)) old quoted translated range translated_len quotes_is accepted_is)
-    (ap (ipv6_quoted_refusal has_quoted_port) (quoted_is new packet message proto flow sixteen same ∙ ap (λ proto. quoted_in later proto message) of_proto.known
-    ∙ quotes_translated later proto (sum_of_ipv6 (ipv6_header_of packet)) (sum_of_ipv6 (ipv6_addresses new packet)) old quoted translated range translated_len quotes_is)
-    ∙ ap (option_map (λ _. QuotedPacket)) (place_accepted has_quoted_port translated of_quoted.0 (flow_too rule quoted inner of_quoted.0 quoted_flow quoted_sixteen inner_same)
+    ∙ error_accepted later proto (sum_of_ipv6 (ipv6_header_of packet))
+    (sum_of_ipv6 (ipv6_addresses new packet)) old quoted translated range translated_len quotes_is accepted_is)
+    (ap (ipv6_quoted_refusal has_quoted_port)
+    (quoted_is new packet message proto flow sixteen same ∙ ap (λ proto. quoted_in later proto message) of_proto.known
+    ∙ quotes_translated later proto (sum_of_ipv6 (ipv6_header_of packet))
+    (sum_of_ipv6 (ipv6_addresses new packet)) old quoted translated range translated_len quotes_is)
+    ∙ ap (option_map (λ _. QuotedPacket)) (place_accepted has_quoted_port translated of_quoted.0
+    (flow_too rule quoted inner of_quoted.0 quoted_flow quoted_sixteen inner_same)
     (still_accepted has_quoted_port rule quoted inner of_quoted.0 quoted_flow quoted_sixteen inner_same
     (protocol_accepted has_quoted_port quoted (mapped_none (λ _. QuotedPacket) (ipv6_place_refusal has_quoted_port quoted) found)))))
 
@@ -675,4 +731,5 @@ ipv6_again has_port has_quoted_port new rule packet fits is is_rule accepted =
     let after_message = none_first (ipv6_message_refusal packet) _ after_place.1 in
     let of_proto = flow_found has_port packet fits after_place.0 in
     again_by has_port has_quoted_port (ipv6_quoted packet) new rule packet of_proto.0 of_proto.1 is after_message.0 refl
-    (none_first (ipv6_quoted_refusal has_quoted_port (ipv6_quoted packet)) _ after_message.1).0 (protocol_accepted has_port packet after_place.0) is_rule
+    (none_first (ipv6_quoted_refusal has_quoted_port (ipv6_quoted packet)) _ after_message.1).0
+    (protocol_accepted has_port packet after_place.0) is_rule

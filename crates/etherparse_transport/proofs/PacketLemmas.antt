@@ -86,7 +86,8 @@ not_missing true lacks shows states = absurd (cc (shows refl, states))
 has_length : (packet : List ℕ) (found : TransportInIp) → lacks_len packet ≡ false → Carries packet found → found.is_length_missing ≡ false
 has_length packet found states carries = not_missing found.is_length_missing (lacks_len packet) carries.is_length_missing states
 
-not_cut_off : (packet : List ℕ) (found : TransportInIp) → lacks_len packet ≡ false → counted_len false packet ≤ length packet → Carries packet found
+not_cut_off : (packet : List ℕ) (found : TransportInIp) → lacks_len packet ≡ false → counted_len false packet ≤ length packet
+    → Carries packet found
     → found.is_cut_off ≡ false
 not_cut_off packet found states there carries =
     let cut : is_cut_off false packet ≡ false = grind (arith, nat_tests) in
@@ -124,7 +125,8 @@ ipv4_accepted packet is five there long =
 ipv4_states : (packet : List ℕ) → version packet ≡ 4 → 20 ≤ total_len packet → lacks_len packet ≡ false
 ipv4_states packet is long =
     let stated : (total_len packet == 0) ≡ false = grind (arith, nat_tests) in
-    ap (λ v. is_none (if v == 4 then ipv4_stated_len packet else ipv6_stated_len (jumbo_len packet) (payload_len packet) (next_header packet))) is
+    ap (λ v. is_none (if v == 4 then ipv4_stated_len packet
+    else ipv6_stated_len (jumbo_len packet) (payload_len packet) (next_header packet))) is
     ∙ ap (λ zero. is_none (if zero then None else Some (total_len packet))) stated
 
 pub no_options : (bytes : List ℕ) (options : List (List ℕ)) → bytes ≡ [] → AreOptions ipv4_option bytes options → options ≡ []
@@ -157,7 +159,8 @@ front_of_ipv4 start time_to_live protocol checksum_high checksum_low source dest
 
 pub over_ipv4_addresses : (header source destination : List ℕ) (options : List (List ℕ)) (found : Addresses)
     → slice_range header 12 16 ≡ source → slice_range header 16 20 ≡ destination → options ≡ []
-    → found ≡ addresses.Ipv4 (slice_range header 12 16) (ipv4_destination_by (slice_range header 16 20) options) → found ≡ addresses.Ipv4 source destination
+    → found ≡ addresses.Ipv4 (slice_range header 12 16) (ipv4_destination_by (slice_range header 16 20) options)
+    → found ≡ addresses.Ipv4 source destination
 over_ipv4_addresses header source destination options found is_source is_destination none is =
     is
     ∙ ap (λ options. addresses.Ipv4 (slice_range header 12 16) (ipv4_destination_by (slice_range header 16 20) options)) none
@@ -188,20 +191,25 @@ message_over_ipv4 start time_to_live protocol checksum_high checksum_low source 
     let counts_too : counted_len false packet ≡ 20 + length message = counts in
     let there : counted_len false packet ≤ length packet = omega (arith, counts_too, after_len) in
     let states : lacks_len packet ≡ false = ipv4_states packet refl (omega (arith, counts)) in
-    let says : (found : TransportInIp) → Carries packet found → IsOverIpv4 packet found = λ found carries. over_ipv4 packet found refl carries in
+    let says : (found : TransportInIp) → Carries packet found → IsOverIpv4 packet found =
+    λ found carries. over_ipv4 packet found refl carries in
     let offset : ℕ = ipv4_fragment_offset (start_bytes start) in
     let last : is_extended (first_headers packet) ≡ false = ap (λ b. (b && (offset == 0)) && is_extension protocol) other in
     let none : has_authentication (ip.ipv4_header packet) ≡ false = ap (λ b. b && (offset == 0)) other in
     let nothing : drop 20 (ip.ipv4_header packet) ≡ [] = ap (drop 20) header_is ∙ drop_two 4 source destination len len_too in
-    let is_source : slice_range (ip.ipv4_header packet) 12 16 ≡ source = ap (λ bytes. slice_range bytes 12 16) header_is ∙ take_source 4 source destination len in
+    let is_source : slice_range (ip.ipv4_header packet) 12 16 ≡ source =
+    ap (λ bytes. slice_range bytes 12 16) header_is ∙ take_source 4 source destination len in
     let is_destination : slice_range (ip.ipv4_header packet) 16 20 ≡ destination =
     ap (λ bytes. slice_range bytes 16 20) header_is ∙ take_destination 4 source destination len len_too in
     let bytes_are : drop 20 (ip.counted false packet) ≡ message =
-    ap (λ n. drop 20 (take n packet)) counts ∙ message_between 20 (20 + length message) header message padding (omega (arith, addresses_len)) refl in
+    ap (λ n. drop 20 (take n packet)) counts ∙ message_between 20 (20 + length message) header message padding (omega
+    (arith, addresses_len)) refl in
     record {
-      accepted = accepted_packet packet (ipv4_accepted packet refl refl (omega (arith, after_len)) (omega (arith, counts))) states there last;
+      accepted = accepted_packet packet (ipv4_accepted packet refl refl (omega (arith, after_len))
+          (omega (arith, counts))) states there last;
       addresses = λ found carries.
-          over_ipv4_addresses (ip.ipv4_header packet) source destination (says found carries).options (by_value found.addresses) is_source is_destination
+          over_ipv4_addresses (ip.ipv4_header packet) source destination (says found carries).options
+          (by_value found.addresses) is_source is_destination
           (no_options (drop 20 (ip.ipv4_header packet)) (says found carries).options nothing (says found carries).are_options)
           (says found carries).addresses;
       protocol = λ found carries.
@@ -209,12 +217,14 @@ message_over_ipv4 start time_to_live protocol checksum_high checksum_low source 
           ∙ ap (λ has. if has then next_number (after_ipv4_header found.is_length_missing packet) else protocol) none;
       message = λ found carries.
           (says found carries).payload
-          ∙ ap (λ has. if has then drop (extension_len 51 (after_ipv4_header found.is_length_missing packet)) (after_ipv4_header found.is_length_missing packet)
+          ∙ ap (λ has. if has then drop (extension_len 51 (after_ipv4_header found.is_length_missing packet))
+          (after_ipv4_header found.is_length_missing packet)
           else after_ipv4_header found.is_length_missing packet) none
           ∙ ap (λ missing. drop 20 (if missing then packet else take (total_len packet) packet)) (has_length packet found states carries)
           ∙ bytes_are;
       is_fragment = λ found carries. (says found carries).is_fragment ∙ part;
-      is_later_fragment = λ found carries. (says found carries).is_later_fragment ∙ no_offset (flag (start_bytes start) 6 0x20) (offset == 0) part;
+      is_later_fragment = λ found carries. (says found carries).is_later_fragment ∙ no_offset (flag (start_bytes start) 6 0x20) (offset
+          == 0) part;
       is_cut_off = λ found carries. not_cut_off packet found states there carries;
       is_length_missing = λ found carries. has_length packet found states carries;
       headers = first_headers packet;
@@ -238,7 +248,8 @@ ipv4_header_verifies start time_to_live protocol source destination after len le
     let header_is : ip.ipv4_header (ipv4_header (start_bytes start) time_to_live protocol source destination ++ after)
     ≡ ipv4_header (start_bytes start) time_to_live protocol source destination =
     front_of_ipv4 start time_to_live protocol _ _ source destination after len len_too in
-    let sums : 0 + total (ipv4_header (start_bytes start) time_to_live protocol source destination) ≡ sum + checksum_of sum = omega (arith, small) in
+    let sums : 0 + total (ipv4_header (start_bytes start) time_to_live protocol source destination) ≡ sum + checksum_of sum =
+    omega (arith, small) in
     ap (λ bytes. folded (0 + total bytes)) header_is ∙ ap folded sums ∙ checksum_verifies sum (checksum_of sum) refl
 
 -- ---- IPv6
@@ -278,9 +289,11 @@ ipv6_accepted packet is there some =
 
 ipv6_states : (packet : List ℕ) → version packet ≡ 6 → 0 < payload_len packet → lacks_len packet ≡ false
 ipv6_states packet is some =
-    ap (λ v. is_none (if v == 4 then ipv4_stated_len packet else ipv6_stated_len (jumbo_len packet) (payload_len packet) (next_header packet))) is
+    ap (λ v. is_none (if v == 4 then ipv4_stated_len packet
+    else ipv6_stated_len (jumbo_len packet) (payload_len packet) (next_header packet))) is
     ∙ ap (λ jumbo. is_none (ipv6_stated_len jumbo (payload_len packet) (next_header packet))) (no_jumbo_len packet some)
-    ∙ ap (λ zero. is_none (if zero && not (next_header packet == 59) then None else Some (40 + payload_len packet))) (payload_len_counts packet some)
+    ∙ ap (λ zero. is_none (if zero && not (next_header packet == 59) then None else Some (40 + payload_len packet)))
+    (payload_len_counts packet some)
 
 pub message_over_ipv6 : (start : StartIpv6) (next_header hop_limit : ℕ) (source destination message padding : List ℕ)
     → length source ≡ 16 → length destination ≡ 16 → start.first / 16 ≡ 6 → start.len_high * 256 + start.len_low ≡ length message
@@ -306,7 +319,8 @@ message_over_ipv6 start number hop_limit source destination message padding len 
     let ends : is_extended (first_headers packet) ≡ false =
     ap (λ v. is_extended (if v == 4 then ipv4_headers (ipv4_header_len packet) (ip.ipv4_header packet)
     else ipv6_headers (is_jumbogram packet) (ip.ipv6_header packet))) is_ipv6 ∙ last in
-    let says : (found : TransportInIp) → Carries packet found → IsOverIpv6 packet found = λ found carries. over_ipv6 packet found is_ipv6 ends carries in
+    let says : (found : TransportInIp) → Carries packet found → IsOverIpv6 packet found =
+    λ found carries. over_ipv6 packet found is_ipv6 ends carries in
     let whole : length header ≡ 40 = omega (arith, addresses_len) in
     let headers : Headers = ipv6_headers (is_jumbogram packet) (ip.ipv6_header packet) in
     let first_is : first_headers packet ≡ headers =
@@ -324,7 +338,8 @@ message_over_ipv6 start number hop_limit source destination message padding len 
       protocol = λ found carries. (says found carries).protocol;
       message = λ found carries.
           (says found carries).payload
-          ∙ ap (λ missing. drop 40 (if missing then packet else take (40 + payload_len packet) packet)) (has_length packet found states carries)
+          ∙ ap (λ missing. drop 40 (if missing then packet else take (40 + payload_len packet) packet))
+          (has_length packet found states carries)
           ∙ ap (λ n. drop 40 (take (40 + n) packet)) counts
           ∙ message_between 40 (40 + length message) header message padding whole refl;
       is_fragment = λ found carries. (says found carries).is_fragment;

@@ -21,7 +21,8 @@ pub bytes_take : (n : ℕ) (bytes : List ℕ) → IsBytes bytes → IsBytes (tak
 bytes_take n bytes fits = λ k.
     ⊎_elim
     (λ (before : k < n). subst (λ byte. byte < 256) (sym (get_or-take n bytes k 0 before)) (fits k))
-    (λ (past : n ≤ k). subst (λ byte. byte < 256) (sym (get_or_past (take n bytes) k 0 (omega (arith, past, length-take n bytes)))) (omega arith))
+    (λ (past : n ≤ k). subst (λ byte. byte < 256) (sym (get_or_past (take n bytes) k 0 (omega (arith, past, length-take n bytes))))
+    (omega arith))
     (cases_lt k n)
 
 -- ---- replaced bytes
@@ -34,14 +35,16 @@ parts place n bytes =
     ∙ take-append-drop place bytes
 
 -- bytes that are replaced after the first byte
-after_first : (byte : ℕ) (rest new : List ℕ) (place next : ℕ) → next ≡ suc place → with_bytes next new (byte ∷ rest) ≡ byte ∷ with_bytes place new rest
+after_first : (byte : ℕ) (rest new : List ℕ) (place next : ℕ) → next ≡ suc place
+    → with_bytes next new (byte ∷ rest) ≡ byte ∷ with_bytes place new rest
 after_first byte rest new place next is =
     let further : suc place + length new ≡ suc (place + length new) = omega arith in
     ap (λ place. with_bytes place new (byte ∷ rest)) is
     ∙ ap (λ n. take (suc place) (byte ∷ rest) ++ (new ++ drop n (byte ∷ rest))) further
 
 -- bytes that are replaced after a front
-after_front : (front rest new : List ℕ) (place next : ℕ) → next ≡ length front + place → with_bytes next new (front ++ rest) ≡ front ++ with_bytes place new rest
+after_front : (front rest new : List ℕ) (place next : ℕ) → next ≡ length front + place
+    → with_bytes next new (front ++ rest) ≡ front ++ with_bytes place new rest
 after_front [] rest new place next is =
     let same : next ≡ place = omega (arith, is) in
     ap (λ place. with_bytes place new rest) same
@@ -59,7 +62,8 @@ at_front front old new rest place is same =
 pub bytes_again : (place : ℕ) (new other bytes : List ℕ) → place + length new ≤ length bytes → length other ≡ length new
     → with_bytes place other (with_bytes place new bytes) ≡ with_bytes place other bytes
 bytes_again place new other bytes there same =
-    at_front (take place bytes) new other (drop (place + length new) bytes) place (length-take-le place bytes (omega (arith, there))) (sym same)
+    at_front (take place bytes) new other (drop (place + length new) bytes) place (length-take-le place bytes (omega (arith, there)))
+    (sym same)
     ∙ ap (λ n. take place bytes ++ (other ++ drop (place + n) bytes)) (sym same)
 
 -- two replacements at places that do not overlap may be exchanged
@@ -115,14 +119,17 @@ put_len_by true place new bytes test = length_kept place new bytes (grind (arith
 pub put_len : (place : ℕ) (new bytes : List ℕ) → length (put place new bytes) ≡ length bytes
 put_len place new bytes = put_len_by (nat_le (place + length new) (length bytes)) place new bytes refl
 
-again_by : (there : Bool) (place : ℕ) (new other bytes : List ℕ) → there ≡ nat_le (place + length new) (length bytes) → length other ≡ length new
-    → (if there then with_bytes place other (if there then with_bytes place new bytes else bytes) else (if there then with_bytes place new bytes else bytes))
+again_by : (there : Bool) (place : ℕ) (new other bytes : List ℕ) → there ≡ nat_le (place + length new) (length bytes)
+    → length other ≡ length new
+    → (if there then with_bytes place other (if there then with_bytes place new bytes else bytes)
+    else (if there then with_bytes place new bytes else bytes))
     ≡ (if there then with_bytes place other bytes else bytes)
 again_by false place new other bytes test same = refl
 again_by true place new other bytes test same = bytes_again place new other bytes (grind (arith, nat_tests)) same
 
 -- if bytes at a place are replaced twice, only the second replacement counts
-pub put_again : (place : ℕ) (new other bytes : List ℕ) → length other ≡ length new → put place other (put place new bytes) ≡ put place other bytes
+pub put_again : (place : ℕ) (new other bytes : List ℕ) → length other ≡ length new
+    → put place other (put place new bytes) ≡ put place other bytes
 put_again place new other bytes same =
     let between : List ℕ = put place new bytes in
     let there : Bool = nat_le (place + length new) (length bytes) in
@@ -133,8 +140,10 @@ put_again place new other bytes same =
 
 apart_by : (first second : Bool) (place other : ℕ) (new late bytes : List ℕ) → second ≡ nat_le (other + length late) (length bytes)
     → place + length new ≤ other
-    → (if first then with_bytes place new (if second then with_bytes other late bytes else bytes) else (if second then with_bytes other late bytes else bytes))
-    ≡ (if second then with_bytes other late (if first then with_bytes place new bytes else bytes) else (if first then with_bytes place new bytes else bytes))
+    → (if first then with_bytes place new (if second then with_bytes other late bytes else bytes)
+    else (if second then with_bytes other late bytes else bytes))
+    ≡ (if second then with_bytes other late (if first then with_bytes place new bytes else bytes)
+    else (if first then with_bytes place new bytes else bytes))
 apart_by true true place other new late bytes test apart = bytes_apart place other new late bytes apart (grind (arith, nat_tests))
 apart_by true false place other new late bytes test apart = refl
 apart_by false true place other new late bytes test apart = refl
@@ -147,8 +156,10 @@ put_apart place other new late bytes apart =
     let between : List ℕ = put other late bytes in
     let between_too : List ℕ = put place new bytes in
     ap (λ len. if nat_le (place + length new) len then with_bytes place new between else between) (put_len other late bytes)
-    ∙ apart_by (nat_le (place + length new) (length bytes)) (nat_le (other + length late) (length bytes)) place other new late bytes refl apart
-    ∙ sym (ap (λ len. if nat_le (other + length late) len then with_bytes other late between_too else between_too) (put_len place new bytes))
+    ∙ apart_by (nat_le (place + length new) (length bytes))
+    (nat_le (other + length late) (length bytes)) place other new late bytes refl apart
+    ∙ sym (ap (λ len. if nat_le (other + length late) len then with_bytes other late between_too else between_too)
+    (put_len place new bytes))
 
 -- bytes that are replaced by a range of themselves do not change
 pub put_same : (place n : ℕ) (bytes : List ℕ) → place + n ≤ length bytes → put place (take n (drop place bytes)) bytes ≡ bytes
@@ -161,7 +172,8 @@ put_same place n bytes there =
 -- ---- replaced numbers
 
 -- if the number at a place is replaced twice, only the second replacement counts
-pub number_again : (place value other : ℕ) (bytes : List ℕ) → with_number place other (with_number place value bytes) ≡ with_number place other bytes
+pub number_again : (place value other : ℕ) (bytes : List ℕ)
+    → with_number place other (with_number place value bytes) ≡ with_number place other bytes
 number_again place value other bytes = put_again place (to_be_bytes w16 value) (to_be_bytes w16 other) bytes refl
 
 -- two replaced numbers that do not overlap may be exchanged
@@ -174,7 +186,8 @@ same_by : (there : Bool) (place : ℕ) (bytes : List ℕ) → IsBytes bytes → 
 same_by false place bytes fits test = refl
 same_by true place bytes fits test =
     ap (λ rest. take place bytes ++ rest)
-    (to_be_bytes-be_number_2 bytes place (place + 2) (be_number bytes place 2) (drop (place + 2) bytes) fits refl (grind (arith, nat_tests)) refl refl)
+    (to_be_bytes-be_number_2 bytes place (place + 2) (be_number bytes place 2) (drop (place + 2) bytes) fits refl
+    (grind (arith, nat_tests)) refl refl)
     ∙ take-append-drop place bytes
 
 -- a number that is replaced by itself does not change
@@ -194,7 +207,8 @@ here_by place value bytes room small =
     let first : slice_index changed (place + 0) ≡ slice_index changed place = ap (slice_index changed) (omega arith) in
     omega (arith, high, low, first, small)
 
-pub number_here : (place value : ℕ) (bytes : List ℕ) → place + 2 ≤ length bytes → value < 65536 → number place (with_number place value bytes) ≡ value
+pub number_here : (place value : ℕ) (bytes : List ℕ) → place + 2 ≤ length bytes → value < 65536
+    → number place (with_number place value bytes) ≡ value
 number_here place value bytes room small =
     let test : nat_le (place + 2) (length bytes) ≡ true = grind (arith, nat_tests) in
     let changed : List ℕ = with_bytes place (to_be_bytes w16 value) bytes in
@@ -242,18 +256,22 @@ module _ (first second start n : ℕ) (apart : first + n ≤ second) (apart_too 
   abbrev pub replaced : List ℕ → List ℕ → List ℕ → List ℕ → List ℕ
   replaced source destination message bytes = put second destination (put first source (put start message bytes))
 
-  pub replaced_again : (source destination message source_too destination_too message_too bytes : List ℕ) → length source ≡ n → length destination ≡ n
+  pub replaced_again : (source destination message source_too destination_too message_too bytes : List ℕ) → length source ≡ n
+      → length destination ≡ n
       → length source_too ≡ n → length destination_too ≡ n → length message_too ≡ length message
-      → replaced source_too destination_too message_too (replaced source destination message bytes) ≡ replaced source_too destination_too message_too bytes
+      → replaced source_too destination_too message_too (replaced source destination message bytes)
+      ≡ replaced source_too destination_too message_too bytes
   replaced_again source destination message source_too destination_too message_too bytes is is_too is_three is_four same =
       let before : List ℕ = put start message bytes in
-      let behind : put start message_too (put second destination (put first source before)) ≡ put second destination (put first source (put start message_too bytes)) =
+      let behind : put start message_too (put second destination (put first source before))
+      ≡ put second destination (put first source (put start message_too bytes)) =
       sym (put_apart second start destination message_too (put first source before) (omega (arith, is_too, apart_too)))
       ∙ ap (put second destination) (sym (put_apart first start source message_too before (omega (arith, is, apart, apart_too)))
       ∙ ap (put first source) (put_again start message message_too bytes same)) in
       let after : List ℕ = put start message_too bytes in
       ap (λ bytes. put second destination_too (put first source_too bytes)) behind
-      ∙ ap (put second destination_too) (put_apart first second source_too destination (put first source after) (omega (arith, is_three, apart))
+      ∙ ap (put second destination_too) (put_apart first second source_too destination (put first source after)
+      (omega (arith, is_three, apart))
       ∙ ap (put second destination) (put_again first source source_too after (is_three ∙ sym is)))
       ∙ put_again second destination destination_too (put first source_too after) (is_four ∙ sym is_too)
 

@@ -30,7 +30,8 @@ use Rattle.etherparse_transport.proofs.WithoutOptionsLemmas.{no_route}
 
 -- a found ICMP message is the message of its packet
 found_carried : (packet : List ℕ) (found : TransportInIp) (between : Addresses) → ip.refusal packet ≡ None → Carries packet found
-    → found.is_length_missing ≡ false → found.is_fragment ≡ false → found.protocol.0 ≡ icmp_number between → by_value found.addresses ≡ between
+    → found.is_length_missing ≡ false → found.is_fragment ≡ false → found.protocol.0 ≡ icmp_number between
+    → by_value found.addresses ≡ between
     → CarriesIcmp packet between found.payload.now
 found_carried packet found between accepted carries stated whole number same = record {
   accepted = accepted;
@@ -56,12 +57,14 @@ ipv4_request_carried packet found accepted carries begins stated whole transport
     let over = over_ipv4 packet found begins.is_version_4 carries in
     let same : by_value found.addresses ≡ between =
     over.addresses
-    ∙ ap (λ route. addresses.Ipv4 (slice_range header 12 16) (routed (slice_range header 16 20) route)) (no_route (drop 20 header) over.options padding over.are_options)
+    ∙ ap (λ route. addresses.Ipv4 (slice_range header 12 16) (routed (slice_range header 16 20) route))
+    (no_route (drop 20 header) over.options padding over.are_options)
     ∙ ap (λ source. addresses.Ipv4 source (slice_range header 16 20)) (in_front len 12 4 packet (omega (arith, begins.five_words)))
     ∙ ap (addresses.Ipv4 (slice_range packet 12 16)) (in_front len 16 4 packet (omega (arith, begins.five_words))) in
     subst (CarriesIcmp packet between) at.message_is (found_carried packet found between accepted carries stated is.whole is.number_is same)
 
-pub ipv6_request_carried : (packet : List ℕ) (found : TransportInIp) → ip.refusal packet ≡ None → Carries packet found → IsAfterHeaders packet found
+pub ipv6_request_carried : (packet : List ℕ) (found : TransportInIp) → ip.refusal packet ≡ None → Carries packet found
+    → IsAfterHeaders packet found
     → BeginsWithIpv6Header packet → found.is_length_missing ≡ false → found.is_cut_off ≡ false
     → transport_refusal 58 40 found.is_fragment found.protocol.0 found.payload_offset ≡ None
     → CarriesIcmp packet (addresses.Ipv6 (slice_range packet 8 24) (Some (slice_range packet 24 40))) (message_after 40 packet)
@@ -94,7 +97,8 @@ built_carried packet between number message is has = record {
 -- ---- the addresses
 
 -- a destination that is the address of one host may answer
-may_answer : (is_group is_host : Bool) (destination : List ℕ) → is_host ≡ true → MatchBool is_group (IsTrue is_host) (destination ≡ destination)
+may_answer : (is_group is_host : Bool) (destination : List ℕ) → is_host ≡ true
+    → MatchBool is_group (IsTrue is_host) (destination ≡ destination)
 may_answer true is_host destination is = is
 may_answer false is_host destination is = refl
 
@@ -128,7 +132,8 @@ pub ipv4_is_reply : (request packet source : List ℕ) (time_to_live : ℕ) → 
     → CarriesIcmp request (addresses.Ipv4 (slice_range packet 12 16) (slice_range packet 16 20)) (message_after 20 packet)
     → length source ≡ 4 → length (slice_range packet 12 16) ≡ 4
     → icmpv4.refusal (icmpv4.wire (icmpv4_reply_to (message_after 20 packet)) ++ drop 8 (message_after 20 packet)) ≡ None
-    → echoed (icmpv4.wire (icmpv4_reply_to (message_after 20 packet)) ++ drop 8 (message_after 20 packet)) ≡ echoed (message_after 20 packet)
+    → echoed (icmpv4.wire (icmpv4_reply_to (message_after 20 packet)) ++ drop 8 (message_after 20 packet))
+    ≡ echoed (message_after 20 packet)
     → Verifies [] (ip.ipv4_header (plain_reply source time_to_live packet))
     → MayAnswerIpv4 (slice_range packet 16 20) source
     → IsReplyTo request (plain_reply source time_to_live packet)
@@ -148,7 +153,12 @@ ipv4_is_reply request packet source time_to_live is carries len len_too reads sa
           (ipv4_reply_has packet source (slice_range packet 12 16) time_to_live (echo_of message 4) is len len_too);
       goes_back = (refl, answers);
       answers = record {
-        is_request = record { accepted = mapped_none Len (icmpv4.refusal message) accepted.0; type_is = echo.type_is; code_is = echo.code_is };
+        is_request = record {
+          accepted =
+              mapped_none Len (icmpv4.refusal message) accepted.0;
+          type_is = echo.type_is;
+          code_is = echo.code_is;
+        };
         is_reply = record { accepted = reads; type_is = refl; code_is = refl };
         same = same;
         checksum = icmpv4_reply_valid (echo_of message 4) (drop 8 message);
@@ -164,7 +174,8 @@ not_ipv4 [] after long is = absurd (omega arith)
 pub ipv6_is_reply : (packet source : List ℕ) (hop_limit : ℕ) → IsIpv6Request packet
     → CarriesIcmp packet (addresses.Ipv6 (slice_range packet 8 24) (Some (slice_range packet 24 40))) (message_after 40 packet)
     → length source ≡ 16 → length (slice_range packet 8 24) ≡ 16
-    → icmpv6.refusal (icmpv6.wire (icmpv6_reply_to source (slice_range packet 8 24) (message_after 40 packet)) ++ drop 8 (message_after 40 packet)) ≡ None
+    → icmpv6.refusal (icmpv6.wire (icmpv6_reply_to source (slice_range packet 8 24) (message_after 40 packet))
+    ++ drop 8 (message_after 40 packet)) ≡ None
     → echoed (icmpv6.wire (icmpv6_reply_to source (slice_range packet 8 24) (message_after 40 packet)) ++ drop 8 (message_after 40 packet))
     ≡ echoed (message_after 40 packet)
     → MayAnswerIpv6 (slice_range packet 24 40) source
@@ -176,7 +187,8 @@ ipv6_is_reply packet source hop_limit is carries len len_too reads same answers 
     let received : List ℕ = icmpv6.wire (icmpv6_reply_to source destination message) ++ drop 8 message in
     let request = icmpv6_request destination (slice_range packet 24 40) message is.message in
     let accepted = none_first (option_map Len (icmpv6.refusal message)) _ is.message in
-    let version_is : version (ipv6_reply source hop_limit packet) ≡ 6 = ap version (append_assoc (take 6 packet) _ _) ∙ not_ipv4 packet _ (omega (arith, is.end, is.there)) is.is_ipv6 in
+    let version_is : version (ipv6_reply source hop_limit packet) ≡ 6 =
+    ap version (append_assoc (take 6 packet) _ _) ∙ not_ipv4 packet _ (omega (arith, is.end, is.there)) is.is_ipv6 in
     record {
       request_addresses = addresses.Ipv6 destination (Some (slice_range packet 24 40));
       reply_addresses = back;
@@ -186,7 +198,12 @@ ipv6_is_reply packet source hop_limit is carries len len_too reads same answers 
       reply_carries = built_carried _ back 58 received refl (ipv6_reply_has packet source hop_limit (echo_of message 4) is len len_too);
       goes_back = (refl, answers);
       answers = record {
-        is_request = record { accepted = mapped_none Len (icmpv6.refusal message) accepted.0; type_is = request.type_is; code_is = request.code_is };
+        is_request = record {
+          accepted =
+              mapped_none Len (icmpv6.refusal message) accepted.0;
+          type_is = request.type_is;
+          code_is = request.code_is;
+        };
         is_reply = record { accepted = reads; type_is = refl; code_is = refl };
         same = same;
         checksum = icmpv6_reply_valid packet source (echo_of message 4) is;

@@ -51,7 +51,8 @@ size_here start option items is =
     ap (λ is_size. if is_size then size_in start len else place_in (start + len) items) is
 
 -- the size is within the options
-pub size_within : (start len after options : ℕ) (result : Result ℕ LowerMaximumSegmentSizeError) → IfOk result (λ place. (place ≡ start + 2) × (len ≡ 4))
+pub size_within : (start len after options : ℕ) (result : Result ℕ LowerMaximumSegmentSizeError)
+    → IfOk result (λ place. (place ≡ start + 2) × (len ≡ 4))
     → 20 ≤ start → start + (len + after) ≡ 20 + options → IfOk result (λ place. (20 ≤ place) × (place + 2 ≤ 20 + options))
 size_within start len after options (Ok place) is late whole = (omega (arith, is.0, late), omega (arith, is.0, is.1, whole))
 size_within start len after options (Err error) is late whole = tt
@@ -65,18 +66,21 @@ searched_more options start rest option after begins other searched = λ items r
     (all, reads_all, same ∙ ap (λ is_size. if is_size then size_in start len else place_in (start + len) items) other)
 
 -- options are searched in only one way
-one_finding : (options : List ℕ) (outcome other : Result ℕ LowerMaximumSegmentSizeError) → Finds options outcome → Finds options other → outcome ≡ other
+one_finding : (options : List ℕ) (outcome other : Result ℕ LowerMaximumSegmentSizeError) → Finds options outcome → Finds options other
+    → outcome ≡ other
 one_finding options outcome other finds again =
     sym finds.is ∙ ap (place_in 20) (one_raw_reading options finds.items again.items finds.reads again.reads) ∙ again.is
 
 -- ---- the header
 
 -- a SYN of TCP is not refused
-pub none_refused : (protocol : IpNumber) (is_later_fragment : Bool) (segment : List ℕ) → (protocol.0 == 6) ≡ true → is_later_fragment ≡ false
+pub none_refused : (protocol : IpNumber) (is_later_fragment : Bool) (segment : List ℕ) → (protocol.0 == 6) ≡ true
+    → is_later_fragment ≡ false
     → tcp.refusal segment ≡ None → flag_of segment syn_flag ≡ true → header_refusal protocol is_later_fragment segment ≡ None
 none_refused protocol is_later_fragment segment is_tcp first accepted is_syn =
     let by : Bool → Bool → Option HeaderSliceError → Bool → Option LowerMaximumSegmentSizeError = λ is_tcp later refusal is_syn.
-    first_of (refused_if (not is_tcp) (Protocol protocol) ∷ refused_if later LaterFragment ∷ option_map Header refusal ∷ refused_if (not is_syn) NoSyn ∷ []) in
+    first_of (refused_if (not is_tcp) (Protocol protocol) ∷ refused_if later LaterFragment ∷ option_map Header refusal
+    ∷ refused_if (not is_syn) NoSyn ∷ []) in
     ap (λ is_tcp. by is_tcp is_later_fragment (tcp.refusal segment) (flag_of segment syn_flag)) is_tcp
     ∙ ap (λ later. by true later (tcp.refusal segment) (flag_of segment syn_flag)) first
     ∙ ap (λ refusal. by true false refusal (flag_of segment syn_flag)) accepted
@@ -97,7 +101,8 @@ module _ (segment : List ℕ) (header : 80 ≤ slice_index segment 12) where
       ∙ range_in_front 20 (len - 20) len segment (omega (arith, header))
 
 -- what is found in the options of the header is found in the segment
-pub finds_behind : (protocol : IpNumber) (is_later_fragment : Bool) (segment options : List ℕ) (outcome : Result ℕ LowerMaximumSegmentSizeError)
+pub finds_behind : (protocol : IpNumber) (is_later_fragment : Bool) (segment options : List ℕ)
+    (outcome : Result ℕ LowerMaximumSegmentSizeError)
     → header_refusal protocol is_later_fragment segment ≡ None → options ≡ options_of segment → Finds options outcome
     → FindsBehind protocol is_later_fragment segment outcome
 finds_behind protocol is_later_fragment segment options outcome none same finds =
@@ -116,7 +121,8 @@ finds_in packet found outcome accepted carries stated finds =
       accepted = accepted;
       headers = carries.headers;
       read = ap (λ missing. ip.headers_of missing packet) (sym stated) ∙ carries.read;
-      finds = subst (λ protocol. FindsBehind protocol carries.headers.is_later_fragment (segment_in carries.headers packet) outcome) carries.protocol
+      finds = subst (λ protocol. FindsBehind protocol carries.headers.is_later_fragment (segment_in carries.headers packet) outcome)
+          carries.protocol
           (subst (λ later. FindsBehind found.protocol later (segment_in carries.headers packet) outcome) carries.is_later_fragment
           (subst (λ segment. FindsBehind found.protocol found.is_later_fragment segment outcome) payload finds));
     }
@@ -127,28 +133,35 @@ one_by (Some error) segment outcome other finds again = finds ∙ sym again
 one_by None segment outcome other finds again = one_finding (options_of segment) outcome other finds again
 
 -- a packet in which a size is found is not refused
-pub not_refused_for : (packet : List ℕ) (place : ℕ) → FindsIn packet (Ok place) → (error : LowerMaximumSegmentSizeError) → IsRefusedFor packet error → ⊥
+pub not_refused_for : (packet : List ℕ) (place : ℕ) → FindsIn packet (Ok place) → (error : LowerMaximumSegmentSizeError)
+    → IsRefusedFor packet error → ⊥
 not_refused_for packet place finds error (inl refused) =
     let none : option_map Ip (ip.lax_refusal packet) ≡ None = ap (option_map Ip) finds.accepted in
     absurd (cc (sym none ∙ refused))
 not_refused_for packet place finds error (inr refused) =
-    let same : refused.headers ≡ finds.headers = read_once (ip.headers_of (ip.lacks_len packet) packet) refused.headers finds.headers refused.read finds.read in
-    let again = subst (λ headers. FindsBehind headers.protocol headers.is_later_fragment (segment_in headers packet) (Err error)) same refused.finds in
+    let same : refused.headers ≡ finds.headers =
+    read_once (ip.headers_of (ip.lacks_len packet) packet) refused.headers finds.headers refused.read finds.read in
+    let again = subst (λ headers. FindsBehind headers.protocol headers.is_later_fragment (segment_in headers packet) (Err error)) same
+    refused.finds in
     let both : Ok place ≡ Err error =
-    one_by (header_refusal finds.headers.protocol finds.headers.is_later_fragment (segment_in finds.headers packet)) (segment_in finds.headers packet) _ _ finds.finds again in
+    one_by (header_refusal finds.headers.protocol finds.headers.is_later_fragment (segment_in finds.headers packet))
+    (segment_in finds.headers packet) _ _ finds.finds again in
     absurd (cc both)
 
 -- the place in the packet
-pub size_at : (packet : List ℕ) (found : TransportInIp) (place : ℕ) → (carries : Carries packet found) → found.is_length_missing ≡ ip.lacks_len packet
+pub size_at : (packet : List ℕ) (found : TransportInIp) (place : ℕ) → (carries : Carries packet found)
+    → found.is_length_missing ≡ ip.lacks_len packet
     → FindsIn packet (Ok place) → 20 ≤ place → place + 2 ≤ length found.payload.now → 80 ≤ slice_index found.payload.now 12 → IsBytes packet
     → IsSizeAt packet found.payload_offset (found.payload_offset + length found.payload.now) place
 size_at packet found place carries stated finds after room header fits =
     let same : finds.headers ≡ carries.headers =
-    read_once (ip.headers_of (ip.lacks_len packet) packet) finds.headers carries.headers finds.read (ap (λ missing. ip.headers_of missing packet) (sym stated) ∙ carries.read) in
+    read_once (ip.headers_of (ip.lacks_len packet) packet) finds.headers carries.headers finds.read
+    (ap (λ missing. ip.headers_of missing packet) (sym stated) ∙ carries.read) in
     let offset : carries.headers.len ≡ found.payload_offset = sym carries.payload_offset in
     let counted : List ℕ = ip.counted found.is_length_missing packet in
     let n : ℕ = ip.counted_len found.is_length_missing packet in
-    let range : slice_range packet found.payload_offset (found.payload_offset + length found.payload.now) ≡ counted_after false found.payload_offset packet =
+    let range : slice_range packet found.payload_offset (found.payload_offset + length found.payload.now)
+    ≡ counted_after false found.payload_offset packet =
     message_range found.payload_offset packet found carries offset stated in
     let payload : found.payload.now ≡ counted_after false found.payload_offset packet =
     carries.payload ∙ ap (λ len. drop len counted) offset ∙ ap (λ missing. drop found.payload_offset (ip.counted missing packet)) stated in
@@ -157,7 +170,14 @@ size_at packet found place carries stated finds after room header fits =
       start_is = carries.payload_offset ∙ ap (λ headers. headers.len) (sym same);
       segment = range ∙ ap (λ len. counted_after false len packet) (carries.payload_offset ∙ ap (λ headers. headers.len) (sym same));
       ordered = omega arith;
-      there = omega (arith, offset, carries.within, ap length carries.payload, length-drop carries.headers.len counted, length-take n packet);
+      there = omega (
+        arith,
+        offset,
+        carries.within,
+        ap length carries.payload,
+        length-drop carries.headers.len counted,
+        length-take n packet,
+      );
       after = after;
       room = omega (arith, room);
       five_words = subst (λ bytes. 80 ≤ slice_index bytes 12) (payload ∙ sym range) header;
@@ -193,8 +213,10 @@ odd_total before value bytes even there small =
     let new : List ℕ = with_bytes (suc before) (to_be_bytes w16 value) bytes in
     let back : List ℕ = drop (suc before + 2) bytes in
     let len : length new ≡ length bytes = length_kept (suc before) (to_be_bytes w16 value) bytes there in
-    let front : take before new ≡ take before bytes = range_before (suc before) (to_be_bytes w16 value) bytes there 0 before (omega arith) in
-    let first : slice_index new before ≡ slice_index bytes before = index_before (suc before) (to_be_bytes w16 value) bytes there before (omega arith) in
+    let front : take before new ≡ take before bytes =
+    range_before (suc before) (to_be_bytes w16 value) bytes there 0 before (omega arith) in
+    let first : slice_index new before ≡ slice_index bytes before =
+    index_before (suc before) (to_be_bytes w16 value) bytes there before (omega arith) in
     let old : drop before bytes ≡ slice_index bytes before ∷ slice_index bytes (suc before) ∷ slice_index bytes (suc before + 1) ∷ back =
     drop-cons bytes before 0 (omega (arith, there)) ∙ ap (λ rest. slice_index bytes before ∷ rest) (two_bytes (suc before) bytes there) in
     let is : drop before new ≡ slice_index new before ∷ (to_be_bytes w16 value ++ back) =
@@ -222,7 +244,8 @@ number_there place bytes there =
     ap (λ there. if there then be_number bytes place 2 else 0) test ∙ omega (arith, first)
 
 size_total_by : (even : Bool) (place value size : ℕ) (bytes : List ℕ) → (place % 2 == 0) ≡ even → place + 2 ≤ length bytes → value < 65536
-    → slice_index bytes place < 256 → slice_index bytes (place + 1) < 256 → size ≡ slice_index bytes place * 256 + slice_index bytes (place + 1)
+    → slice_index bytes place < 256 → slice_index bytes (place + 1) < 256
+    → size ≡ slice_index bytes place * 256 + slice_index bytes (place + 1)
     → total (with_checksum place bytes value) + total (if even then to_be_bytes w16 size else to_le_bytes w16 size)
     ≡ total bytes + total (if even then to_be_bytes w16 value else to_le_bytes w16 value)
 size_total_by true place value size bytes test there small high low is =
@@ -254,13 +277,15 @@ replaced_in_front place new bytes more there =
     append_assoc (take place bytes) (new ++ drop (place + length new) bytes) more
     ∙ ap (λ rest. take place bytes ++ rest) (append_assoc new (drop (place + length new) bytes) more)
     ∙ ap (λ rest. take place bytes ++ (new ++ rest)) (sym (drop-append-le (place + length new) bytes more there))
-    ∙ ap (λ front. front ++ (new ++ drop (place + length new) (bytes ++ more))) (sym (take-append-le place bytes more (omega (arith, there))))
+    ∙ ap (λ front. front ++ (new ++ drop (place + length new) (bytes ++ more)))
+    (sym (take-append-le place bytes more (omega (arith, there))))
 
 -- a header contains its length in byte 12, so its sum is not 0
 some_total : (bytes : List ℕ) → 20 ≤ length bytes → 80 ≤ slice_index bytes 12 → total bytes ≢ 0
 some_total bytes there header none =
     let first : slice_index (drop 12 bytes) 0 ≡ slice_index bytes 12 = get_or-drop 12 bytes 0 0 in
-    first_counts (drop 12 bytes) (λ zero. absurd (omega (arith, zero, first, header))) (omega (arith, none, front_total 12 bytes refl (omega (arith, there))))
+    first_counts (drop 12 bytes) (λ zero. absurd (omega (arith, zero, first, header)))
+    (omega (arith, none, front_total 12 bytes refl (omega (arith, there))))
 
 module _ (segment : List ℕ) (place most size checksum : ℕ) (after : 20 ≤ place) (there : place + 2 ≤ length segment) (header : 80 ≤ slice_index segment 12) where
   abbrev stored : List ℕ → List ℕ
@@ -288,7 +313,8 @@ module _ (segment : List ℕ) (place most size checksum : ℕ) (after : 20 ≤ p
       let same : lowered segment ++ missing ≡ new =
       replaced_in_front place (to_be_bytes w16 most) (stored segment) missing
       (omega (arith, there, length_kept 16 (to_be_bytes w16 checksum) segment (omega (arith, after, there))))
-      ∙ ap (with_bytes place (to_be_bytes w16 most)) (replaced_in_front 16 (to_be_bytes w16 checksum) segment missing (omega (arith, after, there))) in
+      ∙ ap (with_bytes place (to_be_bytes w16 most))
+      (replaced_in_front 16 (to_be_bytes w16 checksum) segment missing (omega (arith, after, there))) in
       let first = kept place (omega (arith, after)) (omega (arith, there)) in
       let second = kept (place + 1) (omega (arith, after)) (omega (arith, there)) in
       let size_is : size ≡ slice_index between place * 256 + slice_index between (place + 1) =
@@ -296,10 +322,16 @@ module _ (segment : List ℕ) (place most size checksum : ℕ) (after : 20 ≤ p
       let size_replaced = size_total_by (place % 2 == 0) place most size between refl (omega (arith, room_too, between_len)) most_small
       (omega (arith, first, fits place)) (omega (arith, second, fits (place + 1))) size_is in
       let checksum_is : number 16 whole ≡ number 16 segment =
-      number_there 16 whole room ∙ omega (arith, byte 16 (omega (arith, after, there)), byte 17 (omega (arith, after, there)), number_there 16 segment (omega (arith, after, there))) in
+      number_there 16 whole room ∙ omega (
+        arith,
+        byte 16 (omega (arith, after, there)),
+        byte 17 (omega (arith, after, there)),
+        number_there 16 segment (omega (arith, after, there)),
+      ) in
       let checksum_replaced = stored_number_total 16 checksum whole refl small room in
       let pseudo : ℕ = total pseudo_header in
-      let updated = remainder (pseudo + total new + total (word_bytes place size)) (pseudo + total new + total (word_bytes place most)) (omega arith) in
+      let updated = remainder (pseudo + total new + total (word_bytes place size)) (pseudo + total new + total (word_bytes place most))
+      (omega arith) in
       let twelve : slice_index whole 12 ≡ slice_index segment 12 = byte 12 (omega (arith, after, there)) in
       let twelve_too : slice_index new 12 ≡ slice_index whole 12 =
       index_before place (to_be_bytes w16 most) between (omega (arith, room_too, between_len)) 12 (omega (arith, after))
@@ -308,7 +340,8 @@ module _ (segment : List ℕ) (place most size checksum : ℕ) (after : 20 ≤ p
       length_kept place (to_be_bytes w16 most) between (omega (arith, room_too, between_len)) ∙ between_len in
       let some : total whole ≢ 0 = some_total whole (omega (arith, after, room_too)) (omega (arith, twelve, header)) in
       let some_too : total new ≢ 0 = some_total new (omega (arith, after, room_too, new_len)) (omega (arith, twelve, twelve_too, header)) in
-      subst (λ bytes. (Verifies pseudo_header bytes → Verifies pseudo_header whole) × (Verifies pseudo_header whole → Verifies pseudo_header bytes)) (sym same)
+      subst (λ bytes. (Verifies pseudo_header bytes → Verifies pseudo_header whole)
+      × (Verifies pseudo_header whole → Verifies pseudo_header bytes)) (sym same)
       (both_accepted (pseudo + total whole) (pseudo + total new)
       (omega (arith, updated, size_replaced, checksum_replaced, checksum_is))
       (λ none. some (omega (arith, none))) (λ none. some_too (omega (arith, none))))

@@ -63,9 +63,11 @@ source_stays_by : (is : Bool) (source option : List ℕ) (options : List (List �
     → fold home_address_or (home_address_or source option) options ≡ source
 source_stays_by true source option options test none others = absurd (cc none)
 source_stays_by false source option options test none others =
-    ap (λ is. fold home_address_or (if is && (length option == 18) then slice_range option 2 18 else source) options) (sym test) ∙ others none
+    ap (λ is. fold home_address_or (if is && (length option == 18) then slice_range option 2 18 else source) options) (sym test)
+    ∙ others none
 
-source_stays : (source : List ℕ) (options : List (List ℕ)) → is_some (find is_home_address options) ≡ false → fold home_address_or source options ≡ source
+source_stays : (source : List ℕ) (options : List (List ℕ)) → is_some (find is_home_address options) ≡ false
+    → fold home_address_or source options ≡ source
 source_stays source [] none = refl
 source_stays source (option ∷ options) none =
     source_stays_by (is_home_address option) source option options refl none (λ none. source_stays source options none)
@@ -76,7 +78,8 @@ source_by true source header none = source_stays source (options_of ipv6_option 
 source_by false source header none = refl
 
 -- a header without another address leaves both addresses
-source_kept : (source : List ℕ) (number : ℕ) (header : List ℕ) → adds_address number header ≡ false → source_after source number header ≡ source
+source_kept : (source : List ℕ) (number : ℕ) (header : List ℕ) → adds_address number header ≡ false
+    → source_after source number header ≡ source
 source_kept source number header none = source_by (number == 60) source header (rest_none (has_segments_left number header) _ none)
 
 destination_kept : (destination : Option (List ℕ)) (number : ℕ) (header : List ℕ) → adds_address number header ≡ false
@@ -148,7 +151,8 @@ pub record AreReached (skipped : SkippedHeaders) (packet : List ℕ) : Type 0 wh
   pub room : length packet < skipped.len + more
   pub same : skipped_headers packet ≡ skip more skipped packet
 
-pub reached_first : (packet : List ℕ) (number : ℕ) → number ≡ slice_index packet 6 → 40 ≤ length packet → AreReached (only_ipv6_header number) packet
+pub reached_first : (packet : List ℕ) (number : ℕ) → number ≡ slice_index packet 6 → 40 ≤ length packet
+    → AreReached (only_ipv6_header number) packet
 reached_first packet number is there =
     record {
       more = suc (length packet);
@@ -157,7 +161,8 @@ reached_first packet number is there =
       same = ap (λ number. skip (suc (length packet)) (only_ipv6_header number) packet) (sym is);
     }
 
-reached_next_in : (more : ℕ) (packet header : List ℕ) (skipped next : SkippedHeaders) → skipped.len ≤ length packet → length packet < skipped.len + more
+reached_next_in : (more : ℕ) (packet header : List ℕ) (skipped next : SkippedHeaders) → skipped.len ≤ length packet
+    → length packet < skipped.len + more
     → skipped_headers packet ≡ skip more skipped packet → is_skipped skipped (drop skipped.len packet) ≡ true
     → header ≡ header_at skipped.protocol.0 (drop skipped.len packet) → next ≡ with_next skipped header
     → 8 ≤ length header → length header ≤ length (drop skipped.len packet) → AreReached next packet
@@ -172,11 +177,13 @@ reached_next_in (suc more) packet header skipped next within room same is header
           ∙ ap (λ skipped. skip more skipped packet) (sym next_is);
     }
 
-pub reached_next : (packet : List ℕ) (skipped next : SkippedHeaders) (rest header : List ℕ) → AreReached skipped packet → rest ≡ drop skipped.len packet
+pub reached_next : (packet : List ℕ) (skipped next : SkippedHeaders) (rest header : List ℕ) → AreReached skipped packet
+    → rest ≡ drop skipped.len packet
     → is_skipped skipped rest ≡ true → header ≡ header_at skipped.protocol.0 rest → next ≡ with_next skipped header
     → 8 ≤ length header → length header ≤ length rest → AreReached next packet
 reached_next packet skipped next rest header reached left is header_is next_is shortest there =
-    reached_next_in reached.more packet header skipped next reached.within reached.room reached.same (ap (is_skipped skipped) (sym left) ∙ is)
+    reached_next_in reached.more packet header skipped next reached.within reached.room reached.same
+    (ap (is_skipped skipped) (sym left) ∙ is)
     (header_is ∙ ap (header_at skipped.protocol.0) left) next_is shortest (subst (λ rest. length header ≤ length rest) left there)
 
 pub reached_end : (packet : List ℕ) (skipped : SkippedHeaders) (rest : List ℕ) → AreReached skipped packet → rest ≡ drop skipped.len packet
@@ -202,9 +209,11 @@ len_alike k number a b long same =
     ap (λ z. if number == 44 then 8 else if number == 51 then (z + 2) * 4 else (z + 1) * 8) byte
 
 fewer_alike : (k n : ℕ) (a b : List ℕ) → n ≤ k → take k a ≡ take k b → take n a ≡ take n b
-fewer_alike k n a b within same = sym (in_front k 0 n a (omega (arith, within))) ∙ ap (take n) same ∙ in_front k 0 n b (omega (arith, within))
+fewer_alike k n a b within same =
+    sym (in_front k 0 n a (omega (arith, within))) ∙ ap (take n) same ∙ in_front k 0 n b (omega (arith, within))
 
-pub header_alike : (k number : ℕ) (a b : List ℕ) → 8 ≤ k → extension_len number b ≤ k → take k a ≡ take k b → header_at number a ≡ header_at number b
+pub header_alike : (k number : ℕ) (a b : List ℕ) → 8 ≤ k → extension_len number b ≤ k → take k a ≡ take k b
+    → header_at number a ≡ header_at number b
 header_alike k number a b long within same =
     ap (λ n. take n a) (len_alike k number a b (omega (arith, long)) same) ∙ fewer_alike k (extension_len number b) a b within same
 
@@ -225,7 +234,8 @@ even_by true is_too z = refl
 even_by false true z = omega arith
 even_by false false z = omega arith
 
-skip_even_by : (is : Bool) (more : ℕ) (skipped : SkippedHeaders) (packet : List ℕ) → is ≡ is_skipped skipped (drop skipped.len packet) → skipped.len % 2 ≡ 0
+skip_even_by : (is : Bool) (more : ℕ) (skipped : SkippedHeaders) (packet : List ℕ) → is ≡ is_skipped skipped (drop skipped.len packet)
+    → skipped.len % 2 ≡ 0
     → ((next : SkippedHeaders) → next.len % 2 ≡ 0 → (skip more next packet).len % 2 ≡ 0) → (skip (suc more) skipped packet).len % 2 ≡ 0
 skip_even_by true more skipped packet test even others =
     let rest : List ℕ = drop skipped.len packet in
@@ -268,11 +278,13 @@ pub record AreAt (source : List ℕ) (destination : Option (List ℕ)) (skipped 
 
 one_more : (more : ℕ) (headers : Headers) (bytes : List ℕ) → is_extended headers ≡ true
     → headers_to_transport (suc more) headers bytes
-    ≡ unless_refused (extension_refusal headers (drop headers.len bytes)) (headers_to_transport more (headers_after headers (extension_header headers (drop headers.len bytes))) bytes)
+    ≡ unless_refused (extension_refusal headers (drop headers.len bytes))
+    (headers_to_transport more (headers_after headers (extension_header headers (drop headers.len bytes))) bytes)
 unfolding headers_to_transport
 one_more more headers bytes is = rw is refl
 
-unrefused : {T E : Type 0} (refusal : Option E) (result : Result T E) (value : T) → unless_refused refusal result ≡ Ok value → (refusal ≡ None) × (result ≡ Ok value)
+unrefused : {T E : Type 0} (refusal : Option E) (result : Result T E) (value : T) → unless_refused refusal result ≡ Ok value
+    → (refusal ≡ None) × (result ≡ Ok value)
 unrefused None result value is = (refl, is)
 unrefused (Some error) result value is = absurd (cc is)
 
@@ -301,11 +313,13 @@ refusal_alike addresses headers a b len least header =
     ∙ ap (by (length b) (extension_len headers.protocol.0 b)) header
 
 -- the addresses that other headers leave
-after_kept : (source : List ℕ) (destination : Option (List ℕ)) (headers : Headers) (header : List ℕ) → headers.addresses ≡ Ipv6 source destination
+after_kept : (source : List ℕ) (destination : Option (List ℕ)) (headers : Headers) (header : List ℕ)
+    → headers.addresses ≡ Ipv6 source destination
     → adds_address headers.protocol.0 header ≡ false → ip.addresses_after headers header ≡ Ipv6 source destination
 after_kept source destination headers header is none =
     ap (λ addresses. ip.with_header addresses headers.protocol.0 header) is
-    ∙ ap (λ source. Ipv6 source (destination_after destination headers.protocol.0 header)) (source_kept source headers.protocol.0 header none)
+    ∙ ap (λ source. Ipv6 source (destination_after destination headers.protocol.0 header))
+    (source_kept source headers.protocol.0 header none)
     ∙ ap (Ipv6 source) (destination_kept destination headers.protocol.0 header none)
 
 -- one more header of both
@@ -327,7 +341,8 @@ at_next source destination skipped headers header at first none =
 -- the headers after one more, with other addresses
 next_between : (source new_source : List ℕ) (destination new_destination : Option (List ℕ)) (headers : Headers) (header : List ℕ)
     → headers.addresses ≡ Ipv6 source destination → adds_address headers.protocol.0 header ≡ false
-    → headers_after (between (Ipv6 new_source new_destination) headers) header ≡ between (Ipv6 new_source new_destination) (headers_after headers header)
+    → headers_after (between (Ipv6 new_source new_destination) headers) header
+    ≡ between (Ipv6 new_source new_destination) (headers_after headers header)
 next_between source new_source destination new_destination headers header is none =
     let by : Addresses → Bool → Headers = λ addresses is_over_ipv6. record {
       addresses = addresses;
@@ -385,7 +400,8 @@ module _ (c : ℕ) (packet changed source new_source : List ℕ) (destination ne
   Walks n = (more : ℕ) (skipped : SkippedHeaders) (headers final : Headers) → AreAt source destination skipped headers
       → headers_to_transport n headers bytes ≡ Ok final → headers.len ≤ length bytes → length bytes < headers.len + n
       → length packet < headers.len + more → is_extension (skip more skipped packet).protocol.0 ≡ false
-      → take ((skip more skipped packet).len - skipped.len) (drop skipped.len changed) ≡ take ((skip more skipped packet).len - skipped.len) (drop skipped.len packet)
+      → take ((skip more skipped packet).len - skipped.len) (drop skipped.len changed)
+      ≡ take ((skip more skipped packet).len - skipped.len) (drop skipped.len packet)
       → AreWalked n more skipped headers final
 
   bytes_len : length bytes_too ≡ length bytes
@@ -398,12 +414,14 @@ module _ (c : ℕ) (packet changed source new_source : List ℕ) (destination ne
   unfolding headers_or
   walk_ends n more skipped headers final at read within last =
       let final_is : headers ≡ final = ap (headers_or headers) (sym (ended n headers bytes last) ∙ read) in
-      let skipped_is : skip more skipped packet ≡ skipped = skip_ends more skipped packet (not_skipped source destination skipped headers _ at last) in
+      let skipped_is : skip more skipped packet ≡ skipped =
+      skip_ends more skipped packet (not_skipped source destination skipped headers _ at last) in
       record {
         at = subst (AreAt source destination (skip more skipped packet)) final_is
             (subst (λ skipped. AreAt source destination skipped headers) (sym skipped_is) at);
         within = subst (λ headers. headers.len ≤ length bytes) final_is within;
-        read = ended n (between addresses_too headers) bytes_too last ∙ ap {B = Result Headers IpError} (λ headers. Ok (between addresses_too headers)) final_is;
+        read = ended n (between addresses_too headers) bytes_too last
+            ∙ ap {B = Result Headers IpError} (λ headers. Ok (between addresses_too headers)) final_is;
         same = skip_ends more skipped changed (not_skipped source destination skipped headers _ at last) ∙ sym skipped_is;
       }
 
@@ -413,7 +431,8 @@ module _ (c : ℕ) (packet changed source new_source : List ℕ) (destination ne
       → length packet < headers.len + suc more → is_extension (skip (suc more) skipped packet).protocol.0 ≡ false
       → take ((skip (suc more) skipped packet).len - skipped.len) (drop skipped.len changed)
       ≡ take ((skip (suc more) skipped packet).len - skipped.len) (drop skipped.len packet)
-      → is_extended headers ≡ true → is_skipped skipped (drop skipped.len packet) ≡ true → AreWalked (suc n) (suc more) skipped headers final
+      → is_extended headers ≡ true → is_skipped skipped (drop skipped.len packet) ≡ true
+      → AreWalked (suc n) (suc more) skipped headers final
   walk_next n more skipped headers final others at read within room room_too known kept is skips =
       let number : ℕ = skipped.protocol.0 in
       let rest : List ℕ = drop skipped.len packet in
@@ -432,10 +451,12 @@ module _ (c : ℕ) (packet changed source new_source : List ℕ) (destination ne
       let end_is : end ≡ (skip more next packet).len = ap (λ skipped. skipped.len) more_is in
       let long : skipped.len + e ≤ end = omega (arith, end_is, header_len, skip_len more next packet) in
       let parts = unrefused (extension_refusal headers counted) _ final (sym (one_more n headers bytes is) ∙ read) in
-      let lengths = two_rules (nat_lt (length counted) 8) (nat_lt (length counted) (extension_len headers.protocol.0 counted)) _ _ _ parts.0 in
+      let lengths = two_rules (nat_lt (length counted) 8)
+      (nat_lt (length counted) (extension_len headers.protocol.0 counted)) _ _ _ parts.0 in
       let eight : 8 ≤ length counted = not_below _ _ lengths.0 in
       let eight_in : take 8 counted ≡ take 8 rest =
-      in_front c headers.len 8 packet (omega (arith, eight, length-drop headers.len bytes, length-take c packet)) ∙ ap (λ len. take 8 (drop len packet)) at.len in
+      in_front c headers.len 8 packet (omega (arith, eight, length-drop headers.len bytes, length-take c packet))
+      ∙ ap (λ len. take 8 (drop len packet)) at.len in
       let e_is : extension_len headers.protocol.0 counted ≡ e =
       ap (λ number. extension_len number counted) number_is ∙ len_alike 8 number counted rest (omega arith) eight_in in
       let e_there : e ≤ length counted = omega (arith, e_is, not_below _ _ lengths.1) in
@@ -451,7 +472,8 @@ module _ (c : ℕ) (packet changed source new_source : List ℕ) (destination ne
       (in_front c headers.len 8 changed (omega (arith, there, least)) ∙ ap (λ len. take 8 (drop len changed)) at.len ∙ alike_eight) in
       let header_too : extension_header headers counted_too ≡ header =
       ap (λ e. take e counted_too) e_too ∙ in_front c headers.len e changed there ∙ ap (λ len. take e (drop len changed)) at.len ∙ alike in
-      let counted_len : length counted_too ≡ length counted = omega (arith, bytes_len, length-drop headers.len bytes, length-drop headers.len bytes_too) in
+      let counted_len : length counted_too ≡ length counted =
+      omega (arith, bytes_len, length-drop headers.len bytes, length-drop headers.len bytes_too) in
       let none : adds_address headers.protocol.0 header ≡ false = ap (λ number. adds_address number header) number_is ∙ found.none in
       let next_headers : Headers = headers_after headers header in
       let read_next : headers_to_transport n next_headers bytes ≡ Ok final =
@@ -465,15 +487,18 @@ module _ (c : ℕ) (packet changed source new_source : List ℕ) (destination ne
       ∙ ap (drop e) kept ∙ ap (λ n. drop e (take n rest)) whole ∙ drop-take e left rest ∙ ap (take left) (sym (rest_of packet)) in
       let walked : AreWalked n more next next_headers final = others more next next_headers final
       (at_next source destination skipped headers header at found.first found.none) read_next
-      (omega (arith, header_len, e_there, within, length-drop headers.len bytes)) (omega (arith, room, header_len, least)) (omega (arith, room_too, header_len, least))
+      (omega (arith, header_len, e_there, within, length-drop headers.len bytes)) (omega (arith, room, header_len, least))
+      (omega (arith, room_too, header_len, least))
       (ap (λ skipped. is_extension skipped.protocol.0) (sym more_is) ∙ known) kept_next in
       let skips_too : is_skipped skipped rest_too ≡ true =
-      skipped_alike e skipped rest_too rest least (omega arith) alike (omega (arith, len, length-drop skipped.len packet, length-drop skipped.len changed)) ∙ skips in
+      skipped_alike e skipped rest_too rest least (omega arith) alike
+      (omega (arith, len, length-drop skipped.len packet, length-drop skipped.len changed)) ∙ skips in
       record {
         at = subst (λ skipped. AreAt source destination skipped final) (sym more_is) walked.at;
         within = walked.within;
         read = one_more n (between addresses_too headers) bytes_too is
-            ∙ ap (λ refusal. unless_refused refusal (headers_to_transport n (headers_after (between addresses_too headers) (extension_header headers counted_too)) bytes_too))
+            ∙ ap (λ refusal. unless_refused refusal
+            (headers_to_transport n (headers_after (between addresses_too headers) (extension_header headers counted_too)) bytes_too))
             (refusal_alike addresses_too headers counted_too counted counted_len (e_too ∙ sym e_is) (header_too ∙ sym header_is) ∙ parts.0)
             ∙ ap (λ header. headers_to_transport n (headers_after (between addresses_too headers) header) bytes_too) header_too
             ∙ ap (λ headers. headers_to_transport n headers bytes_too)
@@ -484,11 +509,13 @@ module _ (c : ℕ) (packet changed source new_source : List ℕ) (destination ne
             ∙ walked.same ∙ sym more_is;
       }
 
-  walk_skips : (skips : Bool) (n more : ℕ) (skipped : SkippedHeaders) (headers final : Headers) → skips ≡ is_skipped skipped (drop skipped.len packet) → Walks n
+  walk_skips : (skips : Bool) (n more : ℕ) (skipped : SkippedHeaders) (headers final : Headers)
+      → skips ≡ is_skipped skipped (drop skipped.len packet) → Walks n
       → AreAt source destination skipped headers
       → headers_to_transport (suc n) headers bytes ≡ Ok final → headers.len ≤ length bytes → length bytes < headers.len + suc n
       → length packet < headers.len + more → is_extension (skip more skipped packet).protocol.0 ≡ false
-      → take ((skip more skipped packet).len - skipped.len) (drop skipped.len changed) ≡ take ((skip more skipped packet).len - skipped.len) (drop skipped.len packet)
+      → take ((skip more skipped packet).len - skipped.len) (drop skipped.len changed)
+      ≡ take ((skip more skipped packet).len - skipped.len) (drop skipped.len packet)
       → is_extended headers ≡ true → AreWalked (suc n) more skipped headers final
   walk_skips false n more skipped headers final test others at read within room room_too known kept is =
       let number_is : headers.protocol.0 ≡ skipped.protocol.0 = ap (λ protocol. protocol.0) at.protocol in
@@ -504,12 +531,14 @@ module _ (c : ℕ) (packet changed source new_source : List ℕ) (destination ne
       → AreAt source destination skipped headers
       → headers_to_transport (suc n) headers bytes ≡ Ok final → headers.len ≤ length bytes → length bytes < headers.len + suc n
       → length packet < headers.len + more → is_extension (skip more skipped packet).protocol.0 ≡ false
-      → take ((skip more skipped packet).len - skipped.len) (drop skipped.len changed) ≡ take ((skip more skipped packet).len - skipped.len) (drop skipped.len packet)
+      → take ((skip more skipped packet).len - skipped.len) (drop skipped.len changed)
+      ≡ take ((skip more skipped packet).len - skipped.len) (drop skipped.len packet)
       → AreWalked (suc n) more skipped headers final
   walk_by false n more skipped headers final test others at read within room room_too known kept =
       walk_ends n more skipped headers final at read within (sym test)
   walk_by true n more skipped headers final test others at read within room room_too known kept =
-      walk_skips (is_skipped skipped (drop skipped.len packet)) n more skipped headers final refl others at read within room room_too known kept (sym test)
+      walk_skips (is_skipped skipped (drop skipped.len packet)) n more skipped headers final refl others at read within room room_too known
+      kept (sym test)
 
   pub walk : (n : ℕ) → Walks n
   walk zero more skipped headers final at read within room room_too known kept = absurd (omega (arith, within, room))

@@ -7,7 +7,8 @@ use Rattle.etherparse_transport.specs.SourceRoutes.{contain_source_route, option
 
 option_by : (is_end is_one is_impossible : Bool) (one all bytes option : List ℕ)
     → (if is_end then None else if is_one then Some one else if is_impossible then None else Some all) ≡ Some option
-    → (if is_end then None else Some (unwrap_or (if is_end then None else if is_one then Some one else if is_impossible then None else Some all) bytes))
+    → (if is_end then None else Some
+    (unwrap_or (if is_end then None else if is_one then Some one else if is_impossible then None else Some all) bytes))
     ≡ Some option
 option_by true is_one is_impossible one all bytes option is = absurd (cc is)
 option_by false true is_impossible one all bytes option is = is
@@ -38,12 +39,14 @@ no_route_after : (more : ℕ) (bytes : List ℕ) (first : Option (List ℕ)) →
     → ((rest : List ℕ) → is_some (find is_source_route (options_within option_or_rest more rest)) ≡ false
     → is_some (find is_source_route (options_within ipv4_option more rest)) ≡ false)
     → is_some (find is_source_route (options_within ipv4_option (suc more) bytes)) ≡ false
-no_route_after more bytes None is none others = ap (λ options. is_some (find is_source_route options)) (options_are ipv4_option more bytes None is)
+no_route_after more bytes None is none others =
+    ap (λ options. is_some (find is_source_route options)) (options_are ipv4_option more bytes None is)
 no_route_after more bytes (Some option) is none others =
     ap (λ options. is_some (find is_source_route options)) (options_are ipv4_option more bytes (Some option) is)
     ∙ is_none_by (is_source_route option) option (find is_source_route (options_within option_or_rest more (drop (length option) bytes)))
     (find is_source_route (options_within ipv4_option more (drop (length option) bytes)))
-    (sym (ap (λ options. is_some (find is_source_route options)) (options_are option_or_rest more bytes (Some option) (option_alike bytes option is))) ∙ none)
+    (sym (ap (λ options. is_some (find is_source_route options))
+    (options_are option_or_rest more bytes (Some option) (option_alike bytes option is))) ∙ none)
     (others (drop (length option) bytes))
 
 no_route_within : (more : ℕ) (bytes : List ℕ) → is_some (find is_source_route (options_within option_or_rest more bytes)) ≡ false
@@ -52,5 +55,6 @@ unfolding options_within
 no_route_within zero bytes none = refl
 no_route_within (suc more) bytes none = no_route_after more bytes (ipv4_option bytes) refl none (λ rest. no_route_within more rest)
 
-pub no_route : (options : List ℕ) → contain_source_route options ≡ false → is_some (find is_source_route (options_of ipv4_option options)) ≡ false
+pub no_route : (options : List ℕ) → contain_source_route options ≡ false
+    → is_some (find is_source_route (options_of ipv4_option options)) ≡ false
 no_route options none = no_route_within (suc (length options)) options none

@@ -26,12 +26,14 @@ port_back : (new : Option ℕ) (place : ℕ) (message changed : List ℕ) → Is
 port_back None place message changed fits is = is ∙ ap (number place) (number_same place message fits)
 port_back (Some port) place message changed fits is = refl
 
-port_small : (new : Option ℕ) (place : ℕ) (message : List ℕ) → IsBytes message → IfSome new (λ port. port < 65536) → port_or new place message < 65536
+port_small : (new : Option ℕ) (place : ℕ) (message : List ℕ) → IsBytes message → IfSome new (λ port. port < 65536)
+    → port_or new place message < 65536
 port_small None place message fits small = number_small place message fits
 port_small (Some port) place message fits small = small
 
 -- if three numbers are replaced, and then the first two are put back, only the third is new
-pub three_back : (first second third value value_too sum sum_too : ℕ) (bytes : List ℕ) → IsBytes bytes → first + 2 ≤ second → second + 2 ≤ third
+pub three_back : (first second third value value_too sum sum_too : ℕ) (bytes : List ℕ) → IsBytes bytes → first + 2 ≤ second
+    → second + 2 ≤ third
     → with_number third sum_too (with_number second (number second bytes) (with_number first (number first bytes)
     (with_number third sum (with_number second value_too (with_number first value bytes)))))
     ≡ with_number third sum_too bytes
@@ -85,9 +87,11 @@ module _ (place sum old new : ℕ) (source destination : Option ℕ) (message : 
   destination_is : port_or destination_back 2 with_new_ports ≡ number 2 message
   destination_is = port_back destination 2 message with_new_ports fits destination_there
 
-  pub ports_restored : (sum_too : ℕ) → with_number place sum_too (with_ports source_back destination_back with_new_ports) ≡ with_number place sum_too message
+  pub ports_restored : (sum_too : ℕ) → with_number place sum_too (with_ports source_back destination_back with_new_ports)
+      ≡ with_number place sum_too message
   ports_restored sum_too =
-      ap (λ port. with_number place sum_too (with_number 2 (port_or destination_back 2 with_new_ports) (with_number 0 port with_new_ports))) source_is
+      ap (λ port. with_number place sum_too (with_number 2 (port_or destination_back 2 with_new_ports) (with_number 0 port with_new_ports)))
+      source_is
       ∙ ap (λ port. with_number place sum_too (with_number 2 port (with_number 0 (number 0 message) with_new_ports))) destination_is
       ∙ three_back 0 2 place new_source new_destination sum sum_too message fits (omega arith) (omega (arith, apart))
 
@@ -96,7 +100,8 @@ module _ (place sum old new : ℕ) (source destination : Option ℕ) (message : 
       ap (λ port. and_word (and_word new port) (number 2 with_new_ports))
       (source_there ∙ number_here 0 new_source message (omega (arith, apart, room)) (port_small source 0 message fits small))
       ∙ ap (λ port. and_word (and_word new new_source) port)
-      (destination_there ∙ number_here 2 new_destination message (omega (arith, apart, room)) (port_small destination 2 message fits small_too))
+      (destination_there ∙ number_here 2 new_destination message (omega (arith, apart, room))
+      (port_small destination 2 message fits small_too))
 
   pub added_back : added_ports old source_back destination_back with_new_ports ≡ removed_ports old message
   added_back =
@@ -115,7 +120,8 @@ updated_udp_small checksum removed added = grind (arith, nat_tests)
 
 tcp_back : (old new : ℕ) (source destination : Option ℕ) (segment : List ℕ) → IsBytes segment
     → IfSome source (λ port. port < 65536) → IfSome destination (λ port. port < 65536)
-    → (translated_tcp new old (instead (number 0 segment) source) (instead (number 2 segment) destination) (translated_tcp old new source destination segment)
+    → (translated_tcp new old (instead (number 0 segment) source) (instead (number 2 segment) destination)
+    (translated_tcp old new source destination segment)
     ≡ segment) ↔ (number 16 segment ≢ 65535)
 tcp_back old new source destination segment fits small small_too =
     let removed : ℕ = removed_ports old segment in
@@ -127,10 +133,12 @@ tcp_back old new source destination segment fits small small_too =
     let sum_too : ℕ = updated_checksum_of (number 16 back) (removed_ports new back) (added_ports old source_too destination_too back) in
     iff_along _ (with_number 16 sum_too segment) segment
     (ports_restored 16 sum old new source destination segment fits small small_too (omega arith) sum_too)
-    (checksum_back 16 sum_too segment fits (updated_small (number 16 back) (removed_ports new back) (added_ports old source_too destination_too back))
+    (checksum_back 16 sum_too segment fits (updated_small (number 16 back) (removed_ports new back)
+    (added_ports old source_too destination_too back))
     (λ room. iff_along sum_too (updated_checksum_of sum added removed) (number 16 segment)
     (ap (λ n. updated_checksum_of n (removed_ports new back) (added_ports old source_too destination_too back))
-    (checksum_there 16 sum old new source destination segment fits small small_too (omega arith) room (updated_small (number 16 segment) removed added))
+    (checksum_there 16 sum old new source destination segment fits small small_too (omega arith) room
+    (updated_small (number 16 segment) removed added))
     ∙ ap (λ n. updated_checksum_of sum n (added_ports old source_too destination_too back))
     (removed_back 16 sum old new source destination segment fits small small_too (omega arith) room)
     ∙ ap (updated_checksum_of sum added) (added_back 16 sum old new source destination segment fits small small_too (omega arith)))
@@ -139,7 +147,8 @@ tcp_back old new source destination segment fits small small_too =
 
 udp_back : (old new : ℕ) (source destination : Option ℕ) (packet : List ℕ) → IsBytes packet
     → IfSome source (λ port. port < 65536) → IfSome destination (λ port. port < 65536)
-    → translated_udp new old (instead (number 0 packet) source) (instead (number 2 packet) destination) (translated_udp old new source destination packet)
+    → translated_udp new old (instead (number 0 packet) source) (instead (number 2 packet) destination)
+    (translated_udp old new source destination packet)
     ≡ packet
 udp_back old new source destination packet fits small small_too =
     let removed : ℕ = removed_ports old packet in
@@ -150,12 +159,14 @@ udp_back old new source destination packet fits small small_too =
     let destination_too : Option ℕ = instead (number 2 packet) destination in
     let sum_too : ℕ = updated_udp_checksum_of (number 6 back) (removed_ports new back) (added_ports old source_too destination_too back) in
     ports_restored 6 sum old new source destination packet fits small small_too (omega arith) sum_too
-    ∙ (checksum_back {P = ⊤} 6 sum_too packet fits (updated_udp_small (number 6 back) (removed_ports new back) (added_ports old source_too destination_too back))
+    ∙ (checksum_back {P = ⊤} 6 sum_too packet fits
+    (updated_udp_small (number 6 back) (removed_ports new back) (added_ports old source_too destination_too back))
     (λ room. (
       λ same. tt,
       λ true.
           ap (λ n. updated_udp_checksum_of n (removed_ports new back) (added_ports old source_too destination_too back))
-          (checksum_there 6 sum old new source destination packet fits small small_too (omega arith) room (updated_udp_small (number 6 packet) removed added))
+          (checksum_there 6 sum old new source destination packet fits small small_too (omega arith) room
+          (updated_udp_small (number 6 packet) removed added))
           ∙ ap (λ n. updated_udp_checksum_of sum n (added_ports old source_too destination_too back))
           (removed_back 6 sum old new source destination packet fits small small_too (omega arith) room)
           ∙ ap (updated_udp_checksum_of sum added) (added_back 6 sum old new source destination packet fits small small_too (omega arith))
@@ -177,7 +188,8 @@ stored_small true checksum removed added = grind (arith, nat_tests)
 stored_remainder : (is_zero : Bool) (checksum removed added : ℕ)
     → stored_by is_zero (updated_checksum_of checksum removed added) % 65535
     ≡ (65535 - (complement checksum + complement removed + added) % 65535) % 65535
-stored_remainder true checksum removed added = ap (λ n. n % 65535) (udp_checksum_of-remainder (complement checksum + complement removed + added))
+stored_remainder true checksum removed added =
+    ap (λ n. n % 65535) (udp_checksum_of-remainder (complement checksum + complement removed + added))
 stored_remainder false checksum removed added =
     let sum : ℕ = complement checksum + complement removed + added in
     omega (arith, folded-remainder sum, folded-lt sum)
@@ -196,8 +208,11 @@ query_reversed true false checksum removed added result small small_too small_th
     let sum : ℕ = complement result + complement added + removed in
     let remainder = folded-remainder sum in
     let fits = folded-lt sum in
-    let some : folded sum ≢ 0 = folded_some sum (λ none. omega (arith, none, nothing)) in
-    (λ same ones. omega (arith, stored, remainder, fits, some, same, ones, nothing), λ other. omega (arith, stored, remainder, fits, some, other, nothing, small, small_too))
+    let some : folded sum ≢ 0 = folded_some sum (λ none. omega (arith, none, nothing)) in (
+      λ same ones. omega (arith, stored, remainder, fits, some, same, ones, nothing),
+      λ other.
+          omega (arith, stored, remainder, fits, some, other, nothing, small, small_too),
+    )
 query_reversed is_zero true checksum removed added result small small_too small_three zero equation =
     let stored : result % 65535 ≡ (65535 - (complement checksum + complement removed + added) % 65535) % 65535 =
     ap (λ n. n % 65535) equation ∙ stored_remainder is_zero checksum removed added in
@@ -215,7 +230,8 @@ two_back first second value sum sum_too bytes fits apart =
     ∙ number_again first sum sum_too bytes
 
 -- a byte before two replaced numbers does not change
-pub before_both : (sum value k : ℕ) (bytes : List ℕ) → k < 2 → slice_index (with_number 2 sum (with_number 4 value bytes)) k ≡ slice_index bytes k
+pub before_both : (sum value k : ℕ) (bytes : List ℕ) → k < 2
+    → slice_index (with_number 2 sum (with_number 4 value bytes)) k ≡ slice_index bytes k
 before_both sum value k bytes before =
     let between : List ℕ = with_number 4 value bytes in
     other_by (nat_le 4 (length between)) 2 sum k between refl (inl before)
@@ -238,7 +254,8 @@ query_kept_by_sum proto sum message =
     ap (λ len. by len (slice_index changed 0)) (number_len 2 sum message)
     ∙ ap (by (length message)) (other_by there 2 sum 0 message refl (inl (omega arith)))
 
-query_back : (old new : ℕ) (identifier : Option ℕ) (message : List ℕ) → IsBytes message → IfSome identifier (λ identifier. identifier < 65536)
+query_back : (old new : ℕ) (identifier : Option ℕ) (message : List ℕ) → IsBytes message
+    → IfSome identifier (λ identifier. identifier < 65536)
     → 6 ≤ length message
     → ((rest_of_message (with_identifier identifier message) == 0) ≡ true → and_word new (port_or identifier 4 message) ≡ 0)
     → (translated_query new old (instead (number 4 message) identifier) (translated_query old new identifier message) ≡ message)
@@ -254,7 +271,8 @@ query_back old new identifier message fits small room zero =
     let identifier_too : Option ℕ = instead (number 4 message) identifier in
     let between_len : length between ≡ length message = number_len 4 value message in
     let there : number 4 back ≡ number 4 between = number_after 2 sum 4 between (omega arith) in
-    let there_is : number 4 back ≡ value = there ∙ number_here 4 value message (omega (arith, room)) (port_small identifier 4 message fits small) in
+    let there_is : number 4 back ≡ value =
+    there ∙ number_here 4 value message (omega (arith, room)) (port_small identifier 4 message fits small) in
     let value_back : port_or identifier_too 4 back ≡ number 4 message = port_back identifier 4 message back fits there in
     let sum_there : number 2 back ≡ sum =
     number_here 2 sum between (omega (arith, room, between_len)) (stored_small is_zero (number 2 message) removed added) in
@@ -270,11 +288,14 @@ query_back old new identifier message fits small room zero =
     (checksum_back 2 sum_too message fits
     (stored_small is_zero_back (number 2 back) (and_word new (number 4 back)) (and_word old (port_or identifier_too 4 back)))
     (λ whole. iff_along sum_too (sum_by (rest_of_message message == 0) sum added removed) (number 2 message)
-    (ap (λ is_zero. sum_by is_zero (number 2 back) (and_word new (number 4 back)) (and_word old (port_or identifier_too 4 back))) is_zero_back_is
-    ∙ ap (λ n. sum_by (rest_of_message message == 0) n (and_word new (number 4 back)) (and_word old (port_or identifier_too 4 back))) sum_there
+    (ap (λ is_zero. sum_by is_zero (number 2 back) (and_word new (number 4 back)) (and_word old (port_or identifier_too 4 back)))
+    is_zero_back_is
+    ∙ ap (λ n. sum_by (rest_of_message message == 0) n (and_word new (number 4 back)) (and_word old (port_or identifier_too 4 back)))
+    sum_there
     ∙ ap (λ n. sum_by (rest_of_message message == 0) sum (and_word new n) (and_word old (port_or identifier_too 4 back))) there_is
     ∙ ap (λ n. sum_by (rest_of_message message == 0) sum added (and_word old n)) value_back)
-    (query_reversed is_zero (rest_of_message message == 0) (number 2 message) removed added sum (number_small 2 message fits) (folded-lt _) (folded-lt _) zero refl))
+    (query_reversed is_zero (rest_of_message message == 0) (number 2 message) removed added sum (number_small 2 message fits) (folded-lt _)
+    (folded-lt _) zero refl))
     (λ short. absurd (omega (arith, room, short))))
 
 -- the old identifier is put back
@@ -283,17 +304,20 @@ identifier_by : (is_request : Bool) (old : ℕ) (source destination : Option ℕ
 identifier_by true old source destination = refl
 identifier_by false old source destination = refl
 
-identifier_small : (is_request : Bool) (source destination : Option ℕ) → IfSome source (λ port. port < 65536) → IfSome destination (λ port. port < 65536)
+identifier_small : (is_request : Bool) (source destination : Option ℕ) → IfSome source (λ port. port < 65536)
+    → IfSome destination (λ port. port < 65536)
     → IfSome (if is_request then source else destination) (λ identifier. identifier < 65536)
 identifier_small true source destination small small_too = small
 identifier_small false source destination small small_too = small_too
 
 identifier_back : (proto : Proto) (sum value : ℕ) (source destination : Option ℕ) (message : List ℕ)
-    → new_identifier proto (instead (number 4 message) source) (instead (number 4 message) destination) (with_number 2 sum (with_number 4 value message))
+    → new_identifier proto (instead (number 4 message) source) (instead (number 4 message) destination)
+    (with_number 2 sum (with_number 4 value message))
     ≡ instead (number 4 message) (new_identifier proto source destination message)
 identifier_back proto sum value source destination message =
     let old : ℕ = number 4 message in
-    ap (λ byte. if is_request proto byte then instead old source else instead old destination) (before_both sum value 0 message (omega arith))
+    ap (λ byte. if is_request proto byte then instead old source else instead old destination)
+    (before_both sum value 0 message (omega arith))
     ∙ identifier_by (is_request proto (slice_index message 0)) old source destination
 
 front : (a b : Bool) → (a && b) ≡ true → a ≡ true
@@ -306,7 +330,8 @@ query_there proto message is =
     grind (arith, nat_tests)
 
 -- if all bytes except the checksum are 0 after the identifier is replaced, the new identifier is 0
-zero_identifier : (value : ℕ) (message : List ℕ) → 6 ≤ length message → value < 65536 → (rest_of_message (with_number 4 value message) == 0) ≡ true
+zero_identifier : (value : ℕ) (message : List ℕ) → 6 ≤ length message → value < 65536
+    → (rest_of_message (with_number 4 value message) == 0) ≡ true
     → value ≡ 0
 zero_identifier value message room small is =
     let between : List ℕ = with_number 4 value message in
@@ -334,7 +359,8 @@ updated_back old new message fits small small_too =
 
 -- ---- the message
 
-icmpv4_back : (is_a_query : Bool) (source destination : Option ℕ) (message : List ℕ) → is_a_query ≡ is_query protos.Icmpv4 message → IsBytes message
+icmpv4_back : (is_a_query : Bool) (source destination : Option ℕ) (message : List ℕ) → is_a_query ≡ is_query protos.Icmpv4 message
+    → IsBytes message
     → IfSome source (λ port. port < 65536) → IfSome destination (λ port. port < 65536)
     → (translated_message protos.Icmpv4 0 0 (instead (number 4 message) source) (instead (number 4 message) destination)
     (if is_a_query then translated_query 0 0 (new_identifier protos.Icmpv4 source destination message) message else message) ≡ message)
@@ -342,7 +368,8 @@ icmpv4_back : (is_a_query : Bool) (source destination : Option ℕ) (message : L
 unfolding folded
 icmpv4_back false source destination message test fits small small_too =
     let back : List ℕ =
-    translated_query 0 0 (new_identifier protos.Icmpv4 (instead (number 4 message) source) (instead (number 4 message) destination) message) message in
+    translated_query 0 0 (new_identifier protos.Icmpv4 (instead (number 4 message) source) (instead (number 4 message) destination) message)
+    message in
     (λ same is. absurd (cc (test, is)), λ p. ap (λ b. if b then back else message) (sym test))
 icmpv4_back true source destination message test fits small small_too =
     let old : ℕ = number 4 message in
@@ -358,7 +385,8 @@ icmpv4_back true source destination message test fits small small_too =
     (λ zero. ap (and_word 0) (zero_identifier value message room (port_small identifier 4 message fits small_identifier) zero)) in
     let whole = iff_along _ (translated_query 0 0 (instead old identifier) changed) message
     (ap (λ b. if b then translated_query 0 0 identifier_too changed else changed) (query_kept protos.Icmpv4 sum value message ∙ sym test)
-    ∙ ap (λ identifier. translated_query 0 0 identifier changed) (identifier_back protos.Icmpv4 sum value source destination message)) iff in
+    ∙ ap (λ identifier. translated_query 0 0 identifier changed) (identifier_back protos.Icmpv4 sum value source destination message))
+    iff in
     (λ same is. whole.0 same, λ p. whole.1 (p (sym test)))
 
 -- no query over IPv6 begins with 0
@@ -375,7 +403,8 @@ rest_icmpv6 message some =
 lost_icmpv6 : (message : List ℕ) → is_query protos.Icmpv6 message ≡ true → lost_checksum message ≡ 65535
 lost_icmpv6 message is = ap {B = ℕ} (λ b. if b then 0 else 65535) (rest_icmpv6 message (first_icmpv6 message is))
 
-icmpv6_back : (is_a_query : Bool) (old new : ℕ) (source destination : Option ℕ) (message : List ℕ) → is_a_query ≡ is_query protos.Icmpv6 message
+icmpv6_back : (is_a_query : Bool) (old new : ℕ) (source destination : Option ℕ) (message : List ℕ)
+    → is_a_query ≡ is_query protos.Icmpv6 message
     → IsBytes message → IfSome source (λ port. port < 65536) → IfSome destination (λ port. port < 65536) → old < 65536 → new < 65536
     → (translated_message protos.Icmpv6 new old (instead (number 4 message) source) (instead (number 4 message) destination)
     (if is_a_query then translated_query old new (new_identifier protos.Icmpv6 source destination message) message
@@ -404,14 +433,16 @@ icmpv6_back true old new source destination message test fits small small_too ol
     (ap (λ b. if b then translated_query new old identifier_too changed else with_updated_checksum new old changed)
     (query_kept protos.Icmpv6 sum value message ∙ sym test)
     ∙ ap (λ identifier. translated_query new old identifier changed) (identifier_back protos.Icmpv6 sum value source destination message))
-    (subst (λ lost. (translated_query new old (instead word identifier) changed ≡ message) ↔ (number 2 message ≢ lost)) (lost_icmpv6 message (sym test))
+    (subst (λ lost. (translated_query new old (instead word identifier) changed ≡ message) ↔ (number 2 message ≢ lost))
+    (lost_icmpv6 message (sym test))
     (query_back old new identifier message fits
     (identifier_small (is_request protos.Icmpv6 (slice_index message 0)) source destination small small_too)
     (query_there protos.Icmpv6 message (sym test)) (λ zero. absurd (cc (rest_icmpv6 between first, zero)))))
 
 pub message_back : (proto : Proto) (old new : ℕ) (source destination : Option ℕ) (message : List ℕ) → IsBytes message
     → IfSome source (λ port. port < 65536) → IfSome destination (λ port. port < 65536) → old < 65536 → new < 65536
-    → (translated_message proto new old (instead (number (place_in proto 0) message) source) (instead (number (place_in proto 2) message) destination)
+    → (translated_message proto new old (instead (number (place_in proto 0) message) source)
+    (instead (number (place_in proto 2) message) destination)
     (translated_message proto old new source destination message) ≡ message)
     ↔ IsChecksumRestored proto message
 message_back protos.Udp old new source destination message fits small small_too old_small new_small =
@@ -426,7 +457,8 @@ message_back protos.Icmpv6 old new source destination message fits small small_t
 -- the law for the message of a packet; a later fragment has no ports
 part_back_of : (is_later_fragment : Bool) (proto : Proto) (old new : ℕ) (source destination : Option ℕ) (message : List ℕ) → IsBytes message
     → IfSome source (λ port. port < 65536) → IfSome destination (λ port. port < 65536) → old < 65536 → new < 65536
-    → (translated_in is_later_fragment (Some proto) new old (instead (port_in (Some proto) 0 message) source) (instead (port_in (Some proto) 2 message) destination)
+    → (translated_in is_later_fragment (Some proto) new old (instead (port_in (Some proto) 0 message) source)
+    (instead (port_in (Some proto) 2 message) destination)
     (translated_in is_later_fragment (Some proto) old new source destination message) ≡ message)
     ↔ IsChecksumRestoredIn is_later_fragment (Some proto) message
 part_back_of true proto old new source destination message fits small small_too old_small new_small = (λ same is. absurd (cc is), λ p. refl)
@@ -435,9 +467,11 @@ part_back_of false proto old new source destination message fits small small_too
     (λ same is. iff.0 same, λ p. iff.1 (p refl))
 
 -- the law for the message of a packet with any protocol
-pub part_back : (is_later_fragment : Bool) (proto : Option Proto) (old new : ℕ) (source destination : Option ℕ) (message : List ℕ) → IsBytes message
+pub part_back : (is_later_fragment : Bool) (proto : Option Proto) (old new : ℕ) (source destination : Option ℕ) (message : List ℕ)
+    → IsBytes message
     → IfSome source (λ port. port < 65536) → IfSome destination (λ port. port < 65536) → old < 65536 → new < 65536
-    → (translated_in is_later_fragment proto new old (instead (port_in proto 0 message) source) (instead (port_in proto 2 message) destination)
+    → (translated_in is_later_fragment proto new old (instead (port_in proto 0 message) source)
+    (instead (port_in proto 2 message) destination)
     (translated_in is_later_fragment proto old new source destination message) ≡ message)
     ↔ IsChecksumRestoredIn is_later_fragment proto message
 part_back is_later_fragment None old new source destination message fits small small_too old_small new_small = (λ same. tt, λ true. refl)
@@ -447,7 +481,8 @@ part_back is_later_fragment (Some proto) old new source destination message fits
 -- ---- the addresses
 
 -- an address that is put back is the old address exactly if it is what the translation replaced
-pub address_iff : (old other : List ℕ) (new : Option (List ℕ)) → (unwrap_or (instead other new) (unwrap_or new old) ≡ old) ↔ IfSome new (λ _. other ≡ old)
+pub address_iff : (old other : List ℕ) (new : Option (List ℕ))
+    → (unwrap_or (instead other new) (unwrap_or new old) ≡ old) ↔ IfSome new (λ _. other ≡ old)
 address_iff old other None = (λ same. tt, λ true. refl)
 address_iff old other (Some address) = (λ same. same, λ same. same)
 
@@ -457,6 +492,7 @@ address_len n old other None is is_too = is
 address_len n old other (Some address) is is_too = is_too
 
 -- an address that may be replaced has the same length
-pub new_address_len : (n : ℕ) (old : List ℕ) (new : Option (List ℕ)) → length old ≡ n → IfSome new (λ address. length address ≡ n) → length (unwrap_or new old) ≡ n
+pub new_address_len : (n : ℕ) (old : List ℕ) (new : Option (List ℕ)) → length old ≡ n → IfSome new (λ address. length address ≡ n)
+    → length (unwrap_or new old) ≡ n
 new_address_len n old None is is_too = is
 new_address_len n old (Some address) is is_too = is_too

@@ -30,7 +30,8 @@ use Rattle.etherparse_transport.proofs.ThereAndBack.{before_both, updated_small}
 -- ---- the quoted packet
 
 -- the checksum of an error is not changed by another quoted packet
-error_number : (message translated : List ℕ) → 8 + length translated ≤ length message → number 2 (with_bytes 8 translated message) ≡ number 2 message
+error_number : (message translated : List ℕ) → 8 + length translated ≤ length message
+    → number 2 (with_bytes 8 translated message) ≡ number 2 message
 error_number message translated there =
     ap (number 2) (sym (put_there 8 translated message there)) ∙ number_put 8 translated 2 message (omega arith)
 
@@ -104,7 +105,8 @@ quote_back old new quoted translated quoted_too message fits range same same_too
     (λ short ones. omega (arith, ones, number_missing 2 message short)) in (
       λ restored.
           let is : quoted_too ≡ quoted =
-          sym (range_at 8 quoted_too other other_room) ∙ ap (λ bytes. take (length quoted_too) (drop 8 bytes)) (sym apart ∙ sym back_is ∙ restored)
+          sym (range_at 8 quoted_too other other_room)
+          ∙ ap (λ bytes. take (length quoted_too) (drop 8 bytes)) (sym apart ∙ sym back_is ∙ restored)
           ∙ ap (λ n. take n (drop 8 message)) same_too ∙ quoted_there in
           (is, (iff is).0 (sym (back_is ∙ alone is) ∙ restored)),
       λ both. back_is ∙ alone both.0 ∙ (iff both.0).1 both.1,
@@ -117,17 +119,21 @@ quote_by counts all n bytes = if counts then Some (if nat_lt n 128 then bytes el
 some_is : (first second : List ℕ) → Some first ≡ Some second → first ≡ second
 some_is first second same = ap (λ option. unwrap_or option first) same
 
-whole_quote : (bytes changed quoted translated : List ℕ) → changed ≡ translated ++ drop (length translated) bytes → length translated ≡ length quoted
+whole_quote : (bytes changed quoted translated : List ℕ) → changed ≡ translated ++ drop (length translated) bytes
+    → length translated ≡ length quoted
     → bytes ≡ quoted → changed ≡ translated
 whole_quote bytes changed quoted translated is same whole =
     is ∙ ap (λ rest. translated ++ rest) (drop_all (length translated) bytes (omega (arith, same, ap length whole))) ∙ append-nil translated
 
-counted_quote : (is_unused : Bool) (n : ℕ) (bytes changed quoted translated : List ℕ) → changed ≡ translated ++ drop (length translated) bytes
-    → length translated ≡ length quoted → (if is_unused then bytes else take n bytes) ≡ quoted → (if is_unused then changed else take n changed) ≡ translated
+counted_quote : (is_unused : Bool) (n : ℕ) (bytes changed quoted translated : List ℕ)
+    → changed ≡ translated ++ drop (length translated) bytes
+    → length translated ≡ length quoted → (if is_unused then bytes else take n bytes) ≡ quoted
+    → (if is_unused then changed else take n changed) ≡ translated
 counted_quote true n bytes changed quoted translated is same whole = whole_quote bytes changed quoted translated is same whole
 counted_quote false n bytes changed quoted translated is same part =
     let more : drop (length translated) bytes ≡ drop (0 + length translated) bytes = ap (λ n. drop n bytes) (omega arith) in
-    message_kept 0 n bytes changed translated (is ∙ ap (λ rest. translated ++ rest) more) (same ∙ sym (ap length part)) (omega arith) (omega arith)
+    message_kept 0 n bytes changed translated (is ∙ ap (λ rest. translated ++ rest) more) (same ∙ sym (ap length part)) (omega arith)
+    (omega arith)
 
 quote_kept : (counts all : Bool) (n : ℕ) (bytes changed quoted translated : List ℕ) → changed ≡ translated ++ drop (length translated) bytes
     → length translated ≡ length quoted → quote_by counts all n bytes ≡ Some quoted → quote_by counts all n changed ≡ Some translated
@@ -138,7 +144,8 @@ quote_kept false true n bytes changed quoted translated is same quotes =
 quote_kept false false n bytes changed quoted translated is same quotes = absurd (cc quotes)
 
 -- an error with a translated packet quotes the translated packet
-quotes_translated_of : (is_later_fragment : Bool) (proto : Proto) (old new : ℕ) (message quoted translated : List ℕ) → IsRange message quoted
+quotes_translated_of : (is_later_fragment : Bool) (proto : Proto) (old new : ℕ) (message quoted translated : List ℕ)
+    → IsRange message quoted
     → length translated ≡ length quoted → quoted_in is_later_fragment (Some proto) message ≡ Some quoted
     → quoted_in is_later_fragment (Some proto) (with_quote old new quoted translated message) ≡ Some translated
 quotes_translated_of true proto old new message quoted translated range same quotes = absurd (cc quotes)
@@ -152,7 +159,8 @@ quotes_translated_of false protos.Icmpv4 old new message quoted translated range
     (quote_byte old new 0 quoted translated message there (inl (omega arith)) (omega arith))
     ∙ ap (λ n. quote_by (type == 3 || (type == 11 || type == 12)) (type == 4 || type == 5) (n * 4) (drop 8 changed))
     (quote_byte old new 5 quoted translated message there (inr (omega arith)) (omega arith))
-    ∙ quote_kept (type == 3 || (type == 11 || type == 12)) (type == 4 || type == 5) (slice_index message 5 * 4) (drop 8 message) (drop 8 changed)
+    ∙ quote_kept (type == 3 || (type == 11 || type == 12)) (type == 4 || type == 5) (slice_index message 5 * 4) (drop 8 message)
+    (drop 8 changed)
     quoted translated (quote_there old new quoted translated message there) same quotes
 quotes_translated_of false protos.Icmpv6 old new message quoted translated range same quotes =
     let there : 8 + length translated ≤ length message = omega (arith, range.within, same) in
@@ -167,7 +175,8 @@ quotes_translated_of false protos.Icmpv6 old new message quoted translated range
 
 -- ---- a message without a quoted packet
 
-none_by : (counts all : Bool) (n n_too : ℕ) (bytes changed : List ℕ) → quote_by counts all n bytes ≡ None → quote_by counts all n_too changed ≡ None
+none_by : (counts all : Bool) (n n_too : ℕ) (bytes changed : List ℕ) → quote_by counts all n bytes ≡ None
+    → quote_by counts all n_too changed ≡ None
 none_by true all n n_too bytes changed none = absurd (cc none)
 none_by false true n n_too bytes changed none = absurd (cc none)
 none_by false false n n_too bytes changed none = refl
@@ -178,7 +187,8 @@ icmpv4_byte k false identifier message before = refl
 icmpv4_byte k true identifier message before = before_both _ _ k message before
 
 icmpv6_byte : (k : ℕ) (is_a_query : Bool) (old new : ℕ) (identifier : Option ℕ) (message : List ℕ) → k < 2
-    → slice_index (if is_a_query then translated_query old new identifier message else with_updated_checksum old new message) k ≡ slice_index message k
+    → slice_index (if is_a_query then translated_query old new identifier message else with_updated_checksum old new message) k
+    ≡ slice_index message k
 icmpv6_byte k false old new identifier message before = other_by (nat_le 4 (length message)) 2 _ k message refl (inl before)
 icmpv6_byte k true old new identifier message before = before_both _ _ k message before
 
@@ -194,27 +204,32 @@ quotes_none_of false protos.Icmpv4 old new source destination message none =
     let type : ℕ = slice_index message 0 in
     ap (λ type. quote_by (type == 3 || (type == 11 || type == 12)) (type == 4 || type == 5) (slice_index changed 5 * 4) (drop 8 changed))
     (icmpv4_byte 0 (is_query protos.Icmpv4 message) (new_identifier protos.Icmpv4 source destination message) message (omega arith))
-    ∙ none_by (type == 3 || (type == 11 || type == 12)) (type == 4 || type == 5) (slice_index message 5 * 4) (slice_index changed 5 * 4) (drop 8 message) (drop 8 changed) none
+    ∙ none_by (type == 3 || (type == 11 || type == 12)) (type == 4 || type == 5) (slice_index message 5 * 4) (slice_index changed 5 * 4)
+    (drop 8 message) (drop 8 changed) none
 quotes_none_of false protos.Icmpv6 old new source destination message none =
     let changed : List ℕ = translated_message protos.Icmpv6 old new source destination message in
     let type : ℕ = slice_index message 0 in
     ap (λ type. quote_by (type == 1 || type == 3) (nat_lt type 128) (slice_index changed 4 * 8) (drop 8 changed))
     (icmpv6_byte 0 (is_query protos.Icmpv6 message) old new (new_identifier protos.Icmpv6 source destination message) message (omega arith))
-    ∙ none_by (type == 1 || type == 3) (nat_lt type 128) (slice_index message 4 * 8) (slice_index changed 4 * 8) (drop 8 message) (drop 8 changed) none
+    ∙ none_by (type == 1 || type == 3) (nat_lt type 128) (slice_index message 4 * 8) (slice_index changed 4 * 8) (drop 8 message)
+    (drop 8 changed) none
 
 long_enough : (len min : ℕ) → nat_lt len min ≡ false → min ≤ len
 long_enough len min whole = grind (arith, nat_tests)
 
 -- the packet that an accepted error quotes is a range of its message
-quoted_range_of : (is_later_fragment : Bool) (proto : Proto) (message quoted : List ℕ) → message_refusal is_later_fragment (Some proto) message ≡ None
+quoted_range_of : (is_later_fragment : Bool) (proto : Proto) (message quoted : List ℕ)
+    → message_refusal is_later_fragment (Some proto) message ≡ None
     → quoted_in is_later_fragment (Some proto) message ≡ Some quoted → IsRange message quoted
 quoted_range_of true proto message quoted accepted quotes = absurd (cc quotes)
 quoted_range_of false protos.Udp message quoted accepted quotes = absurd (cc quotes)
 quoted_range_of false protos.Tcp message quoted accepted quotes = absurd (cc quotes)
 quoted_range_of false protos.Icmpv4 message quoted accepted quotes =
-    icmpv4_quoted_range message quoted (long_enough (length message) 8 (none_if (nat_lt (length message) 8) _ (none_first _ _ accepted).0)) quotes
+    icmpv4_quoted_range message quoted (long_enough (length message) 8 (none_if (nat_lt (length message) 8) _ (none_first _ _ accepted).0))
+    quotes
 quoted_range_of false protos.Icmpv6 message quoted accepted quotes =
-    icmpv6_quoted_range message quoted (long_enough (length message) 8 (none_if (nat_lt (length message) 8) _ (none_first _ _ accepted).0)) quotes
+    icmpv6_quoted_range message quoted (long_enough (length message) 8 (none_if (nat_lt (length message) 8) _ (none_first _ _ accepted).0))
+    quotes
 
 -- ---- a message that is accepted again
 
@@ -268,9 +283,12 @@ accepted_alike false protos.Icmpv4 message changed alike quotes =
     ∷ []) in
     let type : ℕ = slice_index changed 0 in
     ap (λ len. by len (is_query protos.Icmpv4 changed) (icmpv4.refusal changed) type (is_none (quoted_by_icmpv4 changed))) alike.len
-    ∙ ap (λ is_a_query. by (length message) is_a_query (icmpv4.refusal changed) type (is_none (quoted_by_icmpv4 changed))) (query_alike protos.Icmpv4 message changed alike)
-    ∙ ap (λ refusal. by (length message) (is_query protos.Icmpv4 message) refusal type (is_none (quoted_by_icmpv4 changed))) (icmpv4_alike message changed alike)
-    ∙ ap (λ type. by (length message) (is_query protos.Icmpv4 message) (icmpv4.refusal message) type (is_none (quoted_by_icmpv4 changed))) alike.type
+    ∙ ap (λ is_a_query. by (length message) is_a_query (icmpv4.refusal changed) type (is_none (quoted_by_icmpv4 changed)))
+    (query_alike protos.Icmpv4 message changed alike)
+    ∙ ap (λ refusal. by (length message) (is_query protos.Icmpv4 message) refusal type (is_none (quoted_by_icmpv4 changed)))
+    (icmpv4_alike message changed alike)
+    ∙ ap (λ type. by (length message) (is_query protos.Icmpv4 message) (icmpv4.refusal message) type (is_none (quoted_by_icmpv4 changed)))
+    alike.type
     ∙ ap (by (length message) (is_query protos.Icmpv4 message) (icmpv4.refusal message) (slice_index message 0)) quotes
 accepted_alike false protos.Icmpv6 message changed alike quotes =
     let by : ℕ → Bool → Option LenError → Bool → Option TranslateError = λ len is_a_query refusal is_no_error. first_of (
@@ -278,8 +296,10 @@ accepted_alike false protos.Icmpv6 message changed alike quotes =
     ∷ refused_if (not is_a_query && (is_some refusal || is_no_error)) IcmpMessage
     ∷ []) in
     ap (λ len. by len (is_query protos.Icmpv6 changed) (icmpv6.refusal changed) (is_none (quoted_by_icmpv6 changed))) alike.len
-    ∙ ap (λ is_a_query. by (length message) is_a_query (icmpv6.refusal changed) (is_none (quoted_by_icmpv6 changed))) (query_alike protos.Icmpv6 message changed alike)
-    ∙ ap (λ refusal. by (length message) (is_query protos.Icmpv6 message) refusal (is_none (quoted_by_icmpv6 changed))) (icmpv6_alike message changed alike)
+    ∙ ap (λ is_a_query. by (length message) is_a_query (icmpv6.refusal changed) (is_none (quoted_by_icmpv6 changed)))
+    (query_alike protos.Icmpv6 message changed alike)
+    ∙ ap (λ refusal. by (length message) (is_query protos.Icmpv6 message) refusal (is_none (quoted_by_icmpv6 changed)))
+    (icmpv6_alike message changed alike)
     ∙ ap (by (length message) (is_query protos.Icmpv6 message) (icmpv6.refusal message)) quotes
 
 alike_of : (proto : Proto) (message changed : List ℕ) → IsAlike message changed → IsAlikeOf proto message changed
@@ -310,7 +330,8 @@ ports_alike protos.Icmpv6 old new source destination message =
 -- a message with new ports is accepted
 ports_accepted_of : (is_later_fragment : Bool) (proto : Proto) (old new : ℕ) (source destination : Option ℕ) (message : List ℕ)
     → quoted_in is_later_fragment (Some proto) message ≡ None → message_refusal is_later_fragment (Some proto) message ≡ None
-    → message_refusal is_later_fragment (Some proto) (translated_in is_later_fragment (Some proto) old new source destination message) ≡ None
+    → message_refusal is_later_fragment (Some proto) (translated_in is_later_fragment (Some proto) old new source destination message)
+    ≡ None
 ports_accepted_of true proto old new source destination message none accepted = refl
 ports_accepted_of false proto old new source destination message none accepted =
     let changed : List ℕ = translated_message proto old new source destination message in
@@ -336,7 +357,8 @@ error_accepted_of is_later_fragment proto old new message quoted translated rang
 
 -- ---- a message of any protocol
 
-pub quotes_translated : (is_later_fragment : Bool) (proto : Option Proto) (old new : ℕ) (message quoted translated : List ℕ) → IsRange message quoted
+pub quotes_translated : (is_later_fragment : Bool) (proto : Option Proto) (old new : ℕ) (message quoted translated : List ℕ)
+    → IsRange message quoted
     → length translated ≡ length quoted → quoted_in is_later_fragment proto message ≡ Some quoted
     → quoted_in is_later_fragment proto (with_quote old new quoted translated message) ≡ Some translated
 quotes_translated is_later_fragment None old new message quoted translated range same quotes = absurd (cc quotes)
@@ -350,10 +372,12 @@ quotes_none is_later_fragment None old new source destination message none = ref
 quotes_none is_later_fragment (Some proto) old new source destination message none =
     quotes_none_of is_later_fragment proto old new source destination message none
 
-pub quoted_range : (is_later_fragment : Bool) (proto : Option Proto) (message quoted : List ℕ) → message_refusal is_later_fragment proto message ≡ None
+pub quoted_range : (is_later_fragment : Bool) (proto : Option Proto) (message quoted : List ℕ)
+    → message_refusal is_later_fragment proto message ≡ None
     → quoted_in is_later_fragment proto message ≡ Some quoted → IsRange message quoted
 quoted_range is_later_fragment None message quoted accepted quotes = absurd (cc quotes)
-quoted_range is_later_fragment (Some proto) message quoted accepted quotes = quoted_range_of is_later_fragment proto message quoted accepted quotes
+quoted_range is_later_fragment (Some proto) message quoted accepted quotes =
+    quoted_range_of is_later_fragment proto message quoted accepted quotes
 
 pub ports_accepted : (is_later_fragment : Bool) (proto : Option Proto) (old new : ℕ) (source destination : Option ℕ) (message : List ℕ)
     → quoted_in is_later_fragment proto message ≡ None → message_refusal is_later_fragment proto message ≡ None
@@ -362,7 +386,8 @@ ports_accepted is_later_fragment None old new source destination message none ac
 ports_accepted is_later_fragment (Some proto) old new source destination message none accepted =
     ports_accepted_of is_later_fragment proto old new source destination message none accepted
 
-pub error_accepted : (is_later_fragment : Bool) (proto : Option Proto) (old new : ℕ) (message quoted translated : List ℕ) → IsRange message quoted
+pub error_accepted : (is_later_fragment : Bool) (proto : Option Proto) (old new : ℕ) (message quoted translated : List ℕ)
+    → IsRange message quoted
     → length translated ≡ length quoted → quoted_in is_later_fragment proto message ≡ Some quoted
     → message_refusal is_later_fragment proto message ≡ None
     → message_refusal is_later_fragment proto (with_quote old new quoted translated message) ≡ None

@@ -55,7 +55,8 @@ by_tests icmp false true is_icmp number proto udp tcp other is = is_number numbe
 by_tests icmp false false true number proto udp tcp other is = is_number number (number_of icmp) (sym other) ∙ sym (ap number_or_zero is)
 by_tests icmp false false false number proto udp tcp other is = absurd (cc is)
 
-pub ipv4_number : (source destination : List ℕ) (number : ℕ) (proto : Proto) → Some proto ≡ proto_over (Ipv4 source destination) number → number ≡ number_of proto
+pub ipv4_number : (source destination : List ℕ) (number : ℕ) (proto : Proto) → Some proto ≡ proto_over (Ipv4 source destination) number
+    → number ≡ number_of proto
 ipv4_number source destination number proto is = by_tests protos.Icmpv4 _ _ _ number proto refl refl refl is
 
 -- the number of a protocol is not the number of an authentication header
@@ -75,7 +76,8 @@ second_false true rest is = absurd (cc is)
 second_false false rest is = is
 
 -- the number of an accepted protocol over IPv4 is not the number of an authentication header
-pub ipv4_accepts : (has_port : Bool) (source destination : List ℕ) (number : ℕ) (proto : Option Proto) → proto ≡ proto_over (Ipv4 source destination) number
+pub ipv4_accepts : (has_port : Bool) (source destination : List ℕ) (number : ℕ) (proto : Option Proto)
+    → proto ≡ proto_over (Ipv4 source destination) number
     → (is_none proto && (has_port || covers_ipv4_addresses number)) ≡ false → (number == 51) ≡ false
 ipv4_accepts has_port source destination number None is accepted =
     first_false (number == 51) _ (second_false has_port (covers_ipv4_addresses number) accepted)
@@ -106,34 +108,47 @@ first_bytes n bytes =
     ap (take (length (take n bytes))) (sym (take-append-drop n bytes)) ∙ take_at (take n bytes) (drop n bytes) (length (take n bytes)) refl
 
 -- the message is the range that begins at its place and has its length
-pub message_is_range : (len n : ℕ) (packet : List ℕ) → len ≤ n → slice_range packet len (len + length (drop len (take n packet))) ≡ drop len (take n packet)
+pub message_is_range : (len n : ℕ) (packet : List ℕ) → len ≤ n
+    → slice_range packet len (len + length (drop len (take n packet))) ≡ drop len (take n packet)
 message_is_range len n packet within =
     let more : n ≡ len + (n - len) = omega (arith, within) in
-    let is : drop len (take n packet) ≡ take (n - len) (drop len packet) = ap (λ n. drop len (take n packet)) more ∙ drop-take len (n - len) packet in
+    let is : drop len (take n packet) ≡ take (n - len) (drop len packet) =
+    ap (λ n. drop len (take n packet)) more ∙ drop-take len (n - len) packet in
     let count : len + length (drop len (take n packet)) - len ≡ length (take (n - len) (drop len packet)) = omega (arith, ap length is) in
     ap (λ n. take n (drop len packet)) count ∙ first_bytes (n - len) (drop len packet) ∙ sym is
 
 pub message_range : (len : ℕ) (packet : List ℕ) (found : TransportInIp) (carries : Carries packet found) → carries.headers.len ≡ len
-    → found.is_length_missing ≡ ip.lacks_len packet → slice_range packet len (len + length found.payload.now) ≡ counted_after false len packet
+    → found.is_length_missing ≡ ip.lacks_len packet
+    → slice_range packet len (len + length found.payload.now) ≡ counted_after false len packet
 message_range len packet found carries is missing =
     let n : ℕ = counted_len (ip.lacks_len packet) packet in
     let payload_is : found.payload.now ≡ counted_after false len packet =
-    carries.payload ∙ ap (λ n. drop n (counted found.is_length_missing packet)) is ∙ ap (λ missing. drop len (counted missing packet)) missing in
-    let within : len ≤ n = omega (arith, is, carries.within, ap (λ missing. length (counted missing packet)) missing, length-take n packet) in
+    carries.payload ∙ ap (λ n. drop n (counted found.is_length_missing packet)) is
+    ∙ ap (λ missing. drop len (counted missing packet)) missing in
+    let within : len ≤ n = omega (
+      arith,
+      is,
+      carries.within,
+      ap (λ missing. length (counted missing packet)) missing,
+      length-take n packet,
+    ) in
     ap (λ payload. slice_range packet len (len + length payload)) payload_is ∙ message_is_range len n packet within
 
 -- ---- replaced bytes
 
-pub put_is : (place end : ℕ) (bytes new : List ℕ) → length new ≡ end - place → put_mid place (end - place) bytes new ≡ with_bytes place new bytes
+pub put_is : (place end : ℕ) (bytes new : List ℕ) → length new ≡ end - place
+    → put_mid place (end - place) bytes new ≡ with_bytes place new bytes
 put_is place end bytes new len =
     ap (λ rest. take place bytes ++ (new ++ rest)) (drop-drop (end - place) place bytes ∙ ap (λ n. drop (place + n) bytes) (sym len))
 
 -- ---- the message of a packet
 
-pub ipv4_flow_message_is : (new : Ipv4Translation) (packet message : List ℕ) (is_later_fragment : Bool) (proto : Option Proto) (removed added : ℕ)
+pub ipv4_flow_message_is : (new : Ipv4Translation) (packet message : List ℕ) (is_later_fragment : Bool) (proto : Option Proto)
+    (removed added : ℕ)
     → is_later_fragment ≡ ipv4_is_later_fragment packet → proto ≡ ipv4_proto packet
     → removed ≡ sum_of_ipv4 (ipv4_header_of packet) → added ≡ sum_of_ipv4 (ipv4_addresses new packet)
-    → translated_in is_later_fragment proto removed added new.source_port new.destination_port message ≡ ipv4_flow_message new message packet
+    → translated_in is_later_fragment proto removed added new.source_port new.destination_port message
+    ≡ ipv4_flow_message new message packet
 ipv4_flow_message_is new packet message is_later_fragment proto removed added later known is is_too =
     let message_of : Bool → Option Proto → ℕ → ℕ → List ℕ = λ later proto removed added.
     translated_in later proto removed added new.source_port new.destination_port message in
@@ -146,7 +161,8 @@ ipv4_flow_message_is new packet message is_later_fragment proto removed added la
 -- ---- the quoted packet
 
 -- if only the words of the quoted packet are removed, and nothing else, the sum grows by them
-pub quote_removed : (old was between now quoted : ℕ) → was ≡ old → between ≡ folded (was + quoted) → now ≡ folded (between + 0) → now ≡ folded (old + quoted)
+pub quote_removed : (old was between now quoted : ℕ) → was ≡ old → between ≡ folded (was + quoted) → now ≡ folded (between + 0)
+    → now ≡ folded (old + quoted)
 quote_removed old was between now quoted is is_too is_now =
     is_now ∙ ap (λ n. folded (n + 0)) is_too ∙ folded-add (was + quoted) 0 ∙ ap folded (omega (arith, is))
 
@@ -185,10 +201,12 @@ quoted_or other None = other
 quoted_or other (Some quoted) = quoted
 
 quoted_by_kind : (counts all : Bool) (n : ℕ) (message quoted : List ℕ) → 8 ≤ length message
-    → (if counts then Some (if nat_lt n 128 then drop 8 message else take n (drop 8 message)) else (if all then Some (drop 8 message) else None)) ≡ Some quoted
+    → (if counts then Some (if nat_lt n 128 then drop 8 message else take n (drop 8 message))
+    else (if all then Some (drop 8 message) else None)) ≡ Some quoted
     → IsRange message quoted
 unfolding quoted_or
-quoted_by_kind true all n message quoted long is = subst (IsRange message) (ap (quoted_or []) is) (quoted_counted (nat_lt n 128) n message long)
+quoted_by_kind true all n message quoted long is =
+    subst (IsRange message) (ap (quoted_or []) is) (quoted_counted (nat_lt n 128) n message long)
 quoted_by_kind false true n message quoted long is = subst (IsRange message) (ap (quoted_or []) is) (all_range message long)
 quoted_by_kind false false n message quoted long is = absurd (cc is)
 
@@ -222,16 +240,20 @@ ipv4_place_is bytes packet place begins start_is message ordered there known lat
       there = there;
       proto = known ∙ ap (proto_over (Ipv4 [] [])) (get_or-take n packet 9 0 (omega (arith, begins.five_words)));
       later = later
-          ∙ ap (λ high. not (((0 * 256 + high) * 256 + slice_index (take n packet) 7) % 2 ^ 13 == 0)) (get_or-take n packet 6 0 (omega (arith, begins.five_words)))
-          ∙ ap (λ low. not (((0 * 256 + slice_index packet 6) * 256 + low) % 2 ^ 13 == 0)) (get_or-take n packet 7 0 (omega (arith, begins.five_words)));
+          ∙ ap (λ high. not (((0 * 256 + high) * 256 + slice_index (take n packet) 7) % 2 ^ 13 == 0))
+          (get_or-take n packet 6 0 (omega (arith, begins.five_words)))
+          ∙ ap (λ low. not (((0 * 256 + slice_index packet 6) * 256 + low) % 2 ^ 13 == 0))
+          (get_or-take n packet 7 0 (omega (arith, begins.five_words)));
     }
 
 long_enough : (len least : ℕ) → least ≤ len → nat_lt len least ≡ false
 long_enough len least there = grind (arith, nat_tests)
 
 -- no rule refuses the header
-header_accepted : (short small cut wrong : Bool) (error error_too error_three error_four : IpError) → short ≡ false → small ≡ false → cut ≡ false → wrong ≡ false
-    → first_of (first_of (refused_if short error ∷ refused_if small error_too ∷ refused_if cut error_three ∷ []) ∷ refused_if wrong error_four ∷ []) ≡ None
+header_accepted : (short small cut wrong : Bool) (error error_too error_three error_four : IpError) → short ≡ false → small ≡ false
+    → cut ≡ false → wrong ≡ false
+    → first_of (first_of (refused_if short error ∷ refused_if small error_too ∷ refused_if cut error_three ∷ [])
+    ∷ refused_if wrong error_four ∷ []) ≡ None
 header_accepted true small cut wrong error error_too error_three error_four is is_too is_three is_four = absurd (cc is)
 header_accepted false true cut wrong error error_too error_three error_four is is_too is_three is_four = absurd (cc is_too)
 header_accepted false false true wrong error error_too error_three error_four is is_too is_three is_four = absurd (cc is_three)
@@ -277,7 +299,8 @@ lax_accepts packet header is begins stated other =
 
 -- the number of bytes that an IPv4 packet counts, whether or not it states a length
 counted_if : (unstated : Bool) (packet : List ℕ) → version packet ≡ 4
-    → counted_len (is_none (if unstated then None else Some (ip.total_len packet))) packet ≡ (if unstated then length packet else ip.total_len packet)
+    → counted_len (is_none (if unstated then None else Some (ip.total_len packet))) packet
+    ≡ (if unstated then length packet else ip.total_len packet)
 counted_if true packet is = refl
 counted_if false packet is =
     ap (λ v. if v == 4 then ip.total_len packet else 40 + unwrap_or (ip.jumbo_len packet) (ip.payload_len packet)) is
@@ -307,15 +330,18 @@ header_counted packet begins accepted =
     let rules : ip.ipv4_refusal packet ≡ None =
     else_none (length packet == 0) (HeaderCutOff 1 0) (ip.ipv4_refusal packet) (sym (ap by_version begins.is_version_4) ∙ header) in
     let total = (none_first (ip.ipv4_header_refusal packet) _ rules).1 in
-    none_if _ (TotalLength (ip.total_len packet) (ipv4_header_len packet)) (none_first (refused_if _ (TotalLength (ip.total_len packet) (ipv4_header_len packet))) _ total).0
+    none_if _ (TotalLength (ip.total_len packet) (ipv4_header_len packet))
+    (none_first (refused_if _ (TotalLength (ip.total_len packet) (ipv4_header_len packet))) _ total).0
 
 -- if a packet counts this number of bytes, its message ends after as many bytes as are present
-message_ends : (packet : List ℕ) (end n : ℕ) → counted_len (ip.lacks_len packet) packet ≡ n → ipv4_header_len packet ≤ n → end ≤ length packet
+message_ends : (packet : List ℕ) (end n : ℕ) → counted_len (ip.lacks_len packet) packet ≡ n → ipv4_header_len packet ≤ n
+    → end ≤ length packet
     → ipv4_header_len packet + length (drop (ipv4_header_len packet) (take n packet)) ≡ end → IsMessageEnd packet end
 message_ends packet end n counts ordered there count =
     let len : ℕ = ipv4_header_len packet in
     record {
-      message = sym (ap (slice_range packet len) count) ∙ message_is_range len n packet ordered ∙ sym (ap (λ n. drop len (take n packet)) counts);
+      message = sym (ap (slice_range packet len) count) ∙ message_is_range len n packet ordered
+          ∙ sym (ap (λ n. drop len (take n packet)) counts);
       ordered = omega (arith, count);
       there = there;
     }
@@ -331,7 +357,8 @@ ends_with_packet_if false packet test begins cut =
     let len : ℕ = ipv4_header_len packet in
     let n : ℕ = ip.total_len packet in
     let below : length packet ≤ n = grind (arith, nat_tests, cut) in
-    message_ends packet (length packet) n (counted_by false packet test begins.is_version_4) (omega (arith, begins.whole, below)) (omega arith)
+    message_ends packet (length packet) n (counted_by false packet test begins.is_version_4) (omega (arith, begins.whole, below))
+    (omega arith)
     (ap (λ bytes. len + length (drop len bytes)) (take_all n packet below) ∙ omega (arith, begins.whole, length-drop len packet))
 
 ends_with_total_if : (unstated : Bool) (packet : List ℕ) → unstated ≡ (ip.total_len packet == 0) → BeginsWithIpv4Header packet
@@ -346,43 +373,50 @@ ends_with_total_if false packet test begins counts whole =
     message_ends packet n n (counted_by false packet test begins.is_version_4) ordered there
     (omega (arith, ordered, length-drop len (take n packet), length-take-le n packet there))
 
-pub ends_with_packet : (packet header : List ℕ) (total : ℕ) → header ≡ ip.ipv4_header packet → total ≡ be_number header 2 2 → BeginsWithIpv4Header packet
+pub ends_with_packet : (packet header : List ℕ) (total : ℕ) → header ≡ ip.ipv4_header packet → total ≡ be_number header 2 2
+    → BeginsWithIpv4Header packet
     → (total == 0 || nat_lt (length packet) total) ≡ true → IsMessageEnd packet (length packet)
 ends_with_packet packet header total is states begins cut =
     let same : total ≡ ip.total_len packet = states ∙ ap (λ header. be_number header 2 2) is in
     ends_with_packet_if _ packet refl begins (sym (ap (λ total. total == 0 || nat_lt (length packet) total) same) ∙ cut)
 
-pub ends_with_total : (packet header : List ℕ) (total : ℕ) → header ≡ ip.ipv4_header packet → total ≡ be_number header 2 2 → BeginsWithIpv4Header packet
+pub ends_with_total : (packet header : List ℕ) (total : ℕ) → header ≡ ip.ipv4_header packet → total ≡ be_number header 2 2
+    → BeginsWithIpv4Header packet
     → ip.lax_refusal packet ≡ None → (total == 0) ≡ false → nat_lt (length packet) total ≡ false → IsMessageEnd packet total
 ends_with_total packet header total is states begins accepted some whole =
     let same : total ≡ ip.total_len packet = states ∙ ap (λ header. be_number header 2 2) is in
     subst (IsMessageEnd packet) (sym same)
     (ends_with_total_if false packet (sym some ∙ ap (λ total. total == 0) same) begins
-    (ap (λ unstated. not unstated && nat_lt (ip.total_len packet) (ipv4_header_len packet)) (sym some ∙ ap (λ total. total == 0) same) ∙ header_counted packet begins accepted)
+    (ap (λ unstated. not unstated && nat_lt (ip.total_len packet) (ipv4_header_len packet)) (sym some ∙ ap (λ total. total == 0) same)
+    ∙ header_counted packet begins accepted)
     (sym (ap (nat_lt (length packet)) same) ∙ whole))
 
 -- ---- the place of a message in a quoted packet
 
 -- the message after the header, up to the end
-rest_is_range : (len : ℕ) (packet : List ℕ) → len ≤ length packet → slice_range packet len (length packet) ≡ drop len (take (length packet) packet)
+rest_is_range : (len : ℕ) (packet : List ℕ) → len ≤ length packet
+    → slice_range packet len (length packet) ≡ drop len (take (length packet) packet)
 rest_is_range len packet there =
     let end : len + length (drop len (take (length packet) packet)) ≡ length packet =
     omega (arith, there, length-drop len (take (length packet) packet), length-take-le (length packet) packet (omega arith)) in
     sym (ap (slice_range packet len) end) ∙ message_is_range len (length packet) packet there
 
 pub quoted_place_is : (packet : List ℕ) (place : Place) → BeginsWithIpv4Header packet → place.start ≡ length (ip.ipv4_header packet)
-    → place.end ≡ length packet → place.proto ≡ ipv4_proto (ip.ipv4_header packet) → place.is_later_fragment ≡ ipv4_is_later_fragment (ip.ipv4_header packet)
+    → place.end ≡ length packet → place.proto ≡ ipv4_proto (ip.ipv4_header packet)
+    → place.is_later_fragment ≡ ipv4_is_later_fragment (ip.ipv4_header packet)
     → IsIpv4Place (message_in_ipv4 true packet) packet place
 quoted_place_is packet place begins start_is end known later =
     let n : ℕ = ipv4_header_len packet in
-    ipv4_place_is (message_in_ipv4 true packet) packet place begins start_is (ap (slice_range packet n) end ∙ rest_is_range n packet begins.whole)
+    ipv4_place_is (message_in_ipv4 true packet) packet place begins start_is
+    (ap (slice_range packet n) end ∙ rest_is_range n packet begins.whole)
     (omega (arith, end, begins.whole)) (omega (arith, end)) known later
 
 -- the rules for a quoted packet after its header
 quoted_rules : Bool → List ℕ → List (Option TranslateError)
 quoted_rules has_port packet =
     refused_if (has_source_route packet) SourceRoute
-    ∷ refused_if (is_none (ipv4_proto packet) && (has_port || covers_ipv4_addresses (slice_index packet 9))) (Protocol (record { 0 = slice_index packet 9 }))
+    ∷ refused_if (is_none (ipv4_proto packet) && (has_port || covers_ipv4_addresses (slice_index packet 9)))
+    (Protocol (record { 0 = slice_index packet 9 }))
     ∷ []
 
 -- the rules of the header and of its version accept a quoted packet that begins with a header
@@ -397,15 +431,19 @@ quoted_header_accepted false false false error error_too error_three rules v is 
     ap (λ v. first_of (refused_if (not (v == 4)) OtherVersion ∷ rules)) is_version
 
 -- the errors of a quoted packet that begins with a header
-quoted_after_header : (has_port : Bool) (packet : List ℕ) → BeginsWithIpv4Header packet → ipv4_place_refusal true has_port packet ≡ first_of (quoted_rules has_port packet)
+quoted_after_header : (has_port : Bool) (packet : List ℕ) → BeginsWithIpv4Header packet
+    → ipv4_place_refusal true has_port packet ≡ first_of (quoted_rules has_port packet)
 unfolding quoted_rules
 quoted_after_header has_port packet begins =
     let n : ℕ = ipv4_header_len packet in
-    quoted_header_accepted (nat_lt (length packet) 20) (nat_lt n 20) (nat_lt (length packet) n) _ _ _ (quoted_rules has_port packet) (version packet)
-    (long_enough (length packet) 20 begins.shortest) (long_enough n 20 begins.five_words) (long_enough (length packet) n begins.whole) begins.is_version_4
+    quoted_header_accepted (nat_lt (length packet) 20) (nat_lt n 20) (nat_lt (length packet) n) _ _ _ (quoted_rules has_port packet)
+    (version packet)
+    (long_enough (length packet) 20 begins.shortest) (long_enough n 20 begins.five_words)
+    (long_enough (length packet) n begins.whole) begins.is_version_4
 
 pub quoted_accepted : (has_port : Bool) (packet : List ℕ) → BeginsWithIpv4Header packet → has_source_route packet ≡ false
-    → (is_none (ipv4_proto packet) && (has_port || covers_ipv4_addresses (slice_index packet 9))) ≡ false → ipv4_place_refusal true has_port packet ≡ None
+    → (is_none (ipv4_proto packet) && (has_port || covers_ipv4_addresses (slice_index packet 9))) ≡ false
+    → ipv4_place_refusal true has_port packet ≡ None
 unfolding quoted_rules
 quoted_accepted has_port packet begins no_route covered =
     let protocol : TranslateError = Protocol (record { 0 = slice_index packet 9 }) in
@@ -425,7 +463,8 @@ quoted_with_route has_port packet begins has_route = λ none.
     cc (none, quoted_after_header has_port packet begins, is)
 
 pub quoted_no_proto : (has_port : Bool) (packet : List ℕ) → BeginsWithIpv4Header packet → has_source_route packet ≡ false
-    → (is_none (ipv4_proto packet) && (has_port || covers_ipv4_addresses (slice_index packet 9))) ≡ true → ipv4_place_refusal true has_port packet ≢ None
+    → (is_none (ipv4_proto packet) && (has_port || covers_ipv4_addresses (slice_index packet 9))) ≡ true
+    → ipv4_place_refusal true has_port packet ≢ None
 unfolding quoted_rules
 quoted_no_proto has_port packet begins no_route covered = λ none.
     let protocol : TranslateError = Protocol (record { 0 = slice_index packet 9 }) in
@@ -469,11 +508,13 @@ first_of_one : {E : Type 0} (rule : Option E) → first_of (rule ∷ []) ≡ rul
 first_of_one None = refl
 first_of_one (Some error) = refl
 
-pub last_of_three : {E : Type 0} (first second third : Option E) → first ≡ None → second ≡ None → first_of (first ∷ second ∷ third ∷ []) ≡ third
+pub last_of_three : {E : Type 0} (first second third : Option E) → first ≡ None → second ≡ None
+    → first_of (first ∷ second ∷ third ∷ []) ≡ third
 last_of_three first second third is is_too =
     ap (λ first. first_of (first ∷ second ∷ third ∷ [])) is ∙ ap (λ second. first_of (second ∷ third ∷ [])) is_too ∙ first_of_one third
 
-pub ipv4_left : (has_port has_quoted_port : Bool) (packet : List ℕ) (place : Place) (quoted : Option (List ℕ)) → IsIpv4Place (message_in_ipv4 false packet) packet place
+pub ipv4_left : (has_port has_quoted_port : Bool) (packet : List ℕ) (place : Place) (quoted : Option (List ℕ))
+    → IsIpv4Place (message_in_ipv4 false packet) packet place
     → ipv4_place_refusal false has_port packet ≡ None
     → message_refusal place.is_later_fragment place.proto (slice_range packet place.start place.end) ≡ None
     → quoted_in place.is_later_fragment place.proto (slice_range packet place.start place.end) ≡ quoted
@@ -498,7 +539,8 @@ ipv4_left has_port has_quoted_port packet place quoted at found accepted quotes 
 
 -- ---- IPv6
 
-pub ipv6_flow_message_is : (new : Ipv6Translation) (packet bytes : List ℕ) (is_later_fragment : Bool) (proto : Option Proto) (removed added : ℕ)
+pub ipv6_flow_message_is : (new : Ipv6Translation) (packet bytes : List ℕ) (is_later_fragment : Bool) (proto : Option Proto)
+    (removed added : ℕ)
     → bytes ≡ message_in_ipv6 packet → is_later_fragment ≡ ipv6_is_later_fragment packet → proto ≡ ipv6_proto packet
     → AreUpdatedAlike removed added (sum_of_ipv6 (ipv6_header_of packet)) (sum_of_ipv6 (ipv6_addresses new packet))
     → translated_in is_later_fragment proto removed added new.source_port new.destination_port bytes ≡ ipv6_flow_message new packet
@@ -592,10 +634,12 @@ not_version_4 true packet test accepted other =
     }))
 
 -- a packet that is read, and that does not begin with an IPv4 header, has another version
-pub no_version_4 : (has_port : Bool) (packet : List ℕ) → ip.lax_refusal packet ≡ None → ¬ BeginsWithIpv4Header packet → ipv4_place_refusal false has_port packet ≡ Some OtherVersion
+pub no_version_4 : (has_port : Bool) (packet : List ℕ) → ip.lax_refusal packet ≡ None → ¬ BeginsWithIpv4Header packet
+    → ipv4_place_refusal false has_port packet ≡ Some OtherVersion
 no_version_4 has_port packet accepted other =
     let last : List (Option TranslateError) = refused_if (has_source_route packet) SourceRoute
-    ∷ refused_if (is_none (ipv4_proto packet) && (has_port || covers_ipv4_addresses (slice_index packet 9))) (Protocol (record { 0 = slice_index packet 9 }))
+    ∷ refused_if (is_none (ipv4_proto packet) && (has_port || covers_ipv4_addresses (slice_index packet 9)))
+    (Protocol (record { 0 = slice_index packet 9 }))
     ∷ [] in
     ap (λ refusal. first_of (option_map Ip refusal ∷ refused_if (not (version packet == 4)) OtherVersion ∷ last)) accepted
     ∙ ap (λ is. first_of (None ∷ refused_if (not is) OtherVersion ∷ last)) (not_version_4 (version packet == 4) packet refl accepted other)
@@ -615,12 +659,15 @@ not_version_6 true packet test accepted other =
     absurd (other (record { whole = grind (arith, nat_tests, whole); is_version_6 = is }))
 
 -- an accepted packet that does not begin with an IPv6 header is refused for its version
-pub other_version : (has_port : Bool) (packet : List ℕ) → ip.lax_refusal packet ≡ None → ¬ BeginsWithIpv6Header packet → ipv6_place_refusal has_port packet ≡ Some OtherVersion
+pub other_version : (has_port : Bool) (packet : List ℕ) → ip.lax_refusal packet ≡ None → ¬ BeginsWithIpv6Header packet
+    → ipv6_place_refusal has_port packet ≡ Some OtherVersion
 other_version has_port packet accepted other =
     let last : Option TranslateError =
-    refused_if (is_none (ipv6_proto packet) && (has_port || covers_ipv6_addresses (ipv6_protocol packet))) (Protocol (record { 0 = ipv6_protocol packet })) in
+    refused_if (is_none (ipv6_proto packet) && (has_port || covers_ipv6_addresses (ipv6_protocol packet)))
+    (Protocol (record { 0 = ipv6_protocol packet })) in
     ap (λ refusal. first_of (option_map Ip refusal ∷ refused_if (not (version packet == 6)) OtherVersion ∷ last ∷ [])) accepted
-    ∙ ap (λ is. first_of (None ∷ refused_if (not is) OtherVersion ∷ last ∷ [])) (not_version_6 (version packet == 6) packet refl accepted other)
+    ∙ ap (λ is. first_of (None ∷ refused_if (not is) OtherVersion ∷ last ∷ []))
+    (not_version_6 (version packet == 6) packet refl accepted other)
 
 -- the addresses of an IPv6 packet are IPv6 addresses
 pub over_ipv6_addresses : (packet : List ℕ) (found : TransportInIp) (after : IsAfterHeaders packet found) → version packet ≡ 6
@@ -633,12 +680,15 @@ over_ipv6_addresses packet found after is =
     (destination_by (Some (slice_range (ip.ipv6_header packet) 24 40)) after.extensions)) is
 
 -- a packet whose protocol is unknown is refused, if its ports or its checksum had to be translated
-pub ipv6_no_proto : (has_port : Bool) (packet : List ℕ) (found : TransportInIp) (number : IpNumber) (proto : Option Proto) → ip.lax_refusal packet ≡ None
-    → version packet ≡ 6 → IsAfterHeaders packet found → number.0 ≡ ipv6_protocol packet → proto ≡ proto_over (by_value found.addresses) number.0
+pub ipv6_no_proto : (has_port : Bool) (packet : List ℕ) (found : TransportInIp) (number : IpNumber) (proto : Option Proto)
+    → ip.lax_refusal packet ≡ None
+    → version packet ≡ 6 → IsAfterHeaders packet found → number.0 ≡ ipv6_protocol packet
+    → proto ≡ proto_over (by_value found.addresses) number.0
     → (is_none proto && (has_port || covers_ipv6_addresses number.0)) ≡ true → ipv6_place_refusal has_port packet ≡ Some (Protocol number)
 ipv6_no_proto has_port packet found number proto accepted is after number_is known refused =
     let proto_is : ipv6_proto packet ≡ proto =
-    sym (known ∙ ap (λ addresses. proto_over addresses number.0) (over_ipv6_addresses packet found after is) ∙ ap (proto_over (Ipv6 [] None)) number_is) in
+    sym (known ∙ ap (λ addresses. proto_over addresses number.0) (over_ipv6_addresses packet found after is)
+    ∙ ap (proto_over (Ipv6 [] None)) number_is) in
     let rule : Option Proto → ℕ → Option TranslateError = λ proto number.
     refused_if (is_none proto && (has_port || covers_ipv6_addresses number)) (Protocol (record { 0 = number })) in
     let last : Option TranslateError → Option TranslateError = λ rule. first_of (None ∷ None ∷ rule ∷ []) in

@@ -51,7 +51,14 @@ module _ (place : ℕ) (new bytes : List ℕ) (there : place + length new ≤ le
   pub length_kept : length (with_bytes place new bytes) ≡ length bytes
   length_kept =
       let rest : List ℕ = drop (place + length new) bytes in
-      omega (arith, there, before_len, length-append (take place bytes) (new ++ rest), length-append new rest, length-drop (place + length new) bytes)
+      omega (
+        arith,
+        there,
+        before_len,
+        length-append (take place bytes) (new ++ rest),
+        length-append new rest,
+        length-drop (place + length new) bytes,
+      )
 
   pub index_before : (k : ℕ) → k < place → slice_index (with_bytes place new bytes) k ≡ slice_index bytes k
   index_before k before =
@@ -98,7 +105,14 @@ kept_by true len n packet changed message test is same within there =
     let all : length packet ≤ len + length message =
     omega (arith, same, within, there, cut, length-drop len (take n packet), ap length (take_all n packet (omega (arith, cut)))) in
     ap (take (n - len)) (is ∙ ap (λ rest. message ++ rest) (drop_all (len + length message) packet all) ∙ append-nil message)
-    ∙ take_all (n - len) message (omega (arith, same, within, cut, length-drop len (take n packet), ap length (take_all n packet (omega (arith, cut)))))
+    ∙ take_all (n - len) message (omega (
+      arith,
+      same,
+      within,
+      cut,
+      length-drop len (take n packet),
+      ap length (take_all n packet (omega (arith, cut))),
+    ))
 
 -- the message of the changed packet is the new message
 pub message_kept : (len n : ℕ) (packet changed message : List ℕ)
@@ -131,7 +145,8 @@ pub record IsIpv4Kept (packet changed : List ℕ) : Type 0 where
   pub options : slice_range changed 20 (ipv4_header_len packet) ≡ slice_range packet 20 (ipv4_header_len packet)
 
 -- a byte of the header is the byte of the packet at its place
-header_byte : (packet : List ℕ) → 20 ≤ ipv4_header_len packet → (k : ℕ) → k < 20 → slice_index (ip.ipv4_header packet) k ≡ slice_index packet k
+header_byte : (packet : List ℕ) → 20 ≤ ipv4_header_len packet → (k : ℕ) → k < 20
+    → slice_index (ip.ipv4_header packet) k ≡ slice_index packet k
 header_byte packet len k within = get_or-take (ipv4_header_len packet) packet k 0 (omega (arith, len, within))
 
 pub header_len_kept : (packet changed : List ℕ) → IsIpv4Kept packet changed → ipv4_header_len changed ≡ ipv4_header_len packet
@@ -172,16 +187,19 @@ ipv4_refusal_by len header_len total_len = first_of (
     ∷ [])
 
 ipv4_header_refusal_is : (packet : List ℕ) → version packet ≡ 4
-    → header_refusal packet ≡ (if length packet == 0 then Some (HeaderCutOff 1 0) else ipv4_refusal_by (length packet) (ipv4_header_len packet) (ip.total_len packet))
+    → header_refusal packet ≡ (if length packet == 0 then Some (HeaderCutOff 1 0)
+    else ipv4_refusal_by (length packet) (ipv4_header_len packet) (ip.total_len packet))
 unfolding ipv4_refusal_by
 ipv4_header_refusal_is packet is =
     ap (λ v. if length packet == 0 then Some (HeaderCutOff 1 0) else if v == 4 then ip.ipv4_refusal packet
     else if v == 6 then ip.ipv6_refusal packet else Some (Version (version packet))) is
 
 ipv4_header_accepted : (packet changed : List ℕ) → version packet ≡ 4 → version changed ≡ 4 → length changed ≡ length packet
-    → ipv4_header_len changed ≡ ipv4_header_len packet → ip.total_len changed ≡ ip.total_len packet → header_refusal changed ≡ header_refusal packet
+    → ipv4_header_len changed ≡ ipv4_header_len packet → ip.total_len changed ≡ ip.total_len packet
+    → header_refusal changed ≡ header_refusal packet
 ipv4_header_accepted packet changed is is_too len header_len total_len =
-    let by : ℕ → ℕ → ℕ → Option IpError = λ len header_len total_len. if len == 0 then Some (HeaderCutOff 1 0) else ipv4_refusal_by len header_len total_len in
+    let by : ℕ → ℕ → ℕ → Option IpError =
+    λ len header_len total_len. if len == 0 then Some (HeaderCutOff 1 0) else ipv4_refusal_by len header_len total_len in
     ipv4_header_refusal_is changed is_too
     ∙ ap (λ len. by len (ipv4_header_len changed) (ip.total_len changed)) len
     ∙ ap (λ header_len. by (length packet) header_len (ip.total_len changed)) header_len
@@ -200,7 +218,8 @@ ipv4_ended packet proto flow =
 accepted_by : (packet : List ℕ) → header_refusal packet ≡ None → is_extended (first_headers packet) ≡ false → lax_refusal packet ≡ None
 accepted_by packet accepted last =
     ap (λ refusal. first_of (refusal ∷ error_of (headers_of (lacks_len packet) packet) ∷ [])) accepted
-    ∙ ap (λ read. first_of (None ∷ error_of read ∷ [])) (ended (length (counted (lacks_len packet) packet)) (first_headers packet) (counted (lacks_len packet) packet) last)
+    ∙ ap (λ read. first_of (None ∷ error_of read ∷ []))
+    (ended (length (counted (lacks_len packet) packet)) (first_headers packet) (counted (lacks_len packet) packet) last)
 
 -- a header without its total length is accepted alike
 quoted_header_alike : (packet changed : List ℕ) → length changed ≡ length packet → ipv4_header_len changed ≡ ipv4_header_len packet
@@ -220,7 +239,8 @@ headers_kept : (is_quoted : Bool) (packet changed : List ℕ) → ipv4_headers_r
 headers_kept true packet changed accepted header all = header ∙ accepted
 headers_kept false packet changed accepted header all = all accepted
 
-pub ipv4_flow_kept : (is_quoted : Bool) (packet changed : List ℕ) (proto : Option Proto) → IsIpv4Kept packet changed → IsIpv4Flow is_quoted packet proto
+pub ipv4_flow_kept : (is_quoted : Bool) (packet changed : List ℕ) (proto : Option Proto) → IsIpv4Kept packet changed
+    → IsIpv4Flow is_quoted packet proto
     → IsIpv4Flow is_quoted changed proto
 ipv4_flow_kept is_quoted packet changed proto kept flow =
     let is : version changed ≡ 4 = ap (λ byte. byte / 16) (kept.front.front 0 (omega arith)) ∙ flow.is_ipv4 in
@@ -247,14 +267,16 @@ ipv4_flow_kept is_quoted packet changed proto kept flow =
       there = omega (arith, kept.front.len, header_len, flow.there);
     }
 
-ipv4_headers_are : (packet : List ℕ) (proto : Option Proto) (found : TransportInIp) (carries : Carries packet found) → IsIpv4Flow false packet proto
+ipv4_headers_are : (packet : List ℕ) (proto : Option Proto) (found : TransportInIp) (carries : Carries packet found)
+    → IsIpv4Flow false packet proto
     → carries.headers ≡ ip.ipv4_headers (ipv4_header_len packet) (ip.ipv4_header packet)
 ipv4_headers_are packet proto found carries flow =
     first_is_last packet found carries (ipv4_ended packet proto flow)
     ∙ ap (λ v. if v == 4 then ip.ipv4_headers (ipv4_header_len packet) (ip.ipv4_header packet)
     else ip.ipv6_headers (ip.is_jumbogram packet) (ip.ipv6_header packet)) flow.is_ipv4
 
-pub ipv4_lacks_len_is : (packet : List ℕ) → version packet ≡ 4 → lacks_len packet ≡ is_none (if ip.total_len packet == 0 then None else Some (ip.total_len packet))
+pub ipv4_lacks_len_is : (packet : List ℕ) → version packet ≡ 4
+    → lacks_len packet ≡ is_none (if ip.total_len packet == 0 then None else Some (ip.total_len packet))
 ipv4_lacks_len_is packet is =
     ap (λ v. is_none (if v == 4 then ip.ipv4_stated_len packet
     else ip.ipv6_stated_len (ip.jumbo_len packet) (ip.payload_len packet) (ip.next_header packet))) is
@@ -262,7 +284,8 @@ ipv4_lacks_len_is packet is =
 pub ipv4_counted_len_is : (missing : Bool) (packet : List ℕ) → version packet ≡ 4
     → counted_len missing packet ≡ (if missing then length packet else ip.total_len packet)
 ipv4_counted_len_is missing packet is =
-    ap (λ v. if missing then length packet else if v == 4 then ip.total_len packet else 40 + unwrap_or (ip.jumbo_len packet) (ip.payload_len packet)) is
+    ap (λ v. if missing then length packet else if v == 4 then ip.total_len packet
+    else 40 + unwrap_or (ip.jumbo_len packet) (ip.payload_len packet)) is
 
 -- an option without a value is `None`
 none_there : {T : Type 0} (option : Option T) → is_some option ≡ false → option ≡ None
@@ -278,10 +301,12 @@ ipv4_destination_is packet five no_route =
     (route_read_too (drop 20 (ip.ipv4_header packet)) no_route))
     ∙ in_front (ipv4_header_len packet) 16 4 packet (omega (arith, five))
 
-pub ipv4_reading : (packet changed source destination message : List ℕ) (proto : Option Proto) → IsIpv4Kept packet changed → IsIpv4Flow false packet proto
+pub ipv4_reading : (packet changed source destination message : List ℕ) (proto : Option Proto) → IsIpv4Kept packet changed
+    → IsIpv4Flow false packet proto
     → slice_range changed 12 16 ≡ source → slice_range changed 16 20 ≡ destination
     → drop (ipv4_header_len packet) changed ≡ message ++ drop (ipv4_header_len packet + length message) packet
-    → length message ≡ length (drop (ipv4_header_len packet) (counted (lacks_len packet) packet)) → ipv4_header_len packet ≤ counted_len (lacks_len packet) packet
+    → length message ≡ length (drop (ipv4_header_len packet) (counted (lacks_len packet) packet))
+    → ipv4_header_len packet ≤ counted_len (lacks_len packet) packet
     → IsReadWith packet changed (Ipv4 source destination) message
 ipv4_reading packet changed source destination message proto kept flow source_is destination_is message_is same within =
     let flow_too : IsIpv4Flow false changed proto = ipv4_flow_kept false packet changed proto kept flow in
@@ -290,7 +315,8 @@ ipv4_reading packet changed source destination message proto kept flow source_is
     let byte : (k : ℕ) → k < 10 → slice_index (ip.ipv4_header changed) k ≡ slice_index (ip.ipv4_header packet) k =
     kept_byte packet changed kept flow.five_words in
     let lacks : lacks_len changed ≡ lacks_len packet =
-    ipv4_lacks_len_is changed flow_too.is_ipv4 ∙ ap (λ n. is_none (if n == 0 then None else Some n)) total_len ∙ sym (ipv4_lacks_len_is packet flow.is_ipv4) in
+    ipv4_lacks_len_is changed flow_too.is_ipv4 ∙ ap (λ n. is_none (if n == 0 then None else Some n)) total_len
+    ∙ sym (ipv4_lacks_len_is packet flow.is_ipv4) in
     let counts : (missing : Bool) → counted_len missing changed ≡ counted_len missing packet = λ missing.
     ipv4_counted_len_is missing changed flow_too.is_ipv4
     ∙ ap (λ n. if missing then n else ip.total_len changed) kept.front.len ∙ ap (λ n. if missing then length packet else n) total_len
@@ -315,19 +341,23 @@ ipv4_reading packet changed source destination message proto kept flow source_is
                 ∙ ap (λ len. drop len (counted found.is_length_missing changed)) header_len
                 ∙ ap (λ missing. drop (ipv4_header_len packet) (counted missing changed)) (missing_too ∙ lacks)
                 ∙ ap (λ n. drop (ipv4_header_len packet) (take n changed)) (counts (lacks_len packet))
-                ∙ message_kept (ipv4_header_len packet) (counted_len (lacks_len packet) packet) packet changed message message_is same within flow.there;
+                ∙ message_kept (ipv4_header_len packet) (counted_len (lacks_len packet) packet) packet changed message message_is same
+                within flow.there;
             payload_offset = carries_too.payload_offset ∙ ap (λ headers. headers.len) is_too ∙ header_len
                 ∙ sym (carries.payload_offset ∙ ap (λ headers. headers.len) is);
             is_fragment = carries_too.is_fragment ∙ ap (λ headers. headers.is_fragment) is_too
-                ∙ ap (λ high. not (bit_and high 0x20 == 0) || not (((0 * 256 + high) * 256 + slice_index (ip.ipv4_header changed) 7) % 2 ^ 13 == 0)) (byte 6 (omega arith))
-                ∙ ap (λ low. not (bit_and (slice_index (ip.ipv4_header packet) 6) 0x20 == 0) || not (((0 * 256 + slice_index (ip.ipv4_header packet) 6) * 256 + low) % 2 ^ 13 == 0)) (byte 7 (omega arith))
+                ∙ ap (λ high. not (bit_and high 0x20 == 0)
+                || not (((0 * 256 + high) * 256 + slice_index (ip.ipv4_header changed) 7) % 2 ^ 13 == 0)) (byte 6 (omega arith))
+                ∙ ap (λ low. not (bit_and (slice_index (ip.ipv4_header packet) 6) 0x20 == 0)
+                || not (((0 * 256 + slice_index (ip.ipv4_header packet) 6) * 256 + low) % 2 ^ 13 == 0)) (byte 7 (omega arith))
                 ∙ sym (carries.is_fragment ∙ ap (λ headers. headers.is_fragment) is);
             is_later_fragment = carries_too.is_later_fragment ∙ ap (λ headers. headers.is_later_fragment) is_too
                 ∙ ap (λ high. not (((0 * 256 + high) * 256 + slice_index (ip.ipv4_header changed) 7) % 2 ^ 13 == 0)) (byte 6 (omega arith))
                 ∙ ap (λ low. not (((0 * 256 + slice_index (ip.ipv4_header packet) 6) * 256 + low) % 2 ^ 13 == 0)) (byte 7 (omega arith))
                 ∙ sym (carries.is_later_fragment ∙ ap (λ headers. headers.is_later_fragment) is);
             is_cut_off = carries_too.is_cut_off ∙ ap (λ missing. ip.is_cut_off missing changed) missing_is
-                ∙ ap (λ n. nat_lt (length changed) n) (counts was.is_length_missing) ∙ ap (λ len. nat_lt len (counted_len was.is_length_missing packet)) kept.front.len
+                ∙ ap (λ n. nat_lt (length changed) n) (counts was.is_length_missing)
+                ∙ ap (λ len. nat_lt len (counted_len was.is_length_missing packet)) kept.front.len
                 ∙ sym carries.is_cut_off;
             is_length_missing = missing_is;
           };
@@ -427,8 +457,10 @@ query_or_other_len true old new identifier message = number_len 2 _ (with_number
 
 pub translated_len : (proto : Proto) (old new : ℕ) (source destination : Option ℕ) (message : List ℕ)
     → length (translated_message proto old new source destination message) ≡ length message
-translated_len protos.Udp old new source destination message = number_len 6 _ (with_ports source destination message) ∙ ports_len source destination message
-translated_len protos.Tcp old new source destination message = number_len 16 _ (with_ports source destination message) ∙ ports_len source destination message
+translated_len protos.Udp old new source destination message =
+    number_len 6 _ (with_ports source destination message) ∙ ports_len source destination message
+translated_len protos.Tcp old new source destination message =
+    number_len 16 _ (with_ports source destination message) ∙ ports_len source destination message
 translated_len protos.Icmpv4 old new source destination message =
     query_len (is_query protos.Icmpv4 message) 0 0 (new_identifier protos.Icmpv4 source destination message) message
 translated_len protos.Icmpv6 old new source destination message =
@@ -442,7 +474,8 @@ part_len false (Some proto) old new source destination message = translated_len 
 
 -- ---- the reading of a translated IPv4 packet
 
-pub ipv4_flow_message_len : (new : Ipv4Translation) (message packet : List ℕ) → length (ipv4_flow_message new message packet) ≡ length message
+pub ipv4_flow_message_len : (new : Ipv4Translation) (message packet : List ℕ)
+    → length (ipv4_flow_message new message packet) ≡ length message
 ipv4_flow_message_len new message packet =
     part_len (ipv4_is_later_fragment packet) (ipv4_proto packet) _ _ new.source_port new.destination_port message
 
@@ -458,13 +491,15 @@ ipv4_flow_of has_port packet place found at =
       five_words = omega (arith, at.start, at.header);
       no_route = none_if (has_source_route packet) SourceRoute after_route.0;
       number = ipv4_accepts has_port (slice_range packet 12 16) (slice_range packet 16 20) (slice_index packet 9) (ipv4_proto packet) refl
-          (none_if (is_none (ipv4_proto packet) && (has_port || covers_ipv4_addresses (slice_index packet 9))) _ (none_first _ _ after_route.1).0);
+          (none_if (is_none (ipv4_proto packet) && (has_port || covers_ipv4_addresses (slice_index packet 9))) _
+          (none_first _ _ after_route.1).0);
       there = omega (arith, at.start, at.ordered, at.there);
     }
 
 -- the bytes of an accepted packet contain its header
 header_by : (is_empty : Bool) (len header_len total_len : ℕ)
-    → (if is_empty then Some (HeaderCutOff 1 0) else ipv4_refusal_by len header_len total_len) ≡ None → (20 ≤ header_len) × (header_len ≤ len)
+    → (if is_empty then Some (HeaderCutOff 1 0) else ipv4_refusal_by len header_len total_len) ≡ None
+    → (20 ≤ header_len) × (header_len ≤ len)
 unfolding ipv4_refusal_by
 header_by true len header_len total_len accepted = absurd (cc accepted)
 header_by false len header_len total_len accepted = (grind (arith, nat_tests), grind (arith, nat_tests))
@@ -497,14 +532,18 @@ ipv4_within true packet proto flow = flow.there
 ipv4_within false packet proto flow =
     let total : ℕ = ip.total_len packet in
     let accepted = sym (ipv4_header_refusal_is packet flow.is_ipv4) ∙ (none_first (header_refusal packet) _ flow.accepted).0 in
-    let counts : counted_len (lacks_len packet) packet ≡ (if is_none (if total == 0 then None else Some total) then length packet else total) =
+    let counts : counted_len (lacks_len packet) packet
+    ≡ (if is_none (if total == 0 then None else Some total) then length packet else total) =
     ipv4_counted_len_is (lacks_len packet) packet flow.is_ipv4
     ∙ ap (λ missing. if missing then length packet else total) (ipv4_lacks_len_is packet flow.is_ipv4) in
-    subst (λ n. ipv4_header_len packet ≤ n) (sym counts) (within_by (total == 0) (length packet) (ipv4_header_len packet) total refl flow.there accepted)
+    subst (λ n. ipv4_header_len packet ≤ n) (sym counts)
+    (within_by (total == 0) (length packet) (ipv4_header_len packet) total refl flow.there accepted)
 
-pub ipv4_read : (has_port : Bool) (new : Ipv4Translation) (packet changed message : List ℕ) (place : Place) → ipv4_place_refusal false has_port packet ≡ None
+pub ipv4_read : (has_port : Bool) (new : Ipv4Translation) (packet changed message : List ℕ) (place : Place)
+    → ipv4_place_refusal false has_port packet ≡ None
     → IsIpv4Place (message_in_ipv4 false packet) packet place
-    → AreIpv4Addresses (ipv4_addresses new packet) → length message ≡ length (message_in_ipv4 false packet) → changed ≡ ipv4_with_message new message packet
+    → AreIpv4Addresses (ipv4_addresses new packet) → length message ≡ length (message_in_ipv4 false packet)
+    → changed ≡ ipv4_with_message new message packet
     → IsReadWith packet changed (ipv4_between new packet) message
 ipv4_read has_port new packet changed message place found at four same is =
     let flow : IsIpv4Flow false packet place.proto = ipv4_flow_of has_port packet place found at in
@@ -524,7 +563,8 @@ ipv4_read has_port new packet changed message place found at four same is =
     same (ipv4_within false packet place.proto flow))
 
 -- a fact about a success that follows from three others
-pub if_ok : {T E : Type 0} {P Q R S : Type 0} (result : Result T E) → IfOk result (λ value. P) → IfOk result (λ value. Q) → IfOk result (λ value. R)
+pub if_ok : {T E : Type 0} {P Q R S : Type 0} (result : Result T E) → IfOk result (λ value. P) → IfOk result (λ value. Q)
+    → IfOk result (λ value. R)
     → (P → Q → R → S) → IfOk result (λ value. S)
 if_ok (Ok value) p q r all = all p q r
 if_ok (Err error) p q r all = p
@@ -570,7 +610,8 @@ ipv6_header_by false len rule accepted =
     let test : nat_lt len 40 ≡ false = none_if (nat_lt len 40) _ after_len.0 in
     (grind (arith, nat_tests), (none_first rule [] after_len.1).0)
 
-ipv6_header_accepted : (packet : List ℕ) → lax_refusal packet ≡ None → version packet ≡ 6 → (40 ≤ length packet) × (ip.jumbo_refusal packet ≡ None)
+ipv6_header_accepted : (packet : List ℕ) → lax_refusal packet ≡ None → version packet ≡ 6
+    → (40 ≤ length packet) × (ip.jumbo_refusal packet ≡ None)
 ipv6_header_accepted packet accepted is =
     ipv6_header_by (length packet == 0) (length packet) (ip.jumbo_refusal packet)
     (sym (ipv6_header_refusal_is packet is) ∙ (none_first (header_refusal packet) _ accepted).0)
@@ -587,7 +628,8 @@ ipv6_lacks_len_is packet is =
 ipv6_counted_len_is : (missing : Bool) (packet : List ℕ) → version packet ≡ 6
     → counted_len missing packet ≡ (if missing then length packet else 40 + unwrap_or (ip.jumbo_len packet) (ip.payload_len packet))
 ipv6_counted_len_is missing packet is =
-    ap (λ v. if missing then length packet else if v == 4 then ip.total_len packet else 40 + unwrap_or (ip.jumbo_len packet) (ip.payload_len packet)) is
+    ap (λ v. if missing then length packet else if v == 4 then ip.total_len packet
+    else 40 + unwrap_or (ip.jumbo_len packet) (ip.payload_len packet)) is
 
 counted_within : (missing : Bool) (len payload_len : ℕ) → 40 ≤ len → 40 ≤ (if missing then len else 40 + payload_len)
 counted_within true len payload_len there = there
@@ -621,7 +663,8 @@ options_skipped packet number accepted =
     ∙ ap (λ b. b && (nat_le e (length rest) && not false)) (at_least 8 (length rest) eight)
     ∙ ap (λ b. b && not false) (at_least e (length rest) whole) in
     let next : SkippedHeaders = with_next first (header_at (slice_index packet 6) rest) in
-    let start : ipv6_start packet ≡ (skip (length packet) next packet).len = ap (λ skipped. skipped.len) (skip_more (length packet) first packet is) in
+    let start : ipv6_start packet ≡ (skip (length packet) next packet).len =
+    ap (λ skipped. skipped.len) (skip_more (length packet) first packet is) in
     let len : next.len ≡ 40 + e =
     ap (λ number. 40 + length (header_at number rest)) number ∙ ap (λ n. 40 + n) (length-take-le e rest whole) in
     (omega (arith, start, len, skip_len (length packet) next packet), eight)
@@ -629,7 +672,8 @@ options_skipped packet number accepted =
 -- the length in hop-by-hop options, and its errors, are kept
 record AreOptionsKept (has : Bool) (packet changed : List ℕ) : Type 0 where
   pub len : (if has then ip.len_in_options (drop 40 changed) else None) ≡ (if has then ip.len_in_options (drop 40 packet) else None)
-  pub refusal : (if has then ip.len_in_options_refusal (drop 40 changed) else None) ≡ (if has then ip.len_in_options_refusal (drop 40 packet) else None)
+  pub refusal : (if has then ip.len_in_options_refusal (drop 40 changed) else None)
+      ≡ (if has then ip.len_in_options_refusal (drop 40 packet) else None)
 
 options_kept_by : (has : Bool) (packet changed : List ℕ) → IsIpv6Kept packet changed → has ≡ ip.has_len_in_options packet
     → (if has then ip.len_in_options_refusal (drop 40 packet) else None) ≡ None → AreOptionsKept has packet changed
@@ -668,7 +712,8 @@ pub record StatesAlike (packet changed : List ℕ) : Type 0 where
   pub counts : (missing : Bool) → counted_len missing changed ≡ counted_len missing packet
   pub header : header_refusal changed ≡ None
 
-pub states_alike : (packet changed : List ℕ) → IsIpv6Kept packet changed → lax_refusal packet ≡ None → version packet ≡ 6 → StatesAlike packet changed
+pub states_alike : (packet changed : List ℕ) → IsIpv6Kept packet changed → lax_refusal packet ≡ None → version packet ≡ 6
+    → StatesAlike packet changed
 states_alike packet changed kept accepted is =
     let is_too : version changed ≡ 6 = ap (λ byte. byte / 16) (kept.front.front 0 (omega arith)) ∙ is in
     let header = ipv6_header_accepted packet accepted is in
@@ -677,7 +722,8 @@ states_alike packet changed kept accepted is =
     let payload_len : ip.payload_len changed ≡ ip.payload_len packet = omega (arith, byte 4 (omega arith), byte 5 (omega arith)) in
     let next : ip.next_header changed ≡ ip.next_header packet = byte 6 (omega arith) in
     let has : ip.has_len_in_options changed ≡ ip.has_len_in_options packet =
-    ap (λ len. (len == 0) && (ip.next_header changed == 0)) payload_len ∙ ap (λ number. (ip.payload_len packet == 0) && (number == 0)) next in
+    ap (λ len. (len == 0) && (ip.next_header changed == 0)) payload_len
+    ∙ ap (λ number. (ip.payload_len packet == 0) && (number == 0)) next in
     let options : AreOptionsKept (ip.has_len_in_options packet) packet changed =
     options_kept_by (ip.has_len_in_options packet) packet changed kept refl header.1 in
     let jumbo : ip.jumbo_len changed ≡ ip.jumbo_len packet =
@@ -751,7 +797,8 @@ first_between packet changed is alike =
       payload_len = payload_len;
       is_jumbogram = is_jumbogram;
     } in
-    let payload_len : ip.payload_len changed ≡ ip.payload_len packet = omega (arith, alike.byte 4 (omega arith), alike.byte 5 (omega arith)) in
+    let payload_len : ip.payload_len changed ≡ ip.payload_len packet =
+    omega (arith, alike.byte 4 (omega arith), alike.byte 5 (omega arith)) in
     first_is changed alike.is_ipv6
     ∙ ap (λ number. by number (ip.payload_len changed) (ip.is_jumbogram changed)) (alike.byte 6 (omega arith))
     ∙ ap (λ len. by (ip.next_header packet) len (ip.is_jumbogram changed)) payload_len
@@ -762,25 +809,30 @@ first_between packet changed is alike =
 pub ipv6_walked : (missing : Bool) (packet changed : List ℕ) (headers : Headers) → version packet ≡ 6 → 40 ≤ length packet
     → is_extension (ipv6_protocol packet) ≡ false → headers_of missing packet ≡ Ok headers
     → (len : length changed ≡ length packet) → slice_range changed 40 (ipv6_start packet) ≡ slice_range packet 40 (ipv6_start packet)
-    → AreWalked (counted_len missing packet) packet changed (source_of packet) (source_of changed) (destination_of packet) (destination_of changed) len
+    → AreWalked (counted_len missing packet) packet changed (source_of packet) (source_of changed) (destination_of packet)
+    (destination_of changed) len
     (suc (length (counted missing packet))) (suc (length packet)) (only_ipv6_header (slice_index packet 6)) (first_headers packet) headers
 ipv6_walked missing packet changed headers is there number read len kept =
     let at = first_at packet is in
     let within : 40 ≤ length (counted missing packet) = ipv6_counted_there missing packet is there in
-    walk (counted_len missing packet) packet changed (source_of packet) (source_of changed) (destination_of packet) (destination_of changed) len
+    walk (counted_len missing packet) packet changed (source_of packet) (source_of changed) (destination_of packet)
+    (destination_of changed) len
     (suc (length (counted missing packet))) (suc (length packet)) (only_ipv6_header (slice_index packet 6)) (first_headers packet) headers
     at read (omega (arith, at.len, within)) (omega (arith, at.len)) (omega (arith, at.len)) number kept
 
 -- the headers of the packet itself
 pub ipv6_headers_are : (packet : List ℕ) (found : TransportInIp) (carries : Carries packet found) → version packet ≡ 6 → 40 ≤ length packet
-    → is_extension (ipv6_protocol packet) ≡ false → AreAt (source_of packet) (destination_of packet) (skipped_headers packet) carries.headers
+    → is_extension (ipv6_protocol packet) ≡ false
+    → AreAt (source_of packet) (destination_of packet) (skipped_headers packet) carries.headers
 ipv6_headers_are packet found carries is there number =
     (ipv6_walked found.is_length_missing packet packet carries.headers is there number carries.read refl refl).at
 
 -- the headers of a changed packet
-pub changed_headers : (missing : Bool) (packet changed : List ℕ) (headers : Headers) (proto : Option Proto) → IsIpv6Kept packet changed → IsIpv6Flow packet proto
+pub changed_headers : (missing : Bool) (packet changed : List ℕ) (headers : Headers) (proto : Option Proto) → IsIpv6Kept packet changed
+    → IsIpv6Flow packet proto
     → headers_of missing packet ≡ Ok headers
-    → (headers_of missing changed ≡ Ok (between (Ipv6 (source_of changed) (destination_of changed)) headers)) × (skipped_headers changed ≡ skipped_headers packet)
+    → (headers_of missing changed ≡ Ok (between (Ipv6 (source_of changed) (destination_of changed)) headers))
+    × (skipped_headers changed ≡ skipped_headers packet)
 changed_headers missing packet changed headers proto kept flow read =
     let alike : StatesAlike packet changed = states_alike packet changed kept flow.accepted flow.is_ipv6 in
     let there : 40 ≤ length packet = ipv6_header_there packet flow.accepted flow.is_ipv6 in
@@ -788,7 +840,12 @@ changed_headers missing packet changed headers proto kept flow read =
     let c : counted_len missing changed ≡ counted_len missing packet = alike.counts missing in
     let bytes : counted missing changed ≡ take (counted_len missing packet) changed = ap (λ n. take n changed) c in
     let len : length (counted missing changed) ≡ length (counted missing packet) =
-    ap length bytes ∙ omega (arith, kept.front.len, length-take (counted_len missing packet) packet, length-take (counted_len missing packet) changed) in (
+    ap length bytes ∙ omega (
+      arith,
+      kept.front.len,
+      length-take (counted_len missing packet) packet,
+      length-take (counted_len missing packet) changed,
+    ) in (
       ap (λ bytes. headers_to_transport (suc (length (counted missing changed))) (first_headers changed) bytes) bytes
           ∙ ap (λ n. headers_to_transport (suc n) (first_headers changed) (take (counted_len missing packet) changed)) len
           ∙ ap (λ first. headers_to_transport (suc (length (counted missing packet))) first (take (counted_len missing packet) changed))
@@ -801,7 +858,8 @@ changed_headers missing packet changed headers proto kept flow read =
 -- the headers of an accepted packet
 accepted_headers : (packet : List ℕ) → lax_refusal packet ≡ None → (headers : Headers) × (headers_of (lacks_len packet) packet ≡ Ok headers)
 accepted_headers packet accepted =
-    ok_of (headers_of (lacks_len packet) packet) (none_first (error_of (headers_of (lacks_len packet) packet)) [] (none_first (header_refusal packet) _ accepted).1).0
+    ok_of (headers_of (lacks_len packet) packet)
+    (none_first (error_of (headers_of (lacks_len packet) packet)) [] (none_first (header_refusal packet) _ accepted).1).0
 
 -- the counted bytes contain the headers
 pub ipv6_start_within : (packet : List ℕ) → lax_refusal packet ≡ None → version packet ≡ 6 → is_extension (ipv6_protocol packet) ≡ false
@@ -811,18 +869,22 @@ ipv6_start_within packet accepted is number =
     let walked = ipv6_walked (lacks_len packet) packet packet read.0 is (ipv6_header_there packet accepted is) number read.1 refl refl in
     omega (arith, walked.within, walked.at.len)
 
-pub skipped_kept : (packet changed : List ℕ) (proto : Option Proto) → IsIpv6Kept packet changed → IsIpv6Flow packet proto → skipped_headers changed ≡ skipped_headers packet
+pub skipped_kept : (packet changed : List ℕ) (proto : Option Proto) → IsIpv6Kept packet changed → IsIpv6Flow packet proto
+    → skipped_headers changed ≡ skipped_headers packet
 skipped_kept packet changed proto kept flow =
     let read = accepted_headers packet flow.accepted in
     (changed_headers (lacks_len packet) packet changed read.0 proto kept flow read.1).1
 
-pub start_kept : (packet changed : List ℕ) (proto : Option Proto) → IsIpv6Kept packet changed → IsIpv6Flow packet proto → ipv6_start changed ≡ ipv6_start packet
+pub start_kept : (packet changed : List ℕ) (proto : Option Proto) → IsIpv6Kept packet changed → IsIpv6Flow packet proto
+    → ipv6_start changed ≡ ipv6_start packet
 start_kept packet changed proto kept flow = ap (λ skipped. skipped.len) (skipped_kept packet changed proto kept flow)
 
-pub protocol_kept : (packet changed : List ℕ) (proto : Option Proto) → IsIpv6Kept packet changed → IsIpv6Flow packet proto → ipv6_protocol changed ≡ ipv6_protocol packet
+pub protocol_kept : (packet changed : List ℕ) (proto : Option Proto) → IsIpv6Kept packet changed → IsIpv6Flow packet proto
+    → ipv6_protocol changed ≡ ipv6_protocol packet
 protocol_kept packet changed proto kept flow = ap (λ skipped. skipped.protocol.0) (skipped_kept packet changed proto kept flow)
 
-pub ipv6_flow_kept : (packet changed : List ℕ) (proto : Option Proto) → IsIpv6Kept packet changed → IsIpv6Flow packet proto → IsIpv6Flow changed proto
+pub ipv6_flow_kept : (packet changed : List ℕ) (proto : Option Proto) → IsIpv6Kept packet changed → IsIpv6Flow packet proto
+    → IsIpv6Flow changed proto
 ipv6_flow_kept packet changed proto kept flow =
     let alike : StatesAlike packet changed = states_alike packet changed kept flow.accepted flow.is_ipv6 in
     let read = accepted_headers packet flow.accepted in
@@ -836,10 +898,12 @@ ipv6_flow_kept packet changed proto kept flow =
       there = omega (arith, kept.front.len, start_kept packet changed proto kept flow, flow.there);
     }
 
-pub ipv6_reading : (packet changed source destination message : List ℕ) (proto : Option Proto) → IsIpv6Kept packet changed → IsIpv6Flow packet proto
+pub ipv6_reading : (packet changed source destination message : List ℕ) (proto : Option Proto) → IsIpv6Kept packet changed
+    → IsIpv6Flow packet proto
     → slice_range changed 8 24 ≡ source → slice_range changed 24 40 ≡ destination
     → drop (ipv6_start packet) changed ≡ message ++ drop (ipv6_start packet + length message) packet
-    → length message ≡ length (drop (ipv6_start packet) (counted (lacks_len packet) packet)) → ipv6_start packet ≤ counted_len (lacks_len packet) packet
+    → length message ≡ length (drop (ipv6_start packet) (counted (lacks_len packet) packet))
+    → ipv6_start packet ≤ counted_len (lacks_len packet) packet
     → IsReadWith packet changed (Ipv6 source (Some destination)) message
 ipv6_reading packet changed source destination message proto kept flow source_is destination_is message_is same within =
     let flow_too : IsIpv6Flow changed proto = ipv6_flow_kept packet changed proto kept flow in
@@ -858,16 +922,19 @@ ipv6_reading packet changed source destination message proto kept flow source_is
           let start_too : carries_too.headers.len ≡ ipv6_start packet = ap (λ headers. headers.len) headers_is ∙ start in
           record {
             addresses = carries_too.addresses ∙ ap (λ headers. headers.addresses) headers_is
-                ∙ ap (λ source. Ipv6 source (Some (slice_range (ip.ipv6_header changed) 24 40))) (in_front 40 8 16 changed (omega arith) ∙ source_is)
+                ∙ ap (λ source. Ipv6 source (Some (slice_range (ip.ipv6_header changed) 24 40)))
+                (in_front 40 8 16 changed (omega arith) ∙ source_is)
                 ∙ ap (λ destination. Ipv6 source (Some destination)) (in_front 40 24 16 changed (omega arith) ∙ destination_is);
             protocol = carries_too.protocol ∙ ap (λ headers. headers.protocol) headers_is ∙ sym carries.protocol;
             payload = carries_too.payload ∙ ap (λ len. drop len (counted found.is_length_missing changed)) start_too
                 ∙ ap (λ missing. drop (ipv6_start packet) (counted missing changed)) (missing_too ∙ alike.lacks)
                 ∙ ap (λ n. drop (ipv6_start packet) (take n changed)) (alike.counts (lacks_len packet))
-                ∙ message_kept (ipv6_start packet) (counted_len (lacks_len packet) packet) packet changed message message_is same within flow.there;
+                ∙ message_kept (ipv6_start packet) (counted_len (lacks_len packet) packet) packet changed message message_is same within
+                flow.there;
             payload_offset = carries_too.payload_offset ∙ start_too ∙ sym (carries.payload_offset ∙ start);
             is_fragment = carries_too.is_fragment ∙ ap (λ headers. headers.is_fragment) headers_is ∙ sym carries.is_fragment;
-            is_later_fragment = carries_too.is_later_fragment ∙ ap (λ headers. headers.is_later_fragment) headers_is ∙ sym carries.is_later_fragment;
+            is_later_fragment = carries_too.is_later_fragment ∙ ap (λ headers. headers.is_later_fragment) headers_is
+                ∙ sym carries.is_later_fragment;
             is_cut_off = carries_too.is_cut_off ∙ ap (λ missing. ip.is_cut_off missing changed) missing_is
                 ∙ ap (λ n. nat_lt (length changed) n) (alike.counts was.is_length_missing)
                 ∙ ap (λ len. nat_lt len (counted_len was.is_length_missing packet)) kept.front.len
@@ -893,7 +960,8 @@ pub ipv6_place_is : (packet : List ℕ) (found : TransportInIp) (proto : Option 
     → place.is_later_fragment ≡ ipv6_is_later_fragment packet → IsIpv6Place packet place
 ipv6_place_is packet found proto place at start end is later =
     let known : proto ≡ proto_over (Ipv6 [] None) (ipv6_protocol packet) =
-    at.known ∙ ap (λ addresses. proto_over addresses (ipv6_protocol packet)) (over_ipv6_addresses packet found at.after at.begins.is_version_6) in
+    at.known ∙ ap (λ addresses. proto_over addresses (ipv6_protocol packet))
+    (over_ipv6_addresses packet found at.after at.begins.is_version_6) in
     let headers = ipv6_headers_are packet found at.carries at.begins.is_version_6 at.begins.whole
     (ipv6_accepts at.has_port [] None (ipv6_protocol packet) proto known at.accepted) in
     let len : at.carries.headers.len ≡ place.start = headers.len ∙ sym start in
@@ -968,29 +1036,35 @@ module _ (start : ℕ) (source destination message packet : List ℕ) (after : 4
       ∙ ap (λ n. take n (drop 8 ipv6_source_in)) (sym sixteen) ∙ range_at 8 source ipv6_message_in ipv6_source_there
 
   pub ipv6_parts_destination : slice_range ipv6_parts 24 40 ≡ destination
-  ipv6_parts_destination = ap (λ n. take n (drop 24 ipv6_parts)) (sym sixteen_too) ∙ range_at 24 destination ipv6_source_in ipv6_destination_there
+  ipv6_parts_destination = ap (λ n. take n (drop 24 ipv6_parts)) (sym sixteen_too)
+      ∙ range_at 24 destination ipv6_source_in ipv6_destination_there
 
   pub ipv6_parts_message : drop start ipv6_parts ≡ message ++ drop (start + length message) packet
   ipv6_parts_message = ipv6_parts_after start after ∙ drop_here start message packet there
 
-pub ipv6_flow_message_len : (new : Ipv6Translation) (packet : List ℕ) → length (ipv6_flow_message new packet) ≡ length (message_in_ipv6 packet)
+pub ipv6_flow_message_len : (new : Ipv6Translation) (packet : List ℕ)
+    → length (ipv6_flow_message new packet) ≡ length (message_in_ipv6 packet)
 ipv6_flow_message_len new packet =
     part_len (ipv6_is_later_fragment packet) (ipv6_proto packet) _ _ new.source_port new.destination_port (message_in_ipv6 packet)
 
-ipv6_flow_of : (has_port : Bool) (packet : List ℕ) (place : Place) → ipv6_place_refusal has_port packet ≡ None → IsIpv6Place packet place → IsIpv6Flow packet place.proto
+ipv6_flow_of : (has_port : Bool) (packet : List ℕ) (place : Place) → ipv6_place_refusal has_port packet ≡ None → IsIpv6Place packet place
+    → IsIpv6Flow packet place.proto
 ipv6_flow_of has_port packet place found at =
     let after_ip = none_first (option_map Ip (lax_refusal packet)) _ found in
     let after_version = none_first (refused_if (not (version packet == 6)) OtherVersion) _ after_ip.1 in
     record {
       accepted = mapped_none Ip (lax_refusal packet) after_ip.0;
       is_ipv6 = is_number (version packet) 6 (once (version packet == 6) (none_if _ OtherVersion after_version.0));
-      number = ipv6_accepts has_port (slice_range packet 8 24) (Some (slice_range packet 24 40)) (ipv6_protocol packet) (ipv6_proto packet) refl
-          (none_if (is_none (ipv6_proto packet) && (has_port || covers_ipv6_addresses (ipv6_protocol packet))) _ (none_first _ _ after_version.1).0);
+      number = ipv6_accepts has_port (slice_range packet 8 24) (Some (slice_range packet 24 40)) (ipv6_protocol packet)
+          (ipv6_proto packet) refl
+          (none_if (is_none (ipv6_proto packet) && (has_port || covers_ipv6_addresses (ipv6_protocol packet))) _
+          (none_first _ _ after_version.1).0);
       there = omega (arith, at.start, at.ordered, at.there);
     }
 
 -- the counted bytes contain the headers
-pub ipv6_within : (packet : List ℕ) (proto : Option Proto) → IsIpv6Flow packet proto → ipv6_start packet ≤ counted_len (lacks_len packet) packet
+pub ipv6_within : (packet : List ℕ) (proto : Option Proto) → IsIpv6Flow packet proto
+    → ipv6_start packet ≤ counted_len (lacks_len packet) packet
 ipv6_within packet proto flow =
     omega (
       arith,
@@ -998,8 +1072,10 @@ ipv6_within packet proto flow =
       length-take (counted_len (lacks_len packet) packet) packet,
     )
 
-pub ipv6_read : (has_port : Bool) (new : Ipv6Translation) (packet changed message : List ℕ) (place : Place) → ipv6_place_refusal has_port packet ≡ None → IsIpv6Place packet place
-    → AreIpv6Addresses (ipv6_addresses new packet) → length message ≡ length (message_in_ipv6 packet) → changed ≡ ipv6_with_message new message packet
+pub ipv6_read : (has_port : Bool) (new : Ipv6Translation) (packet changed message : List ℕ) (place : Place)
+    → ipv6_place_refusal has_port packet ≡ None → IsIpv6Place packet place
+    → AreIpv6Addresses (ipv6_addresses new packet) → length message ≡ length (message_in_ipv6 packet)
+    → changed ≡ ipv6_with_message new message packet
     → IsReadWith packet changed (ipv6_between new packet) message
 ipv6_read has_port new packet changed message place found at four same is =
     let flow : IsIpv6Flow packet place.proto = ipv6_flow_of has_port packet place found at in

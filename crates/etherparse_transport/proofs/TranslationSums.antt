@@ -71,7 +71,8 @@ word_total word small = omega (arith, small)
 
 -- ---- another word
 
-pub other_by : (there : Bool) (place value k : ℕ) (bytes : List ℕ) → there ≡ nat_le (place + 2) (length bytes) → (k < place) ⊎ (place + 2 ≤ k)
+pub other_by : (there : Bool) (place value k : ℕ) (bytes : List ℕ) → there ≡ nat_le (place + 2) (length bytes)
+    → (k < place) ⊎ (place + 2 ≤ k)
     → slice_index (if there then with_checksum place bytes value else bytes) k ≡ slice_index bytes k
 other_by false place value k bytes test other = refl
 other_by true place value k bytes test (inl before) =
@@ -138,7 +139,8 @@ both_accepted was is remainder some some_too =
 pub turns_shifted : (before added after removed x : ℕ) → folded (before + added) ≡ folded (after + removed)
     → folded ((before + x) + added) ≡ folded ((after + x) + removed)
 turns_shifted before added after removed x turns =
-    ap folded (omega arith) ∙ sym (folded-add (before + added) x) ∙ ap (λ n. folded (n + x)) turns ∙ folded-add (after + removed) x ∙ ap folded (omega arith)
+    ap folded (omega arith) ∙ sym (folded-add (before + added) x) ∙ ap (λ n. folded (n + x)) turns ∙ folded-add (after + removed) x
+    ∙ ap folded (omega arith)
 
 -- ---- sums above 0
 
@@ -163,7 +165,8 @@ pub rest_parts : (message : List ℕ) → 4 ≤ length message → rest_of_messa
 rest_parts message there =
     let test : nat_le 4 (length message) ≡ true = grind (arith, nat_tests) in
     ap (λ b. total (if b then with_checksum 2 message 0 else message)) test
-    ∙ total-append (take 2 message) (to_be_bytes w16 0 ++ drop 4 message) (ap (λ n. n % 2) (length-take-le 2 message (omega (arith, there))))
+    ∙ total-append (take 2 message) (to_be_bytes w16 0 ++ drop 4 message)
+    (ap (λ n. n % 2) (length-take-le 2 message (omega (arith, there))))
     ∙ ap (λ n. total (take 2 message) + n) (omega arith)
 
 folded_nothing : folded 0 ≡ 0
@@ -194,7 +197,8 @@ pub record IsPseudoHeader (header source destination : List ℕ) (rest : ℕ) : 
 
 pub addresses_turn : (header header_too source destination source_too destination_too : List ℕ) (rest : ℕ)
     → IsPseudoHeader header source destination rest → IsPseudoHeader header_too source_too destination_too rest
-    → TurnsIntoBy (sum_of_pieces 0 (source ∷ destination ∷ [])) (sum_of_pieces 0 (source_too ∷ destination_too ∷ [])) (total header) (total header_too)
+    → TurnsIntoBy (sum_of_pieces 0 (source ∷ destination ∷ [])) (sum_of_pieces 0 (source_too ∷ destination_too ∷ [])) (total header)
+    (total header_too)
 addresses_turn header header_too source destination source_too destination_too rest is is_too =
     let x : ℕ = total source + total destination in
     let y : ℕ = total source_too + total destination_too in
@@ -219,14 +223,16 @@ pub ipv6_pseudo_header_is : (source destination : List ℕ) (protocol len : ℕ)
     (total (to_be_bytes w32 len ++ (0 ∷ 0 ∷ 0 ∷ protocol ∷ [])))
 ipv6_pseudo_header_is source destination protocol len sixteen sixteen_too some =
     record {
-      sum = total-append_twice source destination (to_be_bytes w32 len ++ (0 ∷ 0 ∷ 0 ∷ protocol ∷ [])) (ap (λ n. n % 2) sixteen) (ap (λ n. n % 2) sixteen_too);
+      sum = total-append_twice source destination (to_be_bytes w32 len ++ (0 ∷ 0 ∷ 0 ∷ protocol ∷ [])) (ap (λ n. n % 2) sixteen)
+          (ap (λ n. n % 2) sixteen_too);
       some = λ none. omega (arith, some, none);
     }
 
 -- the sums of both pseudo headers are not 0, and differ by the addresses
 both_sums : (header header_too source destination source_too destination_too : List ℕ) (rest : ℕ)
     → IsPseudoHeader header source destination rest → IsPseudoHeader header_too source_too destination_too rest
-    → TurnsIntoBy (sum_of_pieces 0 (source ∷ destination ∷ [])) (sum_of_pieces 0 (source_too ∷ destination_too ∷ [])) (total header) (total header_too)
+    → TurnsIntoBy (sum_of_pieces 0 (source ∷ destination ∷ [])) (sum_of_pieces 0 (source_too ∷ destination_too ∷ [])) (total header)
+    (total header_too)
     × (total header ≢ 0) × (total header_too ≢ 0)
 both_sums header header_too source destination source_too destination_too rest is is_too = (
   addresses_turn header header_too source destination source_too destination_too rest is is_too,
@@ -235,7 +241,8 @@ both_sums header header_too source destination source_too destination_too rest i
 )
 
 pub ipv4_have_sums : (proto : Proto) (old new : Ipv4Header) (len : ℕ) → AreIpv4Addresses old → AreIpv4Addresses new
-    → HaveSums proto (sum_of_ipv4 old) (sum_of_ipv4 new) (total (ipv4_pseudo_header_of proto old len)) (total (ipv4_pseudo_header_of proto new len))
+    → HaveSums proto (sum_of_ipv4 old) (sum_of_ipv4 new) (total (ipv4_pseudo_header_of proto old len))
+    (total (ipv4_pseudo_header_of proto new len))
 ipv4_have_sums protos.Udp old new len four four_too =
     both_sums _ _ old.source old.destination new.source new.destination _
     (ipv4_pseudo_header_is old.source old.destination 17 len four.source four.destination (omega arith))
@@ -251,7 +258,8 @@ ipv4_have_sums protos.Icmpv6 old new len four four_too =
     (ipv4_pseudo_header_is new.source new.destination 58 len four_too.source four_too.destination (omega arith))
 
 pub ipv6_have_sums : (proto : Proto) (old new : Ipv6Header) (len : ℕ) → AreIpv6Addresses old → AreIpv6Addresses new
-    → HaveSums proto (sum_of_ipv6 old) (sum_of_ipv6 new) (total (ipv6_pseudo_header_of proto old len)) (total (ipv6_pseudo_header_of proto new len))
+    → HaveSums proto (sum_of_ipv6 old) (sum_of_ipv6 new) (total (ipv6_pseudo_header_of proto old len))
+    (total (ipv6_pseudo_header_of proto new len))
 ipv6_have_sums protos.Udp old new len four four_too =
     both_sums _ _ old.source old.destination new.source new.destination _
     (ipv6_pseudo_header_is old.source old.destination 17 len four.source four.destination (omega arith))
@@ -354,7 +362,8 @@ alike_in_front before after count message translated missing len same some some_
     omega (arith, message_is, joined_total front missing) in
     let whole_too : after + (more + rest * 65534) + total translated ≡ is + rest * 65535 =
     omega (arith, translated_is, joined_total front_too missing, sum_after_alike front_too front missing front_len) in
-    let all : IsAcceptedAlike (before + (more + rest * 65534)) (after + (more + rest * 65534)) message translated = alike (more + rest * 65534) in
+    let all : IsAcceptedAlike (before + (more + rest * 65534)) (after + (more + rest * 65534)) message translated =
+    alike (more + rest * 65534) in
     let then_was = ones_and_more was rest (λ none. some (omega (arith, none))) in
     let then_is = ones_and_more is rest (λ none. some_too (omega (arith, none))) in (
       λ ones. then_was.0 (ap folded (sym whole) ∙ all.0 (ap folded whole_too ∙ then_is.1 ones)),
@@ -376,31 +385,38 @@ after_udp n old new source destination packet after =
     drop_with_number 6 _ n _ after ∙ drop_with_number 2 _ n _ (omega (arith, after)) ∙ drop_with_number 0 _ n packet (omega (arith, after))
 
 -- the law for a message of this protocol
-alike_by_proto : (proto : Proto) (removed added before after count : ℕ) (source destination : Option ℕ) (message translated missing : List ℕ)
+alike_by_proto : (proto : Proto) (removed added before after count : ℕ) (source destination : Option ℕ)
+    (message translated missing : List ℕ)
     → HaveSums proto removed added before after → IsUpdated proto message → length translated ≡ length message
     → translated ≡ translated_message proto removed added source destination message
-    → ((before after : ℕ) → HaveSums proto removed added before after → IsUpdated proto message → IsAcceptedAlike before after message translated)
+    → ((before after : ℕ) → HaveSums proto removed added before after → IsUpdated proto message
+    → IsAcceptedAlike before after message translated)
     → least_summed proto (length message) ≤ count
     → IsAllOnes (after + total (take count translated ++ missing)) ↔ IsAllOnes (before + total (take count message ++ missing))
 alike_by_proto protos.Udp removed added before after count source destination message translated missing have updated len is alike least =
-    alike_in_front before after count message translated missing len (ap (drop count) is ∙ after_udp count removed added source destination message least)
+    alike_in_front before after count message translated missing len
+    (ap (drop count) is ∙ after_udp count removed added source destination message least)
     have.1 have.2 (λ sum. alike (before + sum) (after + sum) (have_sums_and protos.Udp removed added before after sum have) updated)
 alike_by_proto protos.Tcp removed added before after count source destination message translated missing have updated len is alike least =
     alike_within before after count message translated missing len least
     (λ sum. alike (before + sum) (after + sum) (have_sums_and protos.Tcp removed added before after sum have) updated)
-alike_by_proto protos.Icmpv4 removed added before after count source destination message translated missing have updated len is alike least =
+alike_by_proto protos.Icmpv4 removed added before after count source destination message translated missing have updated len is alike least
+    =
     alike_within before after count message translated missing len least
     (λ sum. alike (before + sum) (after + sum) (have_sums_and protos.Icmpv4 removed added before after sum have) updated)
-alike_by_proto protos.Icmpv6 removed added before after count source destination message translated missing have updated len is alike least =
+alike_by_proto protos.Icmpv6 removed added before after count source destination message translated missing have updated len is alike least
+    =
     alike_within before after count message translated missing len least
     (λ sum. alike (before + sum) (after + sum) (have_sums_and protos.Icmpv6 removed added before after sum have) updated)
 
 -- ---- a receiver's check of a translated IPv4 packet
 
 -- the translated message of a known protocol that is not a later fragment
-translated_known : (is_later_fragment : Bool) (known : Option Proto) (proto : Proto) (removed added : ℕ) (source destination : Option ℕ) (message : List ℕ)
+translated_known : (is_later_fragment : Bool) (known : Option Proto) (proto : Proto) (removed added : ℕ) (source destination : Option ℕ)
+    (message : List ℕ)
     → known ≡ Some proto → is_later_fragment ≡ false
-    → translated_in is_later_fragment known removed added source destination message ≡ translated_message proto removed added source destination message
+    → translated_in is_later_fragment known removed added source destination message
+    ≡ translated_message proto removed added source destination message
 translated_known is_later_fragment known proto removed added source destination message is later =
     ap (λ known. translated_in is_later_fragment known removed added source destination message) is
     ∙ ap (λ later. if later then message else translated_message proto removed added source destination message) later
@@ -411,11 +427,14 @@ range_len from n packet there = length-take-le n (drop from packet) (omega (arit
 
 pub ipv4_verifies : (new : Ipv4Translation) (packet message translated : List ℕ) (place : Place) (removed added : ℕ)
     → IsIpv4Place message packet place → translated ≡ ipv4_flow_message new message packet
-    → removed ≡ sum_of_ipv4 (ipv4_header_of packet) → added ≡ sum_of_ipv4 (ipv4_addresses new packet) → AreIpv4Addresses (ipv4_addresses new packet)
-    → (place.is_later_fragment ≡ false → (proto : Proto) → place.proto ≡ Some proto → (before after : ℕ) → HaveSums proto removed added before after
+    → removed ≡ sum_of_ipv4 (ipv4_header_of packet) → added ≡ sum_of_ipv4 (ipv4_addresses new packet)
+    → AreIpv4Addresses (ipv4_addresses new packet)
+    → (place.is_later_fragment ≡ false → (proto : Proto) → place.proto ≡ Some proto → (before after : ℕ)
+    → HaveSums proto removed added before after
     → IsUpdated proto message → IsAcceptedAlike before after message translated)
     → IsAcceptedByIpv4 new message packet (ipv4_flow_message new message packet)
-ipv4_verifies new packet message translated place removed added at translated_is removed_is added_is four alike = λ proto known later updated.
+ipv4_verifies new packet message translated place removed added at translated_is removed_is added_is four alike =
+    λ proto known later updated.
     let old : Ipv4Header = ipv4_header_of packet in
     let to : List ℕ = ipv4_flow_message new message packet in
     let old_four : AreIpv4Addresses old = record {
@@ -426,14 +445,17 @@ ipv4_verifies new packet message translated place removed added at translated_is
     let after : ℕ → ℕ = λ len. total (ipv4_pseudo_header_of proto (ipv4_addresses new packet) len) in
     let sums : (len : ℕ) → HaveSums proto (sum_of_ipv4 old) (sum_of_ipv4 (ipv4_addresses new packet)) (before len) (after len) =
     λ len. ipv4_have_sums proto old (ipv4_addresses new packet) len old_four four in
-    let alike_too : (before after : ℕ) → HaveSums proto (sum_of_ipv4 old) (sum_of_ipv4 (ipv4_addresses new packet)) before after → IsUpdated proto message
+    let alike_too : (before after : ℕ) → HaveSums proto (sum_of_ipv4 old) (sum_of_ipv4 (ipv4_addresses new packet)) before after
+    → IsUpdated proto message
     → IsAcceptedAlike before after message to = λ before after have updated.
     subst (IsAcceptedAlike before after message) translated_is
     (alike (at.later ∙ later) proto (at.proto ∙ known) before after
     (subst (λ removed. HaveSums proto removed added before after) (sym removed_is)
     (subst (λ added. HaveSums proto (sum_of_ipv4 old) added before after) (sym added_is) have)) updated) in
-    let flow : to ≡ translated_message proto (sum_of_ipv4 old) (sum_of_ipv4 (ipv4_addresses new packet)) new.source_port new.destination_port message =
-    translated_known (ipv4_is_later_fragment packet) (ipv4_proto packet) proto _ _ new.source_port new.destination_port message known later in
+    let flow : to ≡ translated_message proto (sum_of_ipv4 old)
+    (sum_of_ipv4 (ipv4_addresses new packet)) new.source_port new.destination_port message =
+    translated_known (ipv4_is_later_fragment packet)
+    (ipv4_proto packet) proto _ _ new.source_port new.destination_port message known later in
     record {
       whole = alike_too (before (length message)) (after (length message)) (sums (length message)) updated;
       received = λ len count missing least.
@@ -447,7 +469,8 @@ pub ipv6_verifies : (new : Ipv6Translation) (packet bytes translated : List ℕ)
     → IsIpv6Place packet place → bytes ≡ message_in_ipv6 packet → translated ≡ ipv6_flow_message new packet
     → AreUpdatedAlike removed added (sum_of_ipv6 (ipv6_header_of packet)) (sum_of_ipv6 (ipv6_addresses new packet))
     → AreIpv6Addresses (ipv6_addresses new packet)
-    → (place.is_later_fragment ≡ false → (proto : Proto) → place.proto ≡ Some proto → (before after : ℕ) → HaveSums proto removed added before after
+    → (place.is_later_fragment ≡ false → (proto : Proto) → place.proto ≡ Some proto → (before after : ℕ)
+    → HaveSums proto removed added before after
     → IsUpdated proto bytes → IsAcceptedAlike before after bytes translated)
     → IsIpv6Accepted new packet (ipv6_flow_message new packet)
 ipv6_verifies new packet bytes translated place removed added at bytes_is translated_is is_alike four alike = λ proto known later updated.
@@ -462,14 +485,17 @@ ipv6_verifies new packet bytes translated place removed added at bytes_is transl
     let after : ℕ → ℕ = λ len. total (ipv6_pseudo_header_of proto (ipv6_addresses new packet) len) in
     let sums : (len : ℕ) → HaveSums proto (sum_of_ipv6 old) (sum_of_ipv6 (ipv6_addresses new packet)) (before len) (after len) =
     λ len. ipv6_have_sums proto old (ipv6_addresses new packet) len old_four four in
-    let alike_too : (before after : ℕ) → HaveSums proto (sum_of_ipv6 old) (sum_of_ipv6 (ipv6_addresses new packet)) before after → IsUpdated proto message
+    let alike_too : (before after : ℕ) → HaveSums proto (sum_of_ipv6 old) (sum_of_ipv6 (ipv6_addresses new packet)) before after
+    → IsUpdated proto message
     → IsAcceptedAlike before after message to = λ before after have updated.
     subst (IsAcceptedAlike before after message) translated_is
     (subst (λ bytes. IsAcceptedAlike before after bytes translated) bytes_is (alike (at.later ∙ later) proto (at.proto ∙ known) before after
     (sums_alike proto removed added (sum_of_ipv6 old) (sum_of_ipv6 (ipv6_addresses new packet)) before after is_alike have)
     (subst (IsUpdated proto) (sym bytes_is) updated))) in
-    let flow : to ≡ translated_message proto (sum_of_ipv6 old) (sum_of_ipv6 (ipv6_addresses new packet)) new.source_port new.destination_port message =
-    translated_known (ipv6_is_later_fragment packet) (ipv6_proto packet) proto _ _ new.source_port new.destination_port message known later in
+    let flow : to ≡ translated_message proto (sum_of_ipv6 old)
+    (sum_of_ipv6 (ipv6_addresses new packet)) new.source_port new.destination_port message =
+    translated_known (ipv6_is_later_fragment packet)
+    (ipv6_proto packet) proto _ _ new.source_port new.destination_port message known later in
     record {
       whole = alike_too (before (length message)) (after (length message)) (sums (length message)) updated;
       received = λ len count missing least.
@@ -484,7 +510,8 @@ last true b is = is
 last false b is = absurd (cc is)
 
 -- one of two tests holds, so the number is the first number, or the rest holds
-either_by : (n first : ℕ) (is_first : Bool) (rest : Bool) → is_first ≡ (n == first) → (is_first || rest) ≡ true → (n ≡ first) ⊎ (rest ≡ true)
+either_by : (n first : ℕ) (is_first : Bool) (rest : Bool) → is_first ≡ (n == first) → (is_first || rest) ≡ true
+    → (n ≡ first) ⊎ (rest ≡ true)
 either_by n first true rest test is = inl (is_number n first (sym test))
 either_by n first false rest test is = inr is
 
@@ -538,7 +565,8 @@ no_quote protos.Tcp message updated = refl
 no_quote protos.Icmpv4 message updated = icmpv4_none message updated.1
 no_quote protos.Icmpv6 message updated = icmpv6_none message (icmpv6_type message updated.1)
 
-pub ipv4_accepted : (new : Ipv4Translation) (packet quoted translated : List ℕ) → ipv4_quoted packet ≡ Some quoted → IsIpv4Accepted new packet translated
+pub ipv4_accepted : (new : Ipv4Translation) (packet quoted translated : List ℕ) → ipv4_quoted packet ≡ Some quoted
+    → IsIpv4Accepted new packet translated
 ipv4_accepted new packet quoted translated quotes = λ proto known later updated.
     let message : List ℕ = message_in_ipv4 false packet in
     let none : ipv4_quoted packet ≡ None =
@@ -546,7 +574,8 @@ ipv4_accepted new packet quoted translated quotes = λ proto known later updated
     ∙ no_quote proto message updated in
     absurd (cc (none, quotes))
 
-pub ipv6_accepted : (new : Ipv6Translation) (packet quoted translated : List ℕ) → ipv6_quoted packet ≡ Some quoted → IsIpv6Accepted new packet translated
+pub ipv6_accepted : (new : Ipv6Translation) (packet quoted translated : List ℕ) → ipv6_quoted packet ≡ Some quoted
+    → IsIpv6Accepted new packet translated
 ipv6_accepted new packet quoted translated quotes = λ proto known later updated.
     let message : List ℕ = message_in_ipv6 packet in
     let none : ipv6_quoted packet ≡ None =
@@ -555,7 +584,8 @@ ipv6_accepted new packet quoted translated quotes = λ proto known later updated
     absurd (cc (none, quotes))
 
 -- the protocol over IPv4 is never ICMPv6
-no_icmpv6 : (is_udp is_tcp is_icmp : Bool) → (if is_udp then Some protos.Udp else if is_tcp then Some protos.Tcp else if is_icmp then Some protos.Icmpv4 else None)
+no_icmpv6 : (is_udp is_tcp is_icmp : Bool)
+    → (if is_udp then Some protos.Udp else if is_tcp then Some protos.Tcp else if is_icmp then Some protos.Icmpv4 else None)
     ≢ Some protos.Icmpv6
 no_icmpv6 true is_tcp is_icmp is = cc is
 no_icmpv6 false true is_icmp is = cc is
@@ -572,7 +602,8 @@ quotes_some false (Some protos.Tcp) message quoted other quotes = absurd (cc quo
 quotes_some false (Some protos.Icmpv4) message quoted other quotes = λ zero. absurd (cc (icmpv4_zero message zero, quotes))
 quotes_some false (Some protos.Icmpv6) message quoted other quotes = absurd (other refl)
 
-pub ipv4_error_accepted : (packet quoted translated : List ℕ) → ipv4_quoted packet ≡ Some quoted → length translated ≡ length (message_in_ipv4 false packet)
+pub ipv4_error_accepted : (packet quoted translated : List ℕ) → ipv4_quoted packet ≡ Some quoted
+    → length translated ≡ length (message_in_ipv4 false packet)
     → (slice_index (message_in_ipv4 false packet) 0 ≢ 0 → (sum : ℕ) → IsAcceptedAlike sum sum (message_in_ipv4 false packet) translated)
     → IsIpv4ErrorAccepted packet translated
 ipv4_error_accepted packet quoted translated quotes len accepted = λ other is.
@@ -585,7 +616,8 @@ ipv4_error_accepted packet quoted translated quotes len accepted = λ other is.
           (λ sum. subst (λ n. IsAcceptedAlike n n message translated) (omega arith) (alike sum));
     }
 
-pub ipv6_error_accepted : (new : Ipv6Translation) (packet quoted translated : List ℕ) → 40 ≤ length packet → ipv6_quoted packet ≡ Some quoted
+pub ipv6_error_accepted : (new : Ipv6Translation) (packet quoted translated : List ℕ) → 40 ≤ length packet
+    → ipv6_quoted packet ≡ Some quoted
     → AreIpv6Addresses (ipv6_addresses new packet) → length translated ≡ length (message_in_ipv6 packet)
     → ((before after : ℕ) → TurnsIntoBy (sum_of_ipv6 (ipv6_header_of packet)) (sum_of_ipv6 (ipv6_addresses new packet)) before after
     → before ≢ 0 → after ≢ 0 → IsAcceptedAlike before after (message_in_ipv6 packet) translated)
@@ -626,7 +658,8 @@ if_ok_four (Ok value) p q r s then_u = then_u p q r s
 if_ok_four (Err error) p q r s then_u = tt
 
 -- a success had no reason for an error
-pub if_ok_accepted : {T E : Type 0} (result : Result T E) (refusal : Option E) → RefusesExactly result refusal → IfOk result (λ value. refusal ≡ None)
+pub if_ok_accepted : {T E : Type 0} (result : Result T E) (refusal : Option E) → RefusesExactly result refusal
+    → IfOk result (λ value. refusal ≡ None)
 if_ok_accepted (Ok value) refusal refused = refused
 if_ok_accepted (Err error) refusal refused = tt
 
@@ -647,7 +680,8 @@ bytes_total place new bytes even there =
     let front_even : length front % 2 ≡ 0 = ap (λ n. n % 2) (length-take-le place bytes (omega (arith, there))) ∙ even in
     let parts : bytes ≡ front ++ (old ++ back) =
     sym (take-append-drop place bytes)
-    ∙ ap (λ rest. front ++ rest) (sym (take-append-drop (length new) (drop place bytes)) ∙ ap (λ rest. old ++ rest) (drop-drop (length new) place bytes)) in
+    ∙ ap (λ rest. front ++ rest) (sym (take-append-drop (length new) (drop place bytes))
+    ∙ ap (λ rest. old ++ rest) (drop-drop (length new) place bytes)) in
     let same : length old % 2 ≡ length new % 2 = ap (λ n. n % 2) (range_len place (length new) bytes there) in
     omega (arith, ap total parts, total_replaced front old new back front_even same)
 
@@ -658,7 +692,8 @@ front_total n bytes even there =
     ∙ total-append (take n bytes) (drop n bytes) (ap (λ n. n % 2) (length-take-le n bytes there) ∙ even))
 
 -- the sum of a packet whose checksum and addresses are replaced
-pub packet_total : (checksum : ℕ) (source destination packet : List ℕ) → checksum < 65536 → length source ≡ 4 → length destination ≡ 4 → 20 ≤ length packet
+pub packet_total : (checksum : ℕ) (source destination packet : List ℕ) → checksum < 65536 → length source ≡ 4 → length destination ≡ 4
+    → 20 ≤ length packet
     → total (with_bytes 16 destination (with_bytes 12 source (with_checksum 10 packet checksum)))
     + (number 10 packet + (total (slice_range packet 12 16) + total (slice_range packet 16 20)))
     ≡ total packet + (checksum + (total source + total destination))
@@ -672,7 +707,8 @@ packet_total checksum source destination packet small four four_too there =
     drop_after 10 (to_be_bytes w16 checksum) packet (omega (arith, there)) n (omega (arith, after)) in
     let second_kept : drop 16 second ≡ drop 16 packet =
     drop_after 12 source first second_there 16 (omega (arith, four)) ∙ first_kept 16 (omega arith) in
-    let old_source : take (length source) (drop 12 first) ≡ slice_range packet 12 16 = ap (λ n. take n (drop 12 first)) four ∙ ap (take 4) (first_kept 12 (omega arith)) in
+    let old_source : take (length source) (drop 12 first) ≡ slice_range packet 12 16 =
+    ap (λ n. take n (drop 12 first)) four ∙ ap (take 4) (first_kept 12 (omega arith)) in
     let old_destination : take (length destination) (drop 16 second) ≡ slice_range packet 16 20 =
     ap (λ n. take n (drop 16 second)) four_too ∙ ap (take 4) second_kept in
     omega (
@@ -685,7 +721,8 @@ packet_total checksum source destination packet small four four_too there =
     )
 
 -- replacing the checksum and the addresses does not change the bytes after the header
-after_header : (len checksum : ℕ) (source destination packet : List ℕ) → length source ≡ 4 → length destination ≡ 4 → 20 ≤ len → 20 ≤ length packet
+after_header : (len checksum : ℕ) (source destination packet : List ℕ) → length source ≡ 4 → length destination ≡ 4 → 20 ≤ len
+    → 20 ≤ length packet
     → drop len (with_bytes 16 destination (with_bytes 12 source (with_checksum 10 packet checksum))) ≡ drop len packet
 after_header len checksum source destination packet four four_too five there =
     let first : List ℕ = with_checksum 10 packet checksum in
@@ -731,7 +768,8 @@ header_number : (len : ℕ) (packet : List ℕ) → 20 ≤ len → len ≤ lengt
 header_number len packet five there =
     ap (λ b. if b then be_number (take len packet) 10 2 else 0)
     (long_enough (take len packet) (omega (arith, five, length-take-le len packet there)))
-    ∙ number_at true 10 packet (take len packet) (get_or-take len packet 10 0 (omega (arith, five))) (get_or-take len packet 11 0 (omega (arith, five)))
+    ∙ number_at true 10 packet (take len packet) (get_or-take len packet 10 0 (omega (arith, five)))
+    (get_or-take len packet 11 0 (omega (arith, five)))
     ∙ sym (ap (λ b. if b then be_number packet 10 2 else 0) (long_enough packet (omega (arith, five, there))))
 
 new_first : (packet source destination : List ℕ) (checksum : ℕ) → 20 ≤ length packet → length source ≡ 4 → length destination ≡ 4
@@ -772,7 +810,8 @@ header_accepted len packet source destination checksum even five there some four
     let sum_too : total (take len new) ≡ without_too + checksum = omega (arith, zero, is) in
     let first : slice_index (take len packet) 0 ≢ 0 = λ none. some (sym (get_or-take len packet 0 0 (omega (arith, five))) ∙ none) in
     let first_too : slice_index (take len new) 0 ≢ 0 = λ none.
-    some (sym (get_or-take len new 0 0 (omega (arith, five)) ∙ new_first packet source destination checksum (omega (arith, five, there)) four four_too) ∙ none) in
+    some (sym (get_or-take len new 0 0 (omega (arith, five))
+    ∙ new_first packet source destination checksum (omega (arith, five, there)) four four_too) ∙ none) in
     both_accepted (total (take len packet)) (total (take len new))
     (ap (λ n. n % 65535) sum_too ∙ remainder without without_too turned ∙ sym (ap (λ n. n % 65535) sum))
     (first_counts (take len packet) first) (first_counts (take len new) first_too)
@@ -792,7 +831,8 @@ not_zero_by byte version is none = absurd (omega (arith, is, none))
 -- the header in front of another message
 pub header_in_front : (packet changed message found : List ℕ) (place : Place) → IsIpv4Place found packet place
     → (20 ≤ ipv4_header_len (put_mid place.start (place.end - place.start) packet message)
-    → ipv4_header_len (put_mid place.start (place.end - place.start) packet message) ≤ length (put_mid place.start (place.end - place.start) packet message)
+    → ipv4_header_len (put_mid place.start (place.end - place.start) packet message)
+    ≤ length (put_mid place.start (place.end - place.start) packet message)
     → IsHeaderAccepted (put_mid place.start (place.end - place.start) packet message) changed)
     → length (put_mid place.start (place.end - place.start) packet message) ≡ length packet
     → IsHeaderAccepted packet changed
@@ -821,7 +861,8 @@ pub flow_turns : (packet between changed message translated : ℕ) (source desti
     → between + message ≡ packet + translated
     → changed + (old + (total source + total destination)) ≡ between + (new + (total source_too + total destination_too))
     → (packet + (added + new)) % 65535 ≡ (changed + (removed + old)) % 65535
-flow_turns packet between changed message translated source destination source_too destination_too old_sum new_sum old new removed added alike turns is is_too =
+flow_turns packet between changed message translated source destination source_too destination_too old_sum new_sum old new removed added
+    alike turns is is_too =
     omega (
       arith,
       remainder_alike _ _ turns,
@@ -833,7 +874,8 @@ flow_turns packet between changed message translated source destination source_t
     )
 
 -- the sum of a packet whose message is replaced
-pub message_total : (place end : ℕ) (packet message : List ℕ) → place % 2 ≡ 0 → length message ≡ end - place → place ≤ end → end ≤ length packet
+pub message_total : (place end : ℕ) (packet message : List ℕ) → place % 2 ≡ 0 → length message ≡ end - place → place ≤ end
+    → end ≤ length packet
     → total (put_mid place (end - place) packet message) + total (slice_range packet place end) ≡ total packet + total message
 message_total place end packet message even len within there =
     ap (λ bytes. total bytes + total (slice_range packet place end)) (put_is place end packet message len)
@@ -842,7 +884,8 @@ message_total place end packet message even len within there =
 
 -- ---- the addresses with another message
 
-pub range_in_front : (start len n : ℕ) (bytes : List ℕ) → start + len ≤ n → take len (drop start (take n bytes)) ≡ take len (drop start bytes)
+pub range_in_front : (start len n : ℕ) (bytes : List ℕ) → start + len ≤ n
+    → take len (drop start (take n bytes)) ≡ take len (drop start bytes)
 range_in_front start len n bytes within =
     let more : n ≡ start + (n - start) = omega (arith, within) in
     ap (λ n. take len (drop start (take n bytes))) more ∙ ap (take len) (drop-take start (n - start) bytes)
@@ -851,23 +894,28 @@ range_in_front start len n bytes within =
 same_range : (start len n : ℕ) (bytes changed : List ℕ) → take n changed ≡ take n bytes → start + len ≤ n
     → take len (drop start changed) ≡ take len (drop start bytes)
 same_range start len n bytes changed same within =
-    sym (range_in_front start len n changed within) ∙ ap (λ bytes. take len (drop start bytes)) same ∙ range_in_front start len n bytes within
+    sym (range_in_front start len n changed within) ∙ ap (λ bytes. take len (drop start bytes)) same
+    ∙ range_in_front start len n bytes within
 
 pub ipv4_header_put : (start n : ℕ) (packet message : List ℕ) → 20 ≤ start → start ≤ length packet
     → ipv4_header_of (put_mid start n packet message) ≡ ipv4_header_of packet
 ipv4_header_put start n packet message after there =
     let changed : List ℕ = put_mid start n packet message in
     let front : take start changed ≡ take start packet = take_put start n packet message there in
-    ap (λ source. record { source = source; destination = slice_range changed 16 20 }) (same_range 12 4 start packet changed front (omega (arith, after)))
-    ∙ ap (λ destination. record { source = slice_range packet 12 16; destination = destination }) (same_range 16 4 start packet changed front (omega (arith, after)))
+    ap (λ source. record { source = source; destination = slice_range changed 16 20 })
+    (same_range 12 4 start packet changed front (omega (arith, after)))
+    ∙ ap (λ destination. record { source = slice_range packet 12 16; destination = destination })
+    (same_range 16 4 start packet changed front (omega (arith, after)))
 
 pub ipv6_header_put : (start n : ℕ) (packet message : List ℕ) → 40 ≤ start → start ≤ length packet
     → ipv6_header_of (put_mid start n packet message) ≡ ipv6_header_of packet
 ipv6_header_put start n packet message after there =
     let changed : List ℕ = put_mid start n packet message in
     let front : take start changed ≡ take start packet = take_put start n packet message there in
-    ap (λ source. record { source = source; destination = slice_range changed 24 40 }) (same_range 8 16 start packet changed front (omega (arith, after)))
-    ∙ ap (λ destination. record { source = slice_range packet 8 24; destination = destination }) (same_range 24 16 start packet changed front (omega (arith, after)))
+    ap (λ source. record { source = source; destination = slice_range changed 24 40 })
+    (same_range 8 16 start packet changed front (omega (arith, after)))
+    ∙ ap (λ destination. record { source = slice_range packet 8 24; destination = destination })
+    (same_range 24 16 start packet changed front (omega (arith, after)))
 
 -- ---- the checksum of an ICMP error
 
@@ -907,13 +955,16 @@ turned_by packet changed removed added some some_too same =
       ),
     )
 
-pub first_put : (start n : ℕ) (bytes new : List ℕ) → 0 < start → start ≤ length bytes → slice_index (put_mid start n bytes new) 0 ≡ slice_index bytes 0
+pub first_put : (start n : ℕ) (bytes new : List ℕ) → 0 < start → start ≤ length bytes
+    → slice_index (put_mid start n bytes new) 0 ≡ slice_index bytes 0
 first_put start n bytes new some there =
     let changed : List ℕ = put_mid start n bytes new in
-    sym (get_or-take start changed 0 0 some) ∙ ap (λ bytes. slice_index bytes 0) (take_put start n bytes new there) ∙ get_or-take start bytes 0 0 some
+    sym (get_or-take start changed 0 0 some) ∙ ap (λ bytes. slice_index bytes 0) (take_put start n bytes new there)
+    ∙ get_or-take start bytes 0 0 some
 
 -- an error with an updated checksum, after its quoted packet is replaced
-pub error_alike : (before after : ℕ) (message between translated : List ℕ) (quoted changed : ℕ) → total between + quoted ≡ total message + changed
+pub error_alike : (before after : ℕ) (message between translated : List ℕ) (quoted changed : ℕ)
+    → total between + quoted ≡ total message + changed
     → (after + changed + total translated) % 65535 ≡ (before + quoted + total between) % 65535
     → before + total message ≢ 0 → after + total translated ≢ 0 → IsAcceptedAlike before after message translated
 error_alike before after message between translated quoted changed replaced same some some_too =

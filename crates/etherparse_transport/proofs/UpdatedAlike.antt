@@ -48,7 +48,8 @@ with_words removed added removed_too added_too old new same = record {
 -- ---- a message
 
 -- two changes stay equal if both also replace the ports
-ports_alike : (removed added removed_too added_too : ℕ) (source destination : Option ℕ) (message : List ℕ) → IsSameChange removed added removed_too added_too
+ports_alike : (removed added removed_too added_too : ℕ) (source destination : Option ℕ) (message : List ℕ)
+    → IsSameChange removed added removed_too added_too
     → IsSameChange (removed_ports removed message) (added_ports added source destination message)
     (removed_ports removed_too message) (added_ports added_too source destination message)
 ports_alike removed added removed_too added_too source destination message same =
@@ -58,7 +59,8 @@ ports_alike removed added removed_too added_too source destination message same 
 
 message_alike : (proto : Proto) (removed added removed_too added_too : ℕ) (source destination : Option ℕ) (message : List ℕ)
     → IsSameChange removed added removed_too added_too
-    → translated_message proto removed added source destination message ≡ translated_message proto removed_too added_too source destination message
+    → translated_message proto removed added source destination message
+    ≡ translated_message proto removed_too added_too source destination message
 message_alike protos.Udp removed added removed_too added_too source destination message same =
     ap (λ checksum. with_number 6 (if number 6 message == 0 then 0 else zero_as_all_ones checksum) (with_ports source destination message))
     (updated (number 6 message) _ _ _ _ (ports_alike removed added removed_too added_too source destination message same))
@@ -70,7 +72,8 @@ message_alike protos.Icmpv6 removed added removed_too added_too source destinati
     let identifier : Option ℕ = new_identifier protos.Icmpv6 source destination message in
     let word : ℕ → ℕ = λ word. total (to_be_bytes w16 word) in
     let query : translated_query removed added identifier message ≡ translated_query removed_too added_too identifier message =
-    ap (λ checksum. with_number 2 (updated_query_checksum (with_identifier identifier message) checksum) (with_identifier identifier message))
+    ap (λ checksum. with_number 2 (updated_query_checksum (with_identifier identifier message) checksum)
+    (with_identifier identifier message))
     (updated (number 2 message) _ _ _ _
     (with_words removed added removed_too added_too (word (number 4 message)) (word (port_or identifier 4 message)) same)) in
     let other : with_updated_checksum removed added message ≡ with_updated_checksum removed_too added_too message =
@@ -79,7 +82,8 @@ message_alike protos.Icmpv6 removed added removed_too added_too source destinati
     ∙ ap (λ other. if is_query protos.Icmpv6 message then translated_query removed_too added_too identifier message else other) other
 
 -- two equal changes translate a message alike
-pub translated_alike : (is_later_fragment : Bool) (proto : Option Proto) (removed added removed_too added_too : ℕ) (source destination : Option ℕ)
+pub translated_alike : (is_later_fragment : Bool) (proto : Option Proto) (removed added removed_too added_too : ℕ)
+    (source destination : Option ℕ)
     (message : List ℕ) → AreUpdatedAlike removed added removed_too added_too
     → translated_in is_later_fragment proto removed added source destination message
     ≡ translated_in is_later_fragment proto removed_too added_too source destination message
@@ -112,7 +116,8 @@ same_sums protos.Icmpv6 removed added removed_too added_too before after same ha
     (turn_alike removed added removed_too added_too before after same have.1 have.2 have.0, have.1, have.2)
 
 -- sums that fit one of two equal changes fit the other change
-pub sums_alike : (proto : Proto) (removed added removed_too added_too before after : ℕ) → AreUpdatedAlike removed added removed_too added_too
+pub sums_alike : (proto : Proto) (removed added removed_too added_too before after : ℕ)
+    → AreUpdatedAlike removed added removed_too added_too
     → HaveSums proto removed_too added_too before after → HaveSums proto removed added before after
 sums_alike proto removed added removed_too added_too before after (inl equal) have =
     subst (λ removed. HaveSums proto removed added before after) (sym equal.0)
@@ -147,7 +152,8 @@ two_pieces first second =
     folded-remainder (folded (0 + total first) + total second) ∙ omega (arith, folded-remainder (0 + total first))
 
 -- a change of one address is equal to a change of both, one of which is replaced by itself
-one_of_both : (removed added removed_too added_too : ℕ) (old new kept : List ℕ) → removed ≡ folded (0 + total old) → added ≡ folded (0 + total new)
+one_of_both : (removed added removed_too added_too : ℕ) (old new kept : List ℕ) → removed ≡ folded (0 + total old)
+    → added ≡ folded (0 + total new)
     → removed_too % 65535 ≡ (total old + total kept) % 65535 → added_too % 65535 ≡ (total new + total kept) % 65535
     → total new ≢ 0 → added_too ≢ 0 → removed_too < 65536 → IsSameChange removed added removed_too added_too
 one_of_both removed added removed_too added_too old new kept removed_is added_is sum sum_too some some_too small = record {

@@ -19,7 +19,8 @@ use Rattle.etherparse_transport.proofs.PacketLemmas.{Start, front_ipv4, front_of
 
 -- an option in padding is "no operation", and padding follows it
 padded : (ends is_operation more : Bool) (first option : List ℕ) (other : Option (List ℕ)) → ends || (is_operation && more) ≡ true
-    → (if ends then None else if is_operation then Some first else other) ≡ Some option → (is_operation ≡ true) × (more ≡ true) × (first ≡ option)
+    → (if ends then None else if is_operation then Some first else other) ≡ Some option
+    → (is_operation ≡ true) × (more ≡ true) × (first ≡ option)
 padded true is_operation more first option other is front = absurd (grind arith)
 padded false true more first option other is front = (refl, is, ap (λ found. unwrap_or found first) front)
 padded false false more first option other is front = absurd (grind arith)
@@ -91,7 +92,8 @@ shortened packet rest is small len len_too =
     let start : Start = short_start packet in
     let sum : ℕ = total (ipv4_fields (start_bytes start) (slice_index packet 8) 1 source destination 0) in
     let checksum : List ℕ = to_be_bytes w16 (checksum_of sum) in
-    let header : List ℕ = front_ipv4 start (slice_index packet 8) 1 (slice_index checksum 0) (slice_index checksum 1) (source ++ destination) in
+    let header : List ℕ = front_ipv4 start (slice_index packet 8) 1 (slice_index checksum 0) (slice_index checksum 1)
+    (source ++ destination) in
     let header_is : ip.ipv4_header short ≡ header =
     front_of_ipv4 start (slice_index packet 8) 1 (slice_index checksum 0) (slice_index checksum 1) source destination after len len_too in
     let addresses_len : length (source ++ destination) ≡ 8 = omega (arith, len, len_too, length-append source destination) in
@@ -100,7 +102,8 @@ shortened packet rest is small len len_too =
     let counts : total_len short ≡ 20 + length message = omega (arith, small) in
     let counts_too : counted_len false short ≡ 20 + length message = counts in
     let message_is : message_after 20 short ≡ message =
-    ap (λ n. drop 20 (take n short)) counts ∙ message_between 20 (20 + length message) header message rest (omega (arith, addresses_len)) refl in
+    ap (λ n. drop 20 (take n short)) counts ∙ message_between 20 (20 + length message) header message rest (omega
+    (arith, addresses_len)) refl in
     let source_is : slice_range short 12 16 ≡ source =
     ap (take 4) (append_assoc source destination after) ∙ ap (λ n. take n (source ++ (destination ++ after))) (sym len)
     ∙ take-append_seam source (destination ++ after) in

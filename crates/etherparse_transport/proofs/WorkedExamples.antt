@@ -61,7 +61,8 @@ unused_of_fragmentation_needed : canonical Icmpv4 (3 ∷ 4 ∷ 0 ∷ 0 ∷ 1 ∷
 unfolding icmpv4.format_of
 unused_of_fragmentation_needed = refl
 
-flags_of_neighbor_advertisement : canonical Icmpv6 (0x88 ∷ 0 ∷ 0 ∷ 0 ∷ 0xFF ∷ 0xFF ∷ 0xFF ∷ 0xFF ∷ []) ≡ 0x88 ∷ 0 ∷ 0 ∷ 0 ∷ 0xE0 ∷ 0 ∷ 0 ∷ 0 ∷ []
+flags_of_neighbor_advertisement : canonical Icmpv6 (0x88 ∷ 0 ∷ 0 ∷ 0 ∷ 0xFF ∷ 0xFF ∷ 0xFF ∷ 0xFF ∷ []) ≡ 0x88 ∷ 0 ∷ 0 ∷ 0 ∷ 0xE0 ∷ 0 ∷ 0 ∷ 0
+    ∷ []
 unfolding icmpv6.format_of
 flags_of_neighbor_advertisement = refl
 
@@ -157,7 +158,13 @@ echo_reply checksum = 0x45 ∷ 0 ∷ 0 ∷ 28 ∷ 0 ∷ 0 ∷ 0 ∷ 0 ∷ 64 ∷
 
 -- a translation to another source and source port, and to another destination port or identifier
 abbrev other_source : Ipv4Translation
-other_source = record { source = Some (203 ∷ 0 ∷ 113 ∷ 7 ∷ []); destination = None; source_port = Some 40000; destination_port = Some 50000 }
+other_source = record {
+  source =
+      Some (203 ∷ 0 ∷ 113 ∷ 7 ∷ []);
+  destination = None;
+  source_port = Some 40000;
+  destination_port = Some 50000;
+}
 
 there_and_back : List ℕ → List ℕ
 there_and_back packet = ipv4_translated (ipv4_way_back other_source packet) (ipv4_translated other_source packet)
@@ -182,8 +189,10 @@ reply_restored = refl
 
 -- a time exceeded message from this host in 192.168.1.0/24, which quotes a UDP packet to 192.168.1.2
 abbrev time_exceeded : ℕ → List ℕ
-time_exceeded host = 0x45 ∷ 0 ∷ 0 ∷ 56 ∷ 0 ∷ 0 ∷ 0 ∷ 0 ∷ 64 ∷ 1 ∷ 0 ∷ 1 ∷ 192 ∷ 168 ∷ 1 ∷ host ∷ 198 ∷ 51 ∷ 100 ∷ 7 ∷ 11 ∷ 0 ∷ 0 ∷ 1 ∷ 0 ∷ 0 ∷ 0 ∷ 0
-    ∷ 0x45 ∷ 0 ∷ 0 ∷ 28 ∷ 0 ∷ 0 ∷ 0 ∷ 0 ∷ 64 ∷ 17 ∷ 0 ∷ 1 ∷ 198 ∷ 51 ∷ 100 ∷ 7 ∷ 192 ∷ 168 ∷ 1 ∷ 2 ∷ 0 ∷ 53 ∷ 0x13 ∷ 0x88 ∷ 0 ∷ 8 ∷ 0 ∷ 0 ∷ []
+time_exceeded host = 0x45 ∷ 0 ∷ 0 ∷ 56 ∷ 0 ∷ 0 ∷ 0 ∷ 0 ∷ 64 ∷ 1 ∷ 0 ∷ 1 ∷ 192 ∷ 168 ∷ 1 ∷ host ∷ 198 ∷ 51 ∷ 100 ∷ 7 ∷ 11 ∷ 0 ∷ 0 ∷ 1 ∷ 0 ∷ 0
+    ∷ 0 ∷ 0
+    ∷ 0x45 ∷ 0 ∷ 0 ∷ 28 ∷ 0 ∷ 0 ∷ 0 ∷ 0 ∷ 64 ∷ 17 ∷ 0 ∷ 1 ∷ 198 ∷ 51 ∷ 100 ∷ 7 ∷ 192 ∷ 168 ∷ 1 ∷ 2 ∷ 0 ∷ 53 ∷ 0x13 ∷ 0x88 ∷ 0 ∷ 8 ∷ 0 ∷ 0
+    ∷ []
 
 -- an error from the host 192.168.1.2 comes back, and an error from a router in front of the host comes back as an error from the host
 error_restored : there_and_back (time_exceeded 2) ≡ time_exceeded 2
@@ -196,8 +205,8 @@ router_lost = refl
 
 -- ---- a quoted packet whose total length leaves out the header
 
--- A port unreachable message of 192.168.1.2, as a host that follows BSD sends it. The packet that it quotes went from port 53 of 198.51.100.7
--- to port 5000. The total length of this packet is 8, which is below the length of its header.
+-- A port unreachable message of 192.168.1.2, as a host that follows BSD sends it. The packet that it quotes went from port 53 of
+-- 198.51.100.7 to port 5000. The total length of this packet is 8, which is below the length of its header.
 abbrev quoted_by_bsd : List ℕ
 quoted_by_bsd =
     0x45 ∷ 0 ∷ 0 ∷ 0x38 ∷ 0x12 ∷ 0x34 ∷ 0 ∷ 0 ∷ 0x40 ∷ 1 ∷ 0x7C ∷ 0xAC ∷ 0xC0 ∷ 0xA8 ∷ 1 ∷ 2 ∷ 0xC6 ∷ 0x33 ∷ 0x64 ∷ 7 ∷ 3 ∷ 3 ∷ 0xE8 ∷

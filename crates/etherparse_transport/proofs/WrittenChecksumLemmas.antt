@@ -64,7 +64,8 @@ both_true false b is = absurd (cc is)
 
 -- the part of a UDP packet that its length field counts
 counted_cut : (counts : Bool) (bytes : List ℕ) (checksum : ℕ) → 8 ≤ length bytes → length_counts bytes ≡ counts
-    → (if counts then take (length_field bytes) (with_checksum udp_checksum_place bytes checksum) else with_checksum udp_checksum_place bytes checksum)
+    → (if counts then take (length_field bytes) (with_checksum udp_checksum_place bytes checksum)
+    else with_checksum udp_checksum_place bytes checksum)
     ≡ with_checksum udp_checksum_place (if counts then take (length_field bytes) bytes else bytes) checksum
 counted_cut true bytes checksum long is =
     let parts = both_true (not (nat_lt (length_field bytes) 8)) (not (nat_lt (length bytes) (length_field bytes))) is in
@@ -77,8 +78,10 @@ cut_kept : (bytes : List ℕ) (checksum : ℕ) → 8 ≤ length bytes
     → cut (with_checksum udp_checksum_place bytes checksum) ≡ with_checksum udp_checksum_place (cut bytes) checksum
 cut_kept bytes checksum long =
     let changed : List ℕ = with_checksum udp_checksum_place bytes checksum in
-    ap (λ field. if not (nat_lt field 8) && not (nat_lt (length changed) field) then take field changed else changed) (length_field_kept bytes checksum long)
-    ∙ ap (λ len. if not (nat_lt (length_field bytes) 8) && not (nat_lt len (length_field bytes)) then take (length_field bytes) changed else changed)
+    ap (λ field. if not (nat_lt field 8) && not (nat_lt (length changed) field) then take field changed else changed)
+    (length_field_kept bytes checksum long)
+    ∙ ap (λ len. if not (nat_lt (length_field bytes) 8) && not (nat_lt len (length_field bytes)) then take (length_field bytes) changed
+    else changed)
     (length-with_checksum udp_checksum_place bytes checksum (omega (arith, long)))
     ∙ counted_cut (length_counts bytes) bytes checksum long refl
 
@@ -88,7 +91,11 @@ cut_stored : (counts : Bool) (bytes : List ℕ) → 8 ≤ length bytes → lengt
 cut_stored true bytes long is =
     let parts = both_true (not (nat_lt (length_field bytes) 8)) (not (nat_lt (length bytes) (length_field bytes))) is in
     let field : 8 ≤ length_field bytes = ltb-false (length_field bytes) 8 (not_true _ parts.0) in
-    omega (arith, get_or-take (length_field bytes) bytes 6 0 (omega (arith, field)), get_or-take (length_field bytes) bytes 7 0 (omega (arith, field)))
+    omega (
+      arith,
+      get_or-take (length_field bytes) bytes 6 0 (omega (arith, field)),
+      get_or-take (length_field bytes) bytes 7 0 (omega (arith, field)),
+    )
 cut_stored false bytes long is = refl
 
 -- the errors of a UDP packet, given its length and its length field
@@ -100,7 +107,8 @@ udp_error len field = first_of (
     (record { required_len = 8; len = field; len_source = UdpHeaderLen; layer = layers.UdpHeader; layer_start_offset = 0 })
     ∷ [])
 
-udp_stored : (payload : List ℕ) (checksum : ℕ) → refusal_by (Some protos.Udp) false payload ≡ None → IsStored protos.Udp payload (Udp (cut payload)) checksum
+udp_stored : (payload : List ℕ) (checksum : ℕ) → refusal_by (Some protos.Udp) false payload ≡ None
+    → IsStored protos.Udp payload (Udp (cut payload)) checksum
 unfolding udp_error
 udp_stored payload checksum none =
     let strict = none_first (udp.refusal payload) _ (mapped_none Len (strict_refusal payload) none) in
@@ -111,7 +119,8 @@ udp_stored payload checksum none =
       proto_is = refl;
       there = long;
       stored_is = cut_stored (length_counts payload) payload long refl;
-      accepted = ap (λ len. option_map Len (udp_error len (length_field changed))) (length-with_checksum udp_checksum_place payload checksum (omega (arith, long)))
+      accepted = ap (λ len. option_map Len (udp_error len (length_field changed)))
+          (length-with_checksum udp_checksum_place payload checksum (omega (arith, long)))
           ∙ ap (λ field. option_map Len (udp_error (length payload) field)) (length_field_kept payload checksum long) ∙ none;
       kept_is = ap (λ bytes. Some (Udp bytes)) (cut_kept payload checksum long);
     }
@@ -124,18 +133,22 @@ tcp_error len byte = first_of (
     ∷ refused_if (nat_lt len (byte / 16 * 4)) (Len (wrong_length layers.TcpHeader (byte / 16 * 4) len))
     ∷ [])
 
-tcp_stored : (payload : List ℕ) (checksum : ℕ) → refusal_by (Some protos.Tcp) false payload ≡ None → IsStored protos.Tcp payload (Tcp payload) checksum
+tcp_stored : (payload : List ℕ) (checksum : ℕ) → refusal_by (Some protos.Tcp) false payload ≡ None
+    → IsStored protos.Tcp payload (Tcp payload) checksum
 unfolding tcp_error
 tcp_stored payload checksum none =
     let short = none_first (refused_if (nat_lt (length payload) 20) (Len (wrong_length layers.TcpHeader 20 (length payload)))) _ none in
-    let long : 20 ≤ length payload = ltb-false (length payload) 20 (none_if _ (Len (wrong_length layers.TcpHeader 20 (length payload))) short.0) in
+    let long : 20 ≤ length payload =
+    ltb-false (length payload) 20 (none_if _ (Len (wrong_length layers.TcpHeader 20 (length payload))) short.0) in
     let changed : List ℕ = with_checksum tcp_checksum_place payload checksum in
     record {
       proto_is = refl;
       there = omega (arith, long);
       stored_is = refl;
-      accepted = ap (λ len. tcp_error len (slice_index changed 12)) (length-with_checksum tcp_checksum_place payload checksum (omega (arith, long)))
-          ∙ ap (tcp_error (length payload)) (byte-with_checksum tcp_checksum_place payload checksum 12 (omega arith) (omega (arith, long))) ∙ none;
+      accepted = ap (λ len. tcp_error len (slice_index changed 12))
+          (length-with_checksum tcp_checksum_place payload checksum (omega (arith, long)))
+          ∙ ap (tcp_error (length payload)) (byte-with_checksum tcp_checksum_place payload checksum 12 (omega arith) (omega (arith, long)))
+          ∙ none;
       kept_is = refl;
     }
 
@@ -147,10 +160,12 @@ icmpv4_error len type code = first_of (
     ∷ refused_if ((type == 14) && (code == 0) && not (len == 20)) (wrong_length layers.Icmpv4TimestampReply 20 len)
     ∷ [])
 
-icmpv4_stored : (payload : List ℕ) (checksum : ℕ) → refusal_by (Some protos.Icmpv4) false payload ≡ None → IsStored protos.Icmpv4 payload (Icmpv4 payload) checksum
+icmpv4_stored : (payload : List ℕ) (checksum : ℕ) → refusal_by (Some protos.Icmpv4) false payload ≡ None
+    → IsStored protos.Icmpv4 payload (Icmpv4 payload) checksum
 unfolding icmpv4_error
 icmpv4_stored payload checksum none =
-    let short = none_first (refused_if (nat_lt (length payload) 8) (wrong_length layers.Icmpv4 8 (length payload))) _ (mapped_none Len (icmpv4.refusal payload) none) in
+    let short = none_first (refused_if (nat_lt (length payload) 8) (wrong_length layers.Icmpv4 8 (length payload))) _
+    (mapped_none Len (icmpv4.refusal payload) none) in
     let long : 8 ≤ length payload = ltb-false (length payload) 8 (none_if _ (wrong_length layers.Icmpv4 8 (length payload)) short.0) in
     let changed : List ℕ = with_checksum icmp_checksum_place payload checksum in
     record {
@@ -174,16 +189,19 @@ icmpv6_error len = first_of (
     ∷ refused_if (nat_lt 4294967295 len) (wrong_length layers.Icmpv6 4294967295 len)
     ∷ [])
 
-icmpv6_stored : (payload : List ℕ) (checksum : ℕ) → refusal_by (Some protos.Icmpv6) false payload ≡ None → IsStored protos.Icmpv6 payload (Icmpv6 payload) checksum
+icmpv6_stored : (payload : List ℕ) (checksum : ℕ) → refusal_by (Some protos.Icmpv6) false payload ≡ None
+    → IsStored protos.Icmpv6 payload (Icmpv6 payload) checksum
 unfolding icmpv6_error
 icmpv6_stored payload checksum none =
-    let short = none_first (refused_if (nat_lt (length payload) 8) (wrong_length layers.Icmpv6 8 (length payload))) _ (mapped_none Len (icmpv6.refusal payload) none) in
+    let short = none_first (refused_if (nat_lt (length payload) 8) (wrong_length layers.Icmpv6 8 (length payload))) _
+    (mapped_none Len (icmpv6.refusal payload) none) in
     let long : 8 ≤ length payload = ltb-false (length payload) 8 (none_if _ (wrong_length layers.Icmpv6 8 (length payload)) short.0) in
     record {
       proto_is = refl;
       there = omega (arith, long);
       stored_is = refl;
-      accepted = ap (λ len. option_map Len (icmpv6_error len)) (length-with_checksum icmp_checksum_place payload checksum (omega (arith, long))) ∙ none;
+      accepted = ap (λ len. option_map Len (icmpv6_error len))
+          (length-with_checksum icmp_checksum_place payload checksum (omega (arith, long))) ∙ none;
       kept_is = refl;
     }
 
@@ -235,10 +253,12 @@ drop_stored len place bytes checksum there =
     let end : len + place + 2 ≡ len + (place + 2) = omega arith in
     drop-append-le len front rest (omega (arith, front_len))
     ∙ ap (λ before. before ++ rest) (drop-take len place bytes)
-    ∙ ap (λ after. take place (drop len bytes) ++ (to_be_bytes w16 checksum ++ after)) (ap (λ n. drop n bytes) end ∙ sym (drop-drop (place + 2) len bytes))
+    ∙ ap (λ after. take place (drop len bytes) ++ (to_be_bytes w16 checksum ++ after))
+    (ap (λ n. drop n bytes) end ∙ sym (drop-drop (place + 2) len bytes))
 
 -- storing a checksum after the headers does not change the headers
-front_stored : (len place : ℕ) (bytes : List ℕ) (checksum : ℕ) → len ≤ place → place + 2 ≤ length bytes → HasFront len bytes (with_checksum place bytes checksum)
+front_stored : (len place : ℕ) (bytes : List ℕ) (checksum : ℕ) → len ≤ place → place + 2 ≤ length bytes
+    → HasFront len bytes (with_checksum place bytes checksum)
 front_stored len place bytes checksum before there =
     let front_len : length (take place bytes) ≡ place = length-take-le place bytes (omega (arith, there)) in
     record {
@@ -255,14 +275,16 @@ whole_packet packet accepted =
     none_if (is_cut_off false packet) (PacketCutOff (counted_len false packet) (length packet)) cut_off.0
 
 -- the packet with the checksum is judged `Right` if its message is judged `Right`
-judged_again : (again : TransportInIp) (transport : TransportSlice) (addresses : Addresses) → again.is_fragment ≡ false → again.is_cut_off ≡ false
+judged_again : (again : TransportInIp) (transport : TransportSlice) (addresses : Addresses) → again.is_fragment ≡ false
+    → again.is_cut_off ≡ false
     → kept again ≡ Some transport → by_value again.addresses ≡ addresses → Judges addresses transport Right → JudgesFound again Right
 judged_again again transport addresses whole cut_off is_kept same judged =
     let P : Bool → Type 0 = λ b. MatchBool b (Right ≡ Untested Fragment) (MatchBool again.is_cut_off (Right ≡ Untested CutOff)
     (MatchOption (kept again) (Right ≡ Untested OtherProtocol) (λ t. Judges (by_value again.addresses) t Right))) in
     let Q : Bool → Type 0 = λ b. MatchBool b (Right ≡ Untested CutOff)
     (MatchOption (kept again) (Right ≡ Untested OtherProtocol) (λ t. Judges (by_value again.addresses) t Right)) in
-    let R : Option TransportSlice → Type 0 = λ k. MatchOption k (Right ≡ Untested OtherProtocol) (λ t. Judges (by_value again.addresses) t Right) in
+    let R : Option TransportSlice → Type 0 =
+    λ k. MatchOption k (Right ≡ Untested OtherProtocol) (λ t. Judges (by_value again.addresses) t Right) in
     let S : Addresses → Type 0 = λ a. Judges a transport Right in
     subst P (sym whole) (subst Q (sym cut_off) (subst R (sym is_kept) (subst S (sym same) judged)))
 
@@ -276,7 +298,8 @@ pub record IsPlaced (packet : List ℕ) (found : TransportInIp) (transport : Tra
       → Judges (by_value found.addresses) (with_stored transport checksum) Right → (refusal again ≡ None) × JudgesFound again Right
 
 pub placed : (packet : List ℕ) (found : TransportInIp) (transport : TransportSlice) (place checksum : ℕ)
-    → ip.refusal packet ≡ None → Carries packet found → found.is_length_missing ≡ false → refusal found ≡ None → (is_kept : kept found ≡ Some transport)
+    → ip.refusal packet ≡ None → Carries packet found → found.is_length_missing ≡ false → refusal found ≡ None
+    → (is_kept : kept found ≡ Some transport)
     → place ≡ found.payload_offset + checksum_place (proto_of transport) → IsPlaced packet found transport is_kept place checksum
 placed packet found transport place checksum accepted carries stated is_refused is_kept is_place =
     let n : ℕ = counted_len false packet in
@@ -285,9 +308,11 @@ placed packet found transport place checksum accepted carries stated is_refused 
     let proto : Proto = is.proto in
     let at : ℕ = checksum_place proto in
     let payload : List ℕ = found.payload.now in
-    let cut_off : found.is_cut_off ≡ false = carries.is_cut_off ∙ ap (λ missing. is_cut_off missing packet) stated ∙ whole_packet packet accepted in
+    let cut_off : found.is_cut_off ≡ false =
+    carries.is_cut_off ∙ ap (λ missing. is_cut_off missing packet) stated ∙ whole_packet packet accepted in
     let payload_is : payload ≡ drop len (take n packet) = carries.payload ∙ ap (λ missing. drop len (counted missing packet)) stated in
-    let in_is : proto_in found ≡ Some proto = ap (λ b. if b then None else proto_over (by_value found.addresses) found.protocol.0) is.whole ∙ is.number in
+    let in_is : proto_in found ≡ Some proto =
+    ap (λ b. if b then None else proto_over (by_value found.addresses) found.protocol.0) is.whole ∙ is.number in
     let none : refusal_by (Some proto) false payload ≡ None =
     ap (λ p. refusal_by p false payload) (sym in_is) ∙ ap (λ b. refusal_by (proto_in found) b payload) (sym cut_off) ∙ is_refused in
     let message : IsStored proto payload transport checksum = stored proto payload transport checksum none is.kept_is in
@@ -309,8 +334,10 @@ placed packet found transport place checksum accepted carries stated is_refused 
     ∙ ap (λ bytes. with_checksum at bytes checksum) (sym payload_is) in
     let byte : (k : ℕ) → at + k + 1 ≤ length payload → slice_index payload (at + k) ≡ slice_index packet (place + k) = λ k fits.
     let shift : len + (at + k) ≡ place + k = omega (arith, place_is) in
-    let inside : len + (at + k) < n = omega (arith, fits, ap length payload_is, length-drop len (take n packet), length-take-le n packet whole, within) in
-    ap (λ bytes. slice_index bytes (at + k)) payload_is ∙ get_or-drop len (take n packet) (at + k) 0 ∙ get_or-take n packet (len + (at + k)) 0 inside
+    let inside : len + (at + k) < n =
+    omega (arith, fits, ap length payload_is, length-drop len (take n packet), length-take-le n packet whole, within) in
+    ap (λ bytes. slice_index bytes (at + k)) payload_is ∙ get_or-drop len (take n packet) (at + k) 0
+    ∙ get_or-take n packet (len + (at + k)) 0 inside
     ∙ ap (slice_index packet) shift in
     let stored_there : stored_checksum transport ≡ be_number packet place 2 =
     message.stored_is ∙ omega (arith, byte 0 (omega (arith, message.there)), byte 1 (omega (arith, message.there))) in
@@ -323,7 +350,8 @@ placed packet found transport place checksum accepted carries stated is_refused 
           let same : carries_too.headers ≡ carries.headers =
           read_once (headers_of false changed) carries_too.headers carries.headers
           (ap (λ missing. headers_of missing changed) (sym stated_too) ∙ carries_too.read) alike.read in
-          let whole_too : again.is_fragment ≡ false = carries_too.is_fragment ∙ ap (λ h. h.is_fragment) same ∙ sym carries.is_fragment ∙ is.whole in
+          let whole_too : again.is_fragment ≡ false =
+          carries_too.is_fragment ∙ ap (λ h. h.is_fragment) same ∙ sym carries.is_fragment ∙ is.whole in
           let cut_off_too : again.is_cut_off ≡ false =
           carries_too.is_cut_off ∙ ap (λ missing. is_cut_off missing changed) stated_too ∙ whole_packet changed alike.accepted in
           let addresses_too : by_value again.addresses ≡ by_value found.addresses =
@@ -341,7 +369,8 @@ placed packet found transport place checksum accepted carries stated is_refused 
             ap (λ p. refusal_by p again.is_cut_off again.payload.now) in_too
                 ∙ ap (λ b. refusal_by (Some proto) b again.payload.now) cut_off_too
                 ∙ ap (refusal_by (Some proto) false) payload_too ∙ message.accepted,
-            judged_again again (with_stored transport checksum) (by_value found.addresses) whole_too cut_off_too kept_too addresses_too judged,
+            judged_again again (with_stored transport checksum)
+                (by_value found.addresses) whole_too cut_off_too kept_too addresses_too judged,
           );
     }
 
@@ -360,7 +389,8 @@ same_found packet found again carries carries_too stated stated_too =
     let missing : again.is_length_missing ≡ found.is_length_missing = stated_too ∙ sym stated in
     let same : carries_too.headers ≡ carries.headers =
     read_once (headers_of false packet) carries_too.headers carries.headers
-    (ap (λ missing. headers_of missing packet) (sym stated_too) ∙ carries_too.read) (ap (λ missing. headers_of missing packet) (sym stated) ∙ carries.read) in
+    (ap (λ missing. headers_of missing packet) (sym stated_too) ∙ carries_too.read)
+    (ap (λ missing. headers_of missing packet) (sym stated) ∙ carries.read) in
     record {
       fragment = carries_too.is_fragment ∙ ap (λ (h : Headers). h.is_fragment) same ∙ sym carries.is_fragment;
       cut_off = carries_too.is_cut_off ∙ ap (λ missing. is_cut_off missing packet) missing ∙ sym carries.is_cut_off;
@@ -382,7 +412,8 @@ refusal_same found again same =
     ∙ ap (λ b. refusal_by (proto_in found) b again.payload.now) same.cut_off
     ∙ ap (refusal_by (proto_in found) found.is_cut_off) same.payload
 
-judged_same : (found again : TransportInIp) (verdict : ChecksumVerdict) → IsSame found again → JudgesFound found verdict → JudgesFound again verdict
+judged_same : (found again : TransportInIp) (verdict : ChecksumVerdict) → IsSame found again → JudgesFound found verdict
+    → JudgesFound again verdict
 judged_same found again verdict same judged =
     let kept_same : kept again ≡ kept found =
     ap (λ p. kept_by p again.payload.now) (proto_same found again same) ∙ ap (kept_by (proto_in found)) same.payload in
@@ -390,21 +421,25 @@ judged_same found again verdict same judged =
     (MatchOption (kept again) (verdict ≡ Untested OtherProtocol) (λ t. Judges (by_value again.addresses) t verdict))) in
     let Q : Bool → Type 0 = λ b. MatchBool found.is_fragment (verdict ≡ Untested Fragment) (MatchBool b (verdict ≡ Untested CutOff)
     (MatchOption (kept again) (verdict ≡ Untested OtherProtocol) (λ t. Judges (by_value again.addresses) t verdict))) in
-    let R : Option TransportSlice → Type 0 = λ k. MatchBool found.is_fragment (verdict ≡ Untested Fragment) (MatchBool found.is_cut_off (verdict ≡ Untested CutOff)
+    let R : Option TransportSlice → Type 0 =
+    λ k. MatchBool found.is_fragment (verdict ≡ Untested Fragment) (MatchBool found.is_cut_off (verdict ≡ Untested CutOff)
     (MatchOption k (verdict ≡ Untested OtherProtocol) (λ t. Judges (by_value again.addresses) t verdict))) in
-    let S : Addresses → Type 0 = λ a. MatchBool found.is_fragment (verdict ≡ Untested Fragment) (MatchBool found.is_cut_off (verdict ≡ Untested CutOff)
+    let S : Addresses → Type 0 = λ a. MatchBool found.is_fragment (verdict
+    ≡ Untested Fragment) (MatchBool found.is_cut_off (verdict ≡ Untested CutOff)
     (MatchOption (kept found) (verdict ≡ Untested OtherProtocol) (λ t. Judges a t verdict))) in
     subst P (sym same.fragment) (subst Q (sym same.cut_off) (subst R (sym kept_same) (subst S (sym same.addresses) judged)))
 
 -- the verdict on a typed slice is the verdict on its packet
-judged_slice : (found : TransportInIp) (transport : TransportSlice) (verdict : ChecksumVerdict) → found.is_fragment ≡ false → found.is_cut_off ≡ false
+judged_slice : (found : TransportInIp) (transport : TransportSlice) (verdict : ChecksumVerdict) → found.is_fragment ≡ false
+    → found.is_cut_off ≡ false
     → kept found ≡ Some transport → JudgesFound found verdict → Judges (by_value found.addresses) transport verdict
 judged_slice found transport verdict whole cut_off is_kept judged =
     let P : Bool → Type 0 = λ b. MatchBool b (verdict ≡ Untested Fragment) (MatchBool found.is_cut_off (verdict ≡ Untested CutOff)
     (MatchOption (kept found) (verdict ≡ Untested OtherProtocol) (λ t. Judges (by_value found.addresses) t verdict))) in
     let Q : Bool → Type 0 = λ b. MatchBool b (verdict ≡ Untested CutOff)
     (MatchOption (kept found) (verdict ≡ Untested OtherProtocol) (λ t. Judges (by_value found.addresses) t verdict)) in
-    let R : Option TransportSlice → Type 0 = λ k. MatchOption k (verdict ≡ Untested OtherProtocol) (λ t. Judges (by_value found.addresses) t verdict) in
+    let R : Option TransportSlice → Type 0 =
+    λ k. MatchOption k (verdict ≡ Untested OtherProtocol) (λ t. Judges (by_value found.addresses) t verdict) in
     subst R is_kept (subst Q cut_off (subst P whole judged))
 
 -- ---- a packet that is refused
@@ -426,7 +461,8 @@ refused_for packet found (UntestedFor why) accepted carries stated refused = rec
 }
 
 -- a packet, the right checksum for it, and the place of the checksum
-module _ (packet : List ℕ) (found : TransportInIp) (place checksum : ℕ) (accepted : ip.refusal packet ≡ None) (carries : Carries packet found)
+module _ (packet : List ℕ) (found : TransportInIp) (place checksum : ℕ) (accepted : ip.refusal packet ≡ None)
+    (carries : Carries packet found)
     (stated : found.is_length_missing ≡ false) (is : IsRightIn found place checksum) where
   at_place : IsPlaced packet found is.transport is.is_kept place checksum
   at_place = placed packet found is.transport place checksum accepted carries stated is.is_accepted is.is_kept is.is_place
@@ -462,7 +498,8 @@ module _ (packet : List ℕ) (found : TransportInIp) (place checksum : ℕ) (acc
     proto = fragment_is.proto;
     proto_is = ap (λ addresses. proto_over addresses carries.headers.protocol.0) (sym carries.addresses)
         ∙ ap (λ protocol. proto_over (by_value found.addresses) protocol.0) (sym carries.protocol) ∙ fragment_is.number;
-    written = ap (λ place. with_checksum place packet checksum) (is.is_place ∙ ap (λ offset. offset + checksum_place (proto_of is.transport)) carries.payload_offset
+    written = ap (λ place. with_checksum place packet checksum)
+        (is.is_place ∙ ap (λ offset. offset + checksum_place (proto_of is.transport)) carries.payload_offset
         ∙ ap (λ p. carries.headers.len + checksum_place p) at_place.proto_is);
   }
 
@@ -496,7 +533,8 @@ pub has_partial_in : (packet : List ℕ) (found : TransportInIp) (partial : Bool
 has_partial_in packet found partial accepted carries stated whether = (
   λ is. record {
     accepted = accepted;
-    found = λ again carries_too stated_too. partial_same found again (same_found packet found again carries carries_too stated stated_too) (whether.0 is);
+    found = λ again carries_too stated_too. partial_same found again (same_found packet found again carries carries_too stated stated_too)
+        (whether.0 is);
   },
   λ has. whether.1 (has.found found carries stated),
 )
@@ -511,17 +549,20 @@ partial_by false true k between verdict is = subst (SaysWhetherPartial (MatchOpt
 partial_by false false None between verdict is = subst (SaysWhetherPartial ⊥) (sym is) tt
 partial_by false false (Some t) between verdict is = says_partial between t verdict is
 
-pub says_whether : (packet : List ℕ) (found : TransportInIp) (verdict : ChecksumVerdict) → Carries packet found → found.is_length_missing ≡ false
+pub says_whether : (packet : List ℕ) (found : TransportInIp) (verdict : ChecksumVerdict) → Carries packet found
+    → found.is_length_missing ≡ false
     → HasVerdict packet verdict → SaysWhetherPartial (HasPartialChecksum packet) verdict
 says_whether packet found (Partial expected) carries stated has = record {
   accepted = has.accepted;
   found = λ again carries_too stated_too. (
     (has.found again carries_too stated_too).0,
-    partial_by again.is_fragment again.is_cut_off (kept again) (by_value again.addresses) (Partial expected) (has.found again carries_too stated_too).1,
+    partial_by again.is_fragment again.is_cut_off (kept again) (by_value again.addresses) (Partial expected)
+        (has.found again carries_too stated_too).1,
   );
 }
 says_whether packet found (Wrong expected) carries stated has = λ partial.
-    partial_by found.is_fragment found.is_cut_off (kept found) (by_value found.addresses) (Wrong expected) (has.found found carries stated).1
+    partial_by found.is_fragment found.is_cut_off (kept found) (by_value found.addresses) (Wrong expected)
+    (has.found found carries stated).1
     (partial.found found carries stated).1
 says_whether packet found Right carries stated has = tt
 says_whether packet found Absent carries stated has = tt

@@ -30,7 +30,8 @@ with_checksum_field (Icmpv6 header) checksum = Icmpv6 (record header { checksum 
 -- the error over IPv4: header and payload of UDP or TCP are longer than 65,535 bytes, or the header is an ICMPv6 header
 abbrev pub ipv4_refusal : TransportHeader → ℕ → Option TransportChecksumError
 ipv4_refusal (Udp header) payload_len = option_map PayloadLen (too_big UdpPayloadLengthIpv4 udp.max_payload_len payload_len)
-ipv4_refusal (Tcp header) payload_len = option_map PayloadLen (too_big TcpPayloadLengthIpv4 (tcp.max_payload_len_ipv4 (tcp.wire header)) payload_len)
+ipv4_refusal (Tcp header) payload_len =
+    option_map PayloadLen (too_big TcpPayloadLengthIpv4 (tcp.max_payload_len_ipv4 (tcp.wire header)) payload_len)
 ipv4_refusal (Icmpv4 header) payload_len = None
 ipv4_refusal (Icmpv6 header) payload_len = Some Icmpv6InIpv4
 

@@ -118,7 +118,8 @@ abbrev pub counted : List ℕ → List ℕ
 counted packet = ip.counted (ip.lacks_len packet) packet
 
 -- the error by these rules for the parts of a packet: the fixed part of its IP header, the counted bytes, and the contents of its headers
-abbrev pub by_parts : (Fixed → Bool → ℕ → List ℕ → Option ErrorAboutError) → Option Fixed → List ℕ → Result Headers IpError → Option ErrorAboutError
+abbrev pub by_parts : (Fixed → Bool → ℕ → List ℕ → Option ErrorAboutError) → Option Fixed → List ℕ → Result Headers IpError
+    → Option ErrorAboutError
 by_parts rules (Some fixed) bytes (Ok headers) = rules fixed headers.is_later_fragment headers.protocol.0 (drop headers.len bytes)
 by_parts rules fixed bytes headers = None
 

@@ -85,7 +85,8 @@ message_in_ipv4 is_quoted packet = counted_after is_quoted (ipv4_header_len pack
 -- this message of an IPv4 packet, with new ports
 abbrev pub ipv4_flow_message : Ipv4Translation → List ℕ → List ℕ → List ℕ
 ipv4_flow_message new message packet =
-    translated_in (ipv4_is_later_fragment packet) (ipv4_proto packet) (sum_of_ipv4 (ipv4_header_of packet)) (sum_of_ipv4 (ipv4_addresses new packet))
+    translated_in (ipv4_is_later_fragment packet) (ipv4_proto packet) (sum_of_ipv4 (ipv4_header_of packet))
+    (sum_of_ipv4 (ipv4_addresses new packet))
     new.source_port new.destination_port message
 
 -- an IPv4 packet with new addresses and this message
@@ -141,7 +142,8 @@ ipv4_place_refusal is_quoted has_port packet = first_of (
     option_map Ip (ipv4_headers_refusal is_quoted packet)
     ∷ refused_if (not (version packet == 4)) OtherVersion
     ∷ refused_if (has_source_route packet) SourceRoute
-    ∷ refused_if (is_none (ipv4_proto packet) && (has_port || covers_ipv4_addresses (slice_index packet 9))) (Protocol (record { 0 = slice_index packet 9 }))
+    ∷ refused_if (is_none (ipv4_proto packet) && (has_port || covers_ipv4_addresses (slice_index packet 9)))
+    (Protocol (record { 0 = slice_index packet 9 }))
     ∷ [])
 
 -- `place` states where these bytes, the message of an IPv4 packet, begin and end, and which protocol they have

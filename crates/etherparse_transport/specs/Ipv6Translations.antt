@@ -78,7 +78,8 @@ ipv6_addresses new packet = record {
 -- the message of an IPv6 packet with new ports
 abbrev pub ipv6_flow_message : Ipv6Translation → List ℕ → List ℕ
 ipv6_flow_message new packet =
-    translated_in (ipv6_is_later_fragment packet) (ipv6_proto packet) (sum_of_ipv6 (ipv6_header_of packet)) (sum_of_ipv6 (ipv6_addresses new packet))
+    translated_in (ipv6_is_later_fragment packet) (ipv6_proto packet) (sum_of_ipv6 (ipv6_header_of packet))
+    (sum_of_ipv6 (ipv6_addresses new packet))
     new.source_port new.destination_port (message_in_ipv6 packet)
 
 -- an IPv6 packet with new addresses and this message
@@ -124,7 +125,8 @@ abbrev pub ipv6_place_refusal : Bool → List ℕ → Option TranslateError
 ipv6_place_refusal has_port packet = first_of (
     option_map Ip (ip.lax_refusal packet)
     ∷ refused_if (not (version packet == 6)) OtherVersion
-    ∷ refused_if (is_none (ipv6_proto packet) && (has_port || covers_ipv6_addresses (ipv6_protocol packet))) (Protocol (record { 0 = ipv6_protocol packet }))
+    ∷ refused_if (is_none (ipv6_proto packet) && (has_port || covers_ipv6_addresses (ipv6_protocol packet)))
+    (Protocol (record { 0 = ipv6_protocol packet }))
     ∷ [])
 
 -- `place` states where the message of an IPv6 packet begins and ends, and which protocol it has

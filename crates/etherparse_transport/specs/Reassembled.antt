@@ -18,6 +18,7 @@ IsVerdictOn packet verdict =
 -- Assume that a packet is cut into fragments, that it fits in a buffer of `len` bytes, and that the fragments arrive in any order, each at
 -- least once. Then the packet that is put together has a verdict exactly if the packet that was cut has this verdict.
 abbrev pub KeepsVerdict : (FragmentKey → List ℕ → List FragmentValue → Type 0) → Type 0
-KeepsVerdict IsCut = (key : FragmentKey) (len : ℕ) (packet result : List ℕ) (fragments arrivals : List FragmentValue) (verdict : ChecksumVerdict)
+KeepsVerdict IsCut = (key : FragmentKey) (len : ℕ) (packet result : List ℕ) (fragments arrivals : List FragmentValue)
+    (verdict : ChecksumVerdict)
     → IsCut key packet fragments → header_room key + length packet ≤ len → AreFrom fragments arrivals → AreFrom arrivals fragments
     → IsPacket (after_arrivals (empty key len) arrivals) result → IsVerdictOn result verdict ↔ IsVerdictOn packet verdict

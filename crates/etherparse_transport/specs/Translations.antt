@@ -154,7 +154,8 @@ abbrev pub translated_message : Proto → ℕ → ℕ → Option ℕ → Option 
 translated_message protos.Udp old new source destination message = translated_udp old new source destination message
 translated_message protos.Tcp old new source destination message = translated_tcp old new source destination message
 translated_message protos.Icmpv4 old new source destination message =
-    if is_query protos.Icmpv4 message then translated_query 0 0 (new_identifier protos.Icmpv4 source destination message) message else message
+    if is_query protos.Icmpv4 message then translated_query 0 0 (new_identifier protos.Icmpv4 source destination message) message
+    else message
 translated_message protos.Icmpv6 old new source destination message =
     if is_query protos.Icmpv6 message then translated_query old new (new_identifier protos.Icmpv6 source destination message) message
     else with_updated_checksum old new message
@@ -219,8 +220,12 @@ is_redirect message = slice_index message 0 == 5
 abbrev pub icmp_refusal : Proto → List ℕ → Option TranslateError
 icmp_refusal protos.Udp message = None
 icmp_refusal protos.Tcp message = None
-icmp_refusal protos.Icmpv4 message = refused_if (not (is_query protos.Icmpv4 message) && (is_some (icmpv4.refusal message) || (is_redirect message || is_none (quoted_by_icmpv4 message)))) IcmpMessage
-icmp_refusal protos.Icmpv6 message = refused_if (not (is_query protos.Icmpv6 message) && (is_some (icmpv6.refusal message) || is_none (quoted_by_icmpv6 message))) IcmpMessage
+icmp_refusal protos.Icmpv4 message =
+    refused_if (not (is_query protos.Icmpv4 message)
+    && (is_some (icmpv4.refusal message) || (is_redirect message || is_none (quoted_by_icmpv4 message)))) IcmpMessage
+icmp_refusal protos.Icmpv6 message =
+    refused_if (not (is_query protos.Icmpv6 message) && (is_some (icmpv6.refusal message) || is_none (quoted_by_icmpv6 message)))
+    IcmpMessage
 
 -- The error for a message: its first 8 bytes are not all present, or its ICMP message can't be translated. There is no error for a later
 -- fragment, which contains no header, or for an unknown protocol.

@@ -40,7 +40,8 @@ lost_checksum message = if rest_of_message message == 0 then 0 else all_ones
 abbrev pub IsChecksumRestored : Proto → List ℕ → Type 0
 IsChecksumRestored protos.Udp message = ⊤
 IsChecksumRestored protos.Tcp message = number tcp_checksum_place message ≢ all_ones
-IsChecksumRestored protos.Icmpv4 message = is_query protos.Icmpv4 message ≡ true → number icmp_checksum_place message ≢ lost_checksum message
+IsChecksumRestored protos.Icmpv4 message =
+    is_query protos.Icmpv4 message ≡ true → number icmp_checksum_place message ≢ lost_checksum message
 IsChecksumRestored protos.Icmpv6 message = number icmp_checksum_place message ≢ all_ones
 
 -- the checksum of the message of a packet is restored; a later fragment contains no checksum

@@ -16,19 +16,22 @@ returns-then-is_link_layer_address c =
 -- an option of length 0
 pub returns-then-len-eq0 : goal.returns-then-len-eq0
 returns-then-len-eq0 c =
-    let other : is_link_layer_address c.loop-rest.rest.now ≡ false = sym c.is_link_layer_address.ensures ∙ c.if-is_link_layer_address.false in
+    let other : is_link_layer_address c.loop-rest.rest.now ≡ false =
+    sym c.is_link_layer_address.ensures ∙ c.if-is_link_layer_address.false in
     sym (zero_at _ _ c.loop-rest.invariant c.loop-rest-test.true other (omega (arith, c.if-len-eq0.true, c.from-len.ensures)))
 
 -- an option that is cut off
 pub returns-then-rest-len : goal.returns-then-rest-len
 returns-then-rest-len c =
-    let other : is_link_layer_address c.loop-rest.rest.now ≡ false = sym c.is_link_layer_address.ensures ∙ c.if-is_link_layer_address.false in
+    let other : is_link_layer_address c.loop-rest.rest.now ≡ false =
+    sym c.is_link_layer_address.ensures ∙ c.if-is_link_layer_address.false in
     sym (cut_off_at _ _ c.loop-rest.invariant c.loop-rest-test.true other (omega (arith, c.if-rest-len.true, c.from-len.ensures)))
 
 -- the search goes on after an option
 pub loop-rest-preserved : goal.loop-rest-preserved
 loop-rest-preserved c =
-    let other : is_link_layer_address c.loop-rest.rest.now ≡ false = sym c.is_link_layer_address.ensures ∙ c.if-is_link_layer_address.false in
+    let other : is_link_layer_address c.loop-rest.rest.now ≡ false =
+    sym c.is_link_layer_address.ensures ∙ c.if-is_link_layer_address.false in
     let len : c.from-len.result * 8 ≡ slice_index c.loop-rest.rest.now 1 * 8 = omega (arith, c.from-len.ensures) in
     next_by _ _ _ _ c.loop-rest.invariant c.loop-rest-test.true other len (omega (arith, c.if-len-eq0.false))
     (take_rest c.loop-rest.rest.now (c.from-len.result * 8))

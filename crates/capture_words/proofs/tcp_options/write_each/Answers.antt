@@ -16,7 +16,8 @@ returns-in-Err g c =
     let read = subst (λ item. ReadsRawNext c.loop-option.options (Some item) c.next.new.self) c.in-Err.is c.in-Some.ensures.steps in
     let wrong = subst (λ bytes. raw_fault bytes ≡ Some error) (sym rest) read.0 in
     list_last _ _ _ _ _ (options_of c.args.segment.now) texts (fault_text error) c.loop-option.is_first first
-    (subst (λ bytes. AreOptionTexts bytes (texts ++ fault_text error ∷ [])) whole (prior (fault_text error ∷ []) (inr (inl (error, wrong, refl, refl)))))
+    (subst (λ bytes. AreOptionTexts bytes (texts ++ fault_text error ∷ [])) whole
+    (prior (fault_text error ∷ []) (inr (inl (error, wrong, refl, refl)))))
     appended c.in_ok-write_separator.ensures c.write_fault.ensures
 
 -- the invariant holds after another text
@@ -35,7 +36,8 @@ loop-option-preserved g c =
       not_first texts text,
       c.rest-rest-in-Some.ensures,
       λ more are. subst (AreOptionTexts c.rest-rest.result.now) (sym (append_assoc texts (text ∷ []) more))
-          (prior (text ∷ more) (inr (inr (option, after, begins, is, subst (λ bytes. AreOptionTexts bytes more) c.rest-rest-in-Some.ensures are)))),
+          (prior (text ∷ more) (inr (inr
+          (option, after, begins, is, subst (λ bytes. AreOptionTexts bytes more) c.rest-rest-in-Some.ensures are)))),
     )
 
 -- no byte is left
@@ -43,7 +45,8 @@ pub returns-then-is_empty : goal.returns-then-is_empty
 returns-then-is_empty g c =
     let (can, finite, texts, appended, first, rest, prior) = c.loop-option.invariant in
     let whole = c.rest-rest.ensures ∙ c.raw_options_iterator-options.ensures in
-    let are = subst (AreOptionTexts c.rest-rest.result.now) (append-nil texts) (prior [] (is_nil c.loop-option.rest.now c.if-is_empty.ensures)) in
+    let are = subst (AreOptionTexts c.rest-rest.result.now) (append-nil texts)
+    (prior [] (is_nil c.loop-option.rest.now c.if-is_empty.ensures)) in
     (listed texts, (texts, subst (λ bytes. AreOptionTexts bytes texts) whole are, refl), appended)
 
 -- the end of the list is the last text

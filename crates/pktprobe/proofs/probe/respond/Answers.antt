@@ -50,9 +50,11 @@ pub returns-in_err-write_out-clause-failed : goal.returns-in_err-write_out-claus
 returns-in_err-write_out-clause-failed g c =
     let left = g.R.Read.remaining c.args.input.now in
     let read = take c.in_ok-len.len c.fill.new.buffer in
-    let first = read_first left read (omega (arith, length-take c.in_ok-len.len c.fill.new.buffer, c.in_ok-len.ensures.len)) c.in_ok-len.ensures.bytes in
+    let first = read_first left read (omega (arith, length-take c.in_ok-len.len c.fill.new.buffer, c.in_ok-len.ensures.len))
+    c.in_ok-len.ensures.bytes in
     let text = c.as_slice.ensures.value ∙ c.answer-text.ensures.text ∙ ap (λ answer. answer.0) (same_report left read first) in
-    let begun : WritesBeginningOfReport left (g.R.Read.remaining c.fill.new.input) (g.W.Write.contents c.args.output.now) (g.W.Write.contents c.write_out.new.output) =
+    let begun : WritesBeginningOfReport left (g.R.Read.remaining c.fill.new.input) (g.W.Write.contents c.args.output.now)
+    (g.W.Write.contents c.write_out.new.output) =
     record {
       input = input_of left read;
       reads = reads_input left _ read first c.in_ok-len.ensures.consumed;
@@ -64,7 +66,8 @@ pub returns-clause-written : goal.returns-clause-written
 returns-clause-written g c =
     let left = g.R.Read.remaining c.args.input.now in
     let read = take c.in_ok-len.len c.fill.new.buffer in
-    let first = read_first left read (omega (arith, length-take c.in_ok-len.len c.fill.new.buffer, c.in_ok-len.ensures.len)) c.in_ok-len.ensures.bytes in
+    let first = read_first left read (omega (arith, length-take c.in_ok-len.len c.fill.new.buffer, c.in_ok-len.ensures.len))
+    c.in_ok-len.ensures.bytes in
     let same = same_report left read first in
     record {
       input = input_of left read;

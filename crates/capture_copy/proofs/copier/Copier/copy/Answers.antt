@@ -19,6 +19,14 @@ returns-then-len-eq0-clause-copies g c =
 
 pub loop-copied-preserved : goal.loop-copied-preserved
 loop-copied-preserved g c = record {
-  within = omega (arith, c.loop-copied-test.true, c.min-room.ensures, c.in-Ok.ensures.len, c.fill.auto.buffer, length-take c.min-room.result c.loop-copied.self.buffer.now);
-  copies = copies_more _ _ _ _ _ _ _ _ _ c.loop-copied.invariant.copies c.in-Ok.ensures.consumed c.in_default.ensures.bytes c.in-Ok.ensures.len;
+  within = omega (
+    arith,
+    c.loop-copied-test.true,
+    c.min-room.ensures,
+    c.in-Ok.ensures.len,
+    c.fill.auto.buffer,
+    length-take c.min-room.result c.loop-copied.self.buffer.now,
+  );
+  copies = copies_more _ _ _ _ _ _ _ _ _ c.loop-copied.invariant.copies c.in-Ok.ensures.consumed c.in_default.ensures.bytes
+      c.in-Ok.ensures.len;
 }

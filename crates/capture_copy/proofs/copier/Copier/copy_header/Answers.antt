@@ -31,11 +31,13 @@ returns g c = record {
       let fills = fills_whole 24 c.args.begin.now _ _ first len (omega (arith, are_first.0)) c.in-Ok.ensures.fills in
       let says : SaysHeader (take len first) (Ok c.in-Ok-Ok.header) = subst (SaysHeader (take len first)) c.in-Ok-Ok.field-0-is
       (says_of_filled first len _ (omega (arith, c.fill_after.auto.buffer)) c.in-Ok-Ok.ensures) in
-      let whole : take len first ≡ first = take_all len first (omega (arith, says.0, c.fill_after.auto.buffer, fills.within, length-take-le len first fills.within)) in
+      let whole : take len first ≡ first =
+      take_all len first (omega (arith, says.0, c.fill_after.auto.buffer, fills.within, length-take-le len first fills.within)) in
       record {
         bytes = first;
         says = subst (λ bytes. SaysHeader bytes (Ok c.in-Ok-Ok.header)) whole says;
-        consumed = subst (Consumes left (g.R.Read.remaining c.fill_after.new.input)) whole (all_consumed left _ _ c.args.begin.now first len consumed fills);
+        consumed = subst (Consumes left (g.R.Read.remaining c.fill_after.new.input)) whole
+            (all_consumed left _ _ c.args.begin.now first len consumed fills);
         appended = c.in_default.ensures.bytes;
       };
 }

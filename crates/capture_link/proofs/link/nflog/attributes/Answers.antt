@@ -9,7 +9,8 @@ pub returns-in_err-header-clause-is : goal.returns-in_err-header-clause-is
 returns-in_err-header-clause-is c =
     let within : c.loop-place.place < length c.args.frame.now = omega (arith, c.loop-place-test.true) in
     let result : c.from_residual.result ≡ Err c.in_err-header.field-0.0 = search rules in
-    result ∙ sym (attribute_cut c.args.order c.args.frame.now c.loop-place.place _ c.loop-place.invariant within (sym c.in_err-header.ensures.is))
+    result ∙ sym (attribute_cut c.args.order c.args.frame.now c.loop-place.place _ c.loop-place.invariant within
+    (sym c.in_err-header.ensures.is))
 
 pub returns-in-Last-clause-is : goal.returns-in-Last-clause-is
 returns-in-Last-clause-is c =

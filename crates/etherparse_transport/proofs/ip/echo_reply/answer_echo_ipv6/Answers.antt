@@ -17,7 +17,8 @@ use Rattle.etherparse_transport.proofs.ReplyToLemmas.{ipv6_is_reply}
 use Rattle.etherparse_transport.proofs.ip.echo_reply.answer_echo_ipv6.Goals as goal
 
 -- the message is the range from the end of the header to the length of the packet
-message : (packet : List ℕ) (len : ℕ) → IsIpv6Request packet → len ≡ ip.counted_len false packet → slice_range packet 40 len ≡ message_after 40 packet
+message : (packet : List ℕ) (len : ℕ) → IsIpv6Request packet → len ≡ ip.counted_len false packet
+    → slice_range packet 40 len ≡ message_after 40 packet
 message packet len is len_is = ap (slice_range packet 40) len_is ∙ message_range 40 packet (omega (arith, is.end))
 
 pub icmpv6_reply_to-reply-requires : goal.icmpv6_reply_to-reply-requires
@@ -50,7 +51,8 @@ abbrev pub IsSame : List ℕ → List ℕ → List ℕ → Type 0
 IsSame source destination message = echoed (wire (icmpv6_reply_to source destination message) ++ drop 8 message) ≡ echoed message
 
 reply : (c : goal.After-slice_known-2-1) → c.icmpv6_reply_to-reply.result
-    ≡ icmpv6_reply_to (unwrap_or c.args.source (slice_range c.args.packet.now 24 40)) (slice_range c.args.packet.now 8 24) (message_after 40 c.args.packet.now)
+    ≡ icmpv6_reply_to (unwrap_or c.args.source (slice_range c.args.packet.now 24 40)) (slice_range c.args.packet.now 8 24)
+    (message_after 40 c.args.packet.now)
 reply c =
     let packet : List ℕ = c.args.packet.now in
     let is : c.in_ok-addresses.addresses ≡ ipv6_header_of packet = c.in_ok-addresses.ensures.addresses in
@@ -61,7 +63,8 @@ reply c =
     ∙ ap (λ addresses. icmpv6_reply_to (from addresses) addresses.source (message_after 40 packet)) is
 
 same : (c : goal.After-slice_known-2-1)
-    → IsSame (unwrap_or c.args.source (slice_range c.args.packet.now 24 40)) (slice_range c.args.packet.now 8 24) (message_after 40 c.args.packet.now)
+    → IsSame (unwrap_or c.args.source (slice_range c.args.packet.now 24 40)) (slice_range c.args.packet.now 8 24)
+    (message_after 40 c.args.packet.now)
 same c =
     let packet : List ℕ = c.args.packet.now in
     let is : c.in_ok-addresses.addresses ≡ ipv6_header_of packet = c.in_ok-addresses.ensures.addresses in
@@ -81,10 +84,13 @@ returns-clause-answered c =
     let first = c.deref-5.ensures.0 ∙ c.ipv6_header-ip_header.ensures
     ∙ ap (λ start. ipv6_header start 58 c.args.hop_limit c.unwrap_or-source.result c.in_ok-addresses.addresses.source) start
     ∙ ap (λ source. ipv6_header (take 6 packet) 58 c.args.hop_limit source c.in_ok-addresses.addresses.source) (source c)
-    ∙ ap (λ addresses. ipv6_header (take 6 packet) 58 c.args.hop_limit (unwrap_or c.args.source (slice_range packet 24 40)) addresses.source) is in
+    ∙ ap (λ addresses. ipv6_header (take 6 packet) 58 c.args.hop_limit
+    (unwrap_or c.args.source (slice_range packet 24 40)) addresses.source) is in
     let second = c.to_bytes-header.ensures.written ∙ ap wire (reply c) in
-    ipv6_written packet _ _ _ (unwrap_or c.args.source (slice_range packet 24 40)) c.args.hop_limit c.in_ok-addresses.ensures.request (source_len c) (destination_len c)
-    first (first_four _ _ _ _ _ (c.deref.ensures.0 ∙ second) (c.deref-2.ensures.0 ∙ second) (c.deref-3.ensures.0 ∙ second) (c.deref-4.ensures.0 ∙ second)) (same c) c.replace_front.ensures
+    ipv6_written packet _ _ _ (unwrap_or c.args.source (slice_range packet 24 40)) c.args.hop_limit c.in_ok-addresses.ensures.request
+    (source_len c) (destination_len c)
+    first (first_four _ _ _ _ _ (c.deref.ensures.0 ∙ second) (c.deref-2.ensures.0 ∙ second) (c.deref-3.ensures.0 ∙ second)
+    (c.deref-4.ensures.0 ∙ second)) (same c) c.replace_front.ensures
 
 pub returns-clause-read : goal.returns-clause-read
 returns-clause-read c =
@@ -93,7 +99,8 @@ returns-clause-read c =
     let payload : List ℕ = drop 8 (message_after 40 packet) in
     let IsBack : Icmpv6Header → Type 0 = λ header. IsReadBack (headers.Icmpv6 header) payload in
     let IsRead : List ℕ → Type 0 =
-    λ bytes. IsReadAs bytes (addresses.Ipv6 from (Some (slice_range packet 8 24))) (headers.Icmpv6 (icmpv6_reply_to from (slice_range packet 8 24) (message_after 40 packet))) payload in
+    λ bytes. IsReadAs bytes (addresses.Ipv6 from (Some (slice_range packet 8 24)))
+    (headers.Icmpv6 (icmpv6_reply_to from (slice_range packet 8 24) (message_after 40 packet))) payload in
     subst IsRead (sym (returns-clause-answered c))
     (ipv6_reply_read packet from c.args.hop_limit (echo_of (message_after 40 packet) 4) c.in_ok-addresses.ensures.request (source_len c)
     (destination_len c) (subst IsBack (reply c) (c.to_bytes-header.ensures.reads_back payload)))
@@ -107,5 +114,6 @@ returns-clause-replies c answers =
     let IsBack : Icmpv6Header → Type 0 = λ header. IsReadBack (headers.Icmpv6 header) payload in
     subst (IsReplyTo packet) (sym (returns-clause-answered c))
     (ipv6_is_reply packet from c.args.hop_limit is c.in_ok-addresses.ensures.carried (source_len c) (destination_len c)
-    (icmpv6_reply_accepted packet from (echo_of (message_after 40 packet) 4) is (subst IsBack (reply c) (c.to_bytes-header.ensures.reads_back payload)))
+    (icmpv6_reply_accepted packet from (echo_of (message_after 40 packet) 4) is
+    (subst IsBack (reply c) (c.to_bytes-header.ensures.reads_back payload)))
     (same c) answers)

@@ -23,11 +23,19 @@ returns-clause-header c =
     let turns : TurnsInto c.replace_2bytes-change.result packet changed =
     c.replace_2bytes-change.ensures.extends packet packet changed (omega arith) (c.new.ensures.unchanged packet) in
     let whole : total message ≡ packet + stored =
-    omega (arith, message_total message (echo_fields echo) request.shortest c.from_bytes-echo.ensures.written_back, request.type_is, request.code_is, c.from_be_bytes.ensures) in
+    omega (
+      arith,
+      message_total message (echo_fields echo) request.shortest c.from_bytes-echo.ensures.written_back,
+      request.type_is,
+      request.code_is,
+      c.from_be_bytes.ensures,
+    ) in
     let ones : IsAllOnes (packet + stored) = ap folded (sym whole) ∙ request.ones in
     let removed = ap (λ n. folded (n + 2048)) c.new.ensures.removed ∙ folded-small 2048 (omega arith) in
-    let small : checksum < 65535 = rw c.apply-checksum.ensures.equation (below_all_ones _ (omega (arith, c.replace_2bytes-change.ensures.removed, removed))) in
+    let small : checksum < 65535 =
+    rw c.apply-checksum.ensures.equation (below_all_ones _ (omega (arith, c.replace_2bytes-change.ensures.removed, removed))) in
     let is : checksum ≡ checksum_of changed =
-    only_checksum changed checksum small ((c.apply-checksum.ensures.verifies packet changed turns ones).1 (λ none. c.if-checksum-eq0.false (omega (arith, none)))) in
+    only_checksum changed checksum small ((c.apply-checksum.ensures.verifies packet changed turns ones).1
+    (λ none. c.if-checksum-eq0.false (omega (arith, none)))) in
     ap (λ checksum. record { icmp_type = EchoReply echo; checksum = checksum }) is
     ∙ ap (λ echo. icmpv4_reply echo payload) c.from_bytes-echo.ensures.read

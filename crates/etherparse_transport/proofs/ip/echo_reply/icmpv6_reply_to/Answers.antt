@@ -30,13 +30,15 @@ returns-clause-header c =
     let between : ℕ = icmpv6_sum source destination (EchoReply echo) payload in
     let changed : ℕ = icmpv6_sum from source (EchoReply echo) payload in
     let turns : TurnsInto c.replace_2bytes-change.result packet between =
-    c.replace_2bytes-change.ensures.extends packet packet between (omega (arith, icmpv6_type_changed source destination payload echo)) (c.new.ensures.unchanged packet) in
+    c.replace_2bytes-change.ensures.extends packet packet between (omega (arith, icmpv6_type_changed source destination payload echo))
+    (c.new.ensures.unchanged packet) in
     let from_len : length from ≡ 16 = passed_len c.args.source destination (search rules) (search rules) in
     let turns_too : TurnsInto c.replace_ipv6_if_passed-change.result packet changed =
     c.replace_ipv6_if_passed-change.ensures.extends packet between changed
     (icmpv6_addresses_changed source destination from payload echo (search rules) (search rules) from_len) turns in
     let ones : IsAllOnes (packet + c.from_be_bytes.result) =
-    icmpv6_request_sum source destination message echo c.from_be_bytes.result (icmpv6_request source destination message c.requires.accepted)
+    icmpv6_request_sum source destination message echo c.from_be_bytes.result
+    (icmpv6_request source destination message c.requires.accepted)
     (omega (arith, c.from_be_bytes.ensures)) c.from_bytes-echo.ensures.written_back in
     let type_added : added_value c.replace_2bytes-change.result ≡ 33024 =
     c.replace_2bytes-change.ensures.added ∙ ap (λ n. folded (n + 33024)) c.new.ensures.added ∙ folded-small 33024 (omega arith) in
@@ -44,6 +46,7 @@ returns-clause-header c =
     (c.replace_ipv6_if_passed-change.ensures.some (λ none. absurd (omega (arith, none, type_added)))) in
     let small : checksum < 65535 = rw c.apply.ensures.equation (below_all_ones _ (omega (arith, some))) in
     let is : checksum ≡ checksum_of changed =
-    only_checksum changed checksum small ((c.apply.ensures.verifies packet changed turns_too ones).1 (λ none. absurd (omega (arith, none)))) in
+    only_checksum changed checksum small ((c.apply.ensures.verifies packet changed turns_too ones).1
+    (λ none. absurd (omega (arith, none)))) in
     ap (λ checksum. record { icmp_type = EchoReply echo; checksum = checksum }) is
     ∙ ap (λ echo. icmpv6_reply from source echo payload) c.from_bytes-echo.ensures.read

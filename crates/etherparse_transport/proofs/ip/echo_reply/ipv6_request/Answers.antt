@@ -26,7 +26,8 @@ returns-then-not-is_host_ipv6-clause-refused c =
     let addresses : Ipv6Header = c.to_header-addresses.result in
     let message = c.in_ok-found.found.payload.now in
     let found = c.in_ok-found.ensures in
-    ipv6_message_rules c.args.packet.now c.in_ok-found.found addresses found.accepted found.found (c.in-Some.ensures.found.0 refl) found.stated
+    ipv6_message_rules c.args.packet.now c.in_ok-found.found addresses found.accepted found.found
+    (c.in-Some.ensures.found.0 refl) found.stated
     found.whole c.in_ok-check_transport.ensures
     (ipv6_addresses_of c.args.packet.now c.in-Some.header addresses c.in-Some.ensures.kept c.to_header-addresses.ensures)
     ∙ skipped (icmpv6_refusal addresses.source addresses.destination message) _ c.in_ok-check_icmpv6.ensures
@@ -37,7 +38,8 @@ returns-clause-refused c =
     let addresses : Ipv6Header = c.to_header-addresses.result in
     let message = c.in_ok-found.found.payload.now in
     let found = c.in_ok-found.ensures in
-    ipv6_message_rules c.args.packet.now c.in_ok-found.found addresses found.accepted found.found (c.in-Some.ensures.found.0 refl) found.stated
+    ipv6_message_rules c.args.packet.now c.in_ok-found.found addresses found.accepted found.found
+    (c.in-Some.ensures.found.0 refl) found.stated
     found.whole c.in_ok-check_transport.ensures
     (ipv6_addresses_of c.args.packet.now c.in-Some.header addresses c.in-Some.ensures.kept c.to_header-addresses.ensures)
     ∙ skipped (icmpv6_refusal addresses.source addresses.destination message) _ c.in_ok-check_icmpv6.ensures
@@ -59,8 +61,10 @@ pub returns-clause-request : goal.returns-clause-request
 returns-clause-request c =
     let found = c.in_ok-found.ensures in
     let is : c.to_header-addresses.result ≡ ipv6_header_of c.args.packet.now =
-    ipv6_addresses_of c.args.packet.now c.in-Some.header c.to_header-addresses.result c.in-Some.ensures.kept c.to_header-addresses.ensures in
-    let accepted : icmpv6_refusal c.to_header-addresses.result.source c.to_header-addresses.result.destination c.in_ok-found.found.payload.now ≡ None =
+    ipv6_addresses_of c.args.packet.now c.in-Some.header c.to_header-addresses.result c.in-Some.ensures.kept
+    c.to_header-addresses.ensures in
+    let accepted : icmpv6_refusal c.to_header-addresses.result.source c.to_header-addresses.result.destination
+    c.in_ok-found.found.payload.now ≡ None =
     c.in_ok-check_icmpv6.ensures in
     ipv6_request_of c.args.packet.now c.in_ok-found.found found.found found.parts (c.in-Some.ensures.found.0 refl) found.stated found.whole
     c.in_ok-check_transport.ensures
@@ -69,5 +73,6 @@ returns-clause-request c =
 pub returns-clause-carried : goal.returns-clause-carried
 returns-clause-carried c =
     let found = c.in_ok-found.ensures in
-    ipv6_request_carried c.args.packet.now c.in_ok-found.found found.accepted found.found found.parts (c.in-Some.ensures.found.0 refl) found.stated
+    ipv6_request_carried c.args.packet.now c.in_ok-found.found found.accepted found.found found.parts
+    (c.in-Some.ensures.found.0 refl) found.stated
     found.whole c.in_ok-check_transport.ensures

@@ -13,7 +13,9 @@ use Rattle.etherparse_transport.proofs.ip.echo_reply.reply_header_checksum.Goals
 
 -- the sum of a header of five words, by its fields
 header_total : (header : List ℕ) → length header ≡ 20 → total header ≡ total (take 6 header)
-    + ((slice_index header 6 * 256 + slice_index header 7) + ((slice_index header 8 * 256 + slice_index header 9) + (be_number header 10 2 + (total (slice_range header 12 16) + total (slice_range header 16 20)))))
+    + ((slice_index header 6 * 256 + slice_index header 7)
+    + ((slice_index header 8 * 256 + slice_index header 9)
+    + (be_number header 10 2 + (total (slice_range header 12 16) + total (slice_range header 16 20)))))
 header_total header len =
     let rest_len : length (drop 16 header) ≡ 4 = omega (arith, length-drop 16 header, len) in
     omega (
@@ -29,7 +31,8 @@ header_total header len =
 
 -- the sum of the new header without its checksum
 fields_total : (start source destination : List ℕ) (time_to_live : ℕ) → length start ≡ 8 → length source ≡ 4
-    → total (ipv4_fields start time_to_live 1 source destination 0) ≡ total start + ((time_to_live * 256 + 1) + (total source + total destination))
+    → total (ipv4_fields start time_to_live 1 source destination 0) ≡ total start
+    + ((time_to_live * 256 + 1) + (total source + total destination))
 fields_total start source destination time_to_live len len_too =
     omega (
       arith,
@@ -58,18 +61,21 @@ returns c =
     let checksum : ℕ = c.apply.result in
     let destination_is : c.copy_from_slice.new.self ≡ destination = search rules in
     let destination_len : length c.copy_from_slice.new.self ≡ 4 = search rules in
-    let source_len : length source ≡ 4 = passed_len c.args.source destination (search rules) (ap length (sym destination_is) ∙ destination_len) in
+    let source_len : length source ≡ 4 =
+    passed_len c.args.source destination (search rules) (ap length (sym destination_is) ∙ destination_len) in
     let there : 6 ≤ length header = omega (arith, c.requires.len) in
     let front_is : total front ≡ start + 0x4000 =
     omega (arith, total-append (take 6 header) (0x40 ∷ 0 ∷ []) (ap (λ n. n % 2) (length-take-le 6 header there))) in
     let packet : ℕ =
-    start + ((slice_index header 6 * 256 + slice_index header 7) + ((slice_index header 8 * 256 + slice_index header 9) + (total receiver + total destination))) in
+    start + ((slice_index header 6 * 256 + slice_index header 7)
+    + ((slice_index header 8 * 256 + slice_index header 9) + (total receiver + total destination))) in
     let between : ℕ = start + (0x4000 + ((time_to_live * 256 + 1) + (total receiver + total destination))) in
     let changed : ℕ = total (ipv4_fields front time_to_live 1 source receiver 0) in
     let changed_is = fields_total front source receiver time_to_live (reply_start_len header there) source_len in
     let turns : TurnsInto c.replace_4bytes-change.result packet between =
     c.replace_4bytes-change.ensures.extends packet packet between (omega arith) (c.new.ensures.unchanged packet) in
-    let extends = subst (λ old. IsExtendedBy c.replace_4bytes-change.result old (unwrap_or c.args.source old) c.replace_ipv4_if_passed-change.result) destination_is
+    let extends = subst (λ old. IsExtendedBy c.replace_4bytes-change.result old
+    (unwrap_or c.args.source old) c.replace_ipv4_if_passed-change.result) destination_is
     c.replace_ipv4_if_passed-change.ensures.extends in
     let turns_too : TurnsInto c.replace_ipv4_if_passed-change.result packet changed =
     extends packet between changed (omega (arith, changed_is, front_is)) turns in

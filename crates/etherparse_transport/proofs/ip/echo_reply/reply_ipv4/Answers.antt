@@ -19,7 +19,8 @@ use Rattle.etherparse_transport.proofs.ReplyToLemmas.{ipv4_is_reply}
 use Rattle.etherparse_transport.proofs.ip.echo_reply.reply_ipv4.Goals as goal
 
 -- the message is the range from the end of the header to the length of the packet
-message : (packet : List ℕ) (len : ℕ) → IsPlainRequest packet → len ≡ ip.counted_len false packet → slice_range packet 20 len ≡ message_after 20 packet
+message : (packet : List ℕ) (len : ℕ) → IsPlainRequest packet → len ≡ ip.counted_len false packet
+    → slice_range packet 20 len ≡ message_after 20 packet
 message packet len is len_is = ap (slice_range packet 20) len_is ∙ message_range 20 packet (omega (arith, is.end))
 
 pub icmpv4_reply_to-reply-requires : goal.icmpv4_reply_to-reply-requires
@@ -43,14 +44,16 @@ destination_len c =
 
 reply : (c : goal.After-slice_known-2-1) → c.icmpv4_reply_to-reply.result ≡ icmpv4_reply_to (message_after 20 c.args.packet.now)
 reply c =
-    c.icmpv4_reply_to-reply.ensures.header ∙ ap icmpv4_reply_to (message c.args.packet.now c.from.result c.requires.request (c.from.ensures ∙ c.requires.len))
+    c.icmpv4_reply_to-reply.ensures.header ∙ ap icmpv4_reply_to (message c.args.packet.now c.from.result c.requires.request
+    (c.from.ensures ∙ c.requires.len))
 
 -- the reply repeats the identifier, the sequence number and the data of the request
 abbrev pub IsSame : List ℕ → Type 0
 IsSame message = echoed (wire (icmpv4_reply_to message) ++ drop 8 message) ≡ echoed message
 
 same : (c : goal.After-slice_known-2-1) → IsSame (message_after 20 c.args.packet.now)
-same c = subst IsSame (message c.args.packet.now c.from.result c.requires.request (c.from.ensures ∙ c.requires.len)) c.icmpv4_reply_to-reply.ensures.echoed
+same c = subst IsSame (message c.args.packet.now c.from.result c.requires.request (c.from.ensures ∙ c.requires.len))
+    c.icmpv4_reply_to-reply.ensures.echoed
 
 pub reply_header_checksum-checksum-requires-clause-len : goal.reply_header_checksum-checksum-requires-clause-len
 reply_header_checksum-checksum-requires-clause-len c =
@@ -70,16 +73,22 @@ returns-clause-answered c =
     let checksum : ℕ = c.reply_header_checksum-checksum.result in
     let checksum_is : checksum ≡ checksum_of (total (ipv4_fields (ipv4_reply_start packet) time_to_live 1 from receiver 0)) =
     c.reply_header_checksum-checksum.ensures
-    ∙ ap (λ start. checksum_of (total (ipv4_fields start time_to_live 1 (unwrap_or c.args.passed (slice_range header 16 20)) (slice_range header 12 16) 0))) (ap (λ bytes. bytes ++ (0x40 ∷ 0 ∷ [])) (range_in_front 0 6 20 packet (omega arith)))
-    ∙ ap (λ receiver. checksum_of (total (ipv4_fields (ipv4_reply_start packet) time_to_live 1 (unwrap_or c.args.passed (slice_range header 16 20)) receiver 0))) (range_in_front 12 4 20 packet (omega arith))
-    ∙ ap (λ destination. checksum_of (total (ipv4_fields (ipv4_reply_start packet) time_to_live 1 (unwrap_or c.args.passed destination) receiver 0))) (range_in_front 16 4 20 packet (omega arith)) in
+    ∙ ap (λ start. checksum_of (total (ipv4_fields start time_to_live 1 (unwrap_or c.args.passed (slice_range header 16 20))
+    (slice_range header 12 16) 0))) (ap (λ bytes. bytes ++ (0x40 ∷ 0 ∷ [])) (range_in_front 0 6 20 packet (omega arith)))
+    ∙ ap (λ receiver. checksum_of (total (ipv4_fields (ipv4_reply_start packet) time_to_live 1
+    (unwrap_or c.args.passed (slice_range header 16 20)) receiver 0))) (range_in_front 12 4 20 packet (omega arith))
+    ∙ ap (λ destination. checksum_of
+    (total (ipv4_fields (ipv4_reply_start packet) time_to_live 1 (unwrap_or c.args.passed destination) receiver 0)))
+    (range_in_front 16 4 20 packet (omega arith)) in
     let first = c.deref-5.ensures.0 ∙ c.ipv4_fields-ip_header.ensures
     ∙ ap (λ start. ipv4_fields start time_to_live 1 found c.args.between.now.source checksum) start
     ∙ ap (λ source. ipv4_fields (ipv4_reply_start packet) time_to_live 1 source c.args.between.now.source checksum) (source c)
     ∙ ap (λ addresses. ipv4_fields (ipv4_reply_start packet) time_to_live 1 from addresses.source checksum) is
     ∙ ap (ipv4_fields (ipv4_reply_start packet) time_to_live 1 from receiver) checksum_is in
     let second = c.to_bytes-header.ensures.written ∙ ap wire (reply c) in
-    ipv4_written packet _ _ _ from time_to_live c.requires.request (source_len c) (destination_len c) first (first_four _ _ _ _ _ (c.deref.ensures.0 ∙ second) (c.deref-2.ensures.0 ∙ second) (c.deref-3.ensures.0 ∙ second) (c.deref-4.ensures.0 ∙ second)) (same c)
+    ipv4_written packet _ _ _ from time_to_live c.requires.request (source_len c) (destination_len c) first
+    (first_four _ _ _ _ _ (c.deref.ensures.0 ∙ second) (c.deref-2.ensures.0 ∙ second) (c.deref-3.ensures.0 ∙ second)
+    (c.deref-4.ensures.0 ∙ second)) (same c)
     c.replace_front.ensures
 
 pub returns-clause-read : goal.returns-clause-read
@@ -89,9 +98,11 @@ returns-clause-read c =
     let payload : List ℕ = drop 8 (message_after 20 packet) in
     let IsBack : Icmpv4Header → Type 0 = λ header. IsReadBack (headers.Icmpv4 header) payload in
     let IsRead : List ℕ → Type 0 =
-    λ bytes. IsReadAs bytes (addresses.Ipv4 from (slice_range packet 12 16)) (headers.Icmpv4 (icmpv4_reply_to (message_after 20 packet))) payload in
+    λ bytes. IsReadAs bytes (addresses.Ipv4 from (slice_range packet 12 16))
+    (headers.Icmpv4 (icmpv4_reply_to (message_after 20 packet))) payload in
     subst IsRead (sym (returns-clause-answered c))
-    (ipv4_reply_read packet from (slice_range packet 12 16) c.args.time_to_live (echo_of (message_after 20 packet) 4) c.requires.request (source_len c)
+    (ipv4_reply_read packet from (slice_range packet 12 16) c.args.time_to_live (echo_of (message_after 20 packet) 4) c.requires.request
+    (source_len c)
     (destination_len c) (subst IsBack (reply c) (c.to_bytes-header.ensures.reads_back payload)))
 
 pub returns-clause-verifies : goal.returns-clause-verifies

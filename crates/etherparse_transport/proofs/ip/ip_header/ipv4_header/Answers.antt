@@ -14,8 +14,10 @@ returns c =
     let addresses : List ℕ = c.args.source ++ c.args.destination in
     let front = total-append c.args.start (protocol ++ addresses) (omega (arith, eight)) in
     let back = total-append c.args.source c.args.destination (omega (arith, even)) in
-    let sum : sum_value c.add_4bytes-4.result ≡ folded (total (ipv4_fields c.args.start c.args.time_to_live c.args.protocol.0 c.args.source c.args.destination 0)) =
+    let sum : sum_value c.add_4bytes-4.result
+    ≡ folded (total (ipv4_fields c.args.start c.args.time_to_live c.args.protocol.0 c.args.source c.args.destination 0)) =
     rw (c.add_4bytes-4.ensures, c.add_4bytes-3.ensures, c.add_2bytes.ensures, c.add_4bytes-2.ensures, c.add_4bytes.ensures, c.new.ensures)
     (simp folded_twice (ap folded (omega (arith, front, back, total_eight c.args.start eight)))) in
     c.ipv4_fields.ensures
-    ∙ ap (ipv4_fields c.args.start c.args.time_to_live c.args.protocol.0 c.args.source c.args.destination) (c.ones_complement-checksum.ensures ∙ ap complement sum)
+    ∙ ap (ipv4_fields c.args.start c.args.time_to_live c.args.protocol.0 c.args.source c.args.destination)
+    (c.ones_complement-checksum.ensures ∙ ap complement sum)

@@ -11,7 +11,8 @@ pub returns-clause-verifies : goal.returns-clause-verifies
 returns-clause-verifies c =
     let segment : List ℕ = c.args.segment.now in
     let checksum : ℕ = c.apply-checksum.result in
-    let is : c.store_number-2.new.message ≡ with_bytes c.args.place (to_be_bytes w16 c.args.most) (with_checksum 16 segment checksum) = search rules in
+    let is : c.store_number-2.new.message ≡ with_bytes c.args.place (to_be_bytes w16 c.args.most) (with_checksum 16 segment checksum) =
+    search rules in
     subst (IsSegmentAccepted segment) (sym is)
     (size_accepted segment c.args.place c.args.most c.number-size.result checksum c.requires.after c.requires.there c.requires.header
     c.requires.bytes (search rules) (search rules) c.number-size.ensures

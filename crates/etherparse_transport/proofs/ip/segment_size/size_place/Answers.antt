@@ -6,7 +6,8 @@ pub returns-clause-refused : goal.returns-clause-refused
 returns-clause-refused c =
     let found = c.in-Ok.ensures in
     not_refused_for c.args.packet.now c.in_ok-size_at.size_at
-    (finds_in c.args.packet.now c.in-Ok.found (Ok c.in_ok-size_at.size_at) found.refused found.found found.stated c.in_ok-size_at.ensures.found)
+    (finds_in c.args.packet.now c.in-Ok.found
+    (Ok c.in_ok-size_at.size_at) found.refused found.found found.stated c.in_ok-size_at.ensures.found)
 
 pub returns-clause-place : goal.returns-clause-place
 returns-clause-place c =

@@ -21,7 +21,8 @@ returns-then-option-eq-KIND_MAXIMUM_SEGMENT_SIZE-clause-found c =
     let begins : BeginsWithRaw c.loop-option.rest option after =
     subst (λ item. ReadsRawNext c.loop-option.rest (Some item) after) c.in-Ok.is c.in-Some.ensures.steps in
     let others = has_one_raw_reading after in
-    found_in_rest c.args.options.now c.loop-option.start c.loop-option.rest (Ok option ∷ others.items) _ searched (after, begins, others.reads)
+    found_in_rest c.args.options.now c.loop-option.start c.loop-option.rest (Ok option ∷ others.items) _ searched
+    (after, begins, others.reads)
     (size_here c.loop-option.start option others.items (search rules)
     ∙ ap (λ len. size_in c.loop-option.start len) (sym c.option_len-len.ensures) ∙ sym c.size_place_in_option.ensures.place)
 

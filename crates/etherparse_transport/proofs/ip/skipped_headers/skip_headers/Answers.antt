@@ -8,11 +8,13 @@ loop-header-init c = (reached_first c.args.packet.now _ c.requires.next c.requir
 
 pub loop-header-preserved : goal.loop-header-preserved
 loop-header-preserved c = (
-  reached_next c.args.packet.now c.loop-header.skipped _ _ c.in-Some.header.now c.loop-header.invariant.0 (take_rest c.args.packet.now c.loop-header.skipped.len)
+  reached_next c.args.packet.now c.loop-header.skipped _ _ c.in-Some.header.now c.loop-header.invariant.0
+      (take_rest c.args.packet.now c.loop-header.skipped.len)
       c.in-Some.ensures.found c.in-Some.ensures.header (search rules) c.in-Some.ensures.within.0 c.in-Some.ensures.within.1,
   omega (arith, c.loop-header.invariant.1),
 )
 
 pub returns-clause-skipped : goal.returns-clause-skipped
 returns-clause-skipped c =
-    reached_end c.args.packet.now c.loop-header.skipped _ c.loop-header.invariant.0 (take_rest c.args.packet.now c.loop-header.skipped.len) c.in_default.ensures.found
+    reached_end c.args.packet.now c.loop-header.skipped _ c.loop-header.invariant.0
+    (take_rest c.args.packet.now c.loop-header.skipped.len) c.in_default.ensures.found

@@ -13,10 +13,12 @@ returns-then-is_source_route c =
 pub loop-option-preserved : goal.loop-option-preserved
 loop-option-preserved c =
     sought_next is_source_route option_or_rest c.args.options.now c.loop-option.rest.now c.in-Some.option.now _ c.loop-option.invariant
-    c.in-Some.ensures.front (sym c.is_source_route.ensures ∙ c.if-is_source_route.false) c.in-Some.ensures.within.0 c.in-Some.ensures.within.1
+    c.in-Some.ensures.front (sym c.is_source_route.ensures ∙ c.if-is_source_route.false) c.in-Some.ensures.within.0
+    c.in-Some.ensures.within.1
     (take_rest c.loop-option.rest.now (length c.in-Some.option.now))
 
 pub returns : goal.returns
 returns c =
-    sym (ap (λ found. is_some found) (none_at is_source_route option_or_rest c.args.options.now c.loop-option.rest.now c.loop-option.invariant
+    sym (ap (λ found. is_some found) (none_at is_source_route option_or_rest c.args.options.now c.loop-option.rest.now
+    c.loop-option.invariant
     c.in_default.ensures.front))

@@ -4,5 +4,6 @@ use Rattle.etherparse_transport.proofs.ip.translated_ipv4.message_end.Goals as g
 
 pub returns-clause-message : goal.returns-clause-message
 returns-clause-message c =
-    (ends_with_total c.args.packet.now c.args.header.now c.from-total_len.result c.requires.header (search rules) c.requires.begins c.requires.read
+    (ends_with_total c.args.packet.now c.args.header.now c.from-total_len.result c.requires.header
+    (search rules) c.requires.begins c.requires.read
     (search rules) (search rules)).message

@@ -24,7 +24,8 @@ returns-clause-header c = λ five there.
     (ap (λ n. folded (before + n)) c.requires.added ∙ turns ∙ sym (ap (λ n. folded (after + n)) c.requires.removed))
     ∙ ap (λ n. (before + n) % 65535) c.number-old.ensures) in
     let sum : 0 + total (take len packet) ≡ total (take len packet) = omega arith in
-    let sum_too : 0 + total (take len new) ≡ total (take len (with_bytes 16 destination (with_bytes 12 source (with_checksum 10 packet checksum)))) =
+    let sum_too : 0 + total (take len new)
+    ≡ total (take len (with_bytes 16 destination (with_bytes 12 source (with_checksum 10 packet checksum)))) =
     omega (arith, ap (λ bytes. total (take len bytes)) new_is) in (
       λ ones. ap folded sum ∙ iff.0 (ap folded (sym sum_too) ∙ ones),
       λ ones. ap folded sum_too ∙ iff.1 (ap folded (sym sum) ∙ ones),

@@ -13,15 +13,23 @@ use borrow.Rule.Slice.PartMut.{put_mid}
 pub returns-clause-refused : goal.returns-clause-refused
 returns-clause-refused c =
     let end : ℕ = 8 + c.args.quoted_len in
-    ap (λ message. option_map (λ error. QuotedPacket) (ipv4_place_refusal true (has_port (ipv4_of_quoted c.args.new.now c.args.passed).source_port (ipv4_of_quoted c.args.new.now c.args.passed).destination_port) (slice_range message 8 end))) (sym c.requires.place.message)
-    ∙ ap (option_map (λ error. QuotedPacket)) (sym (ap (λ new. ipv4_place_refusal true (has_port new.source_port new.destination_port) (slice_range (slice_range c.args.packet.now c.args.place.now.start c.args.place.now.end) 8 end)) c.of_quoted-for_quoted.ensures.passed) ∙ c.in-Some.ensures.found)
+    ap (λ message. option_map (λ error. QuotedPacket)
+    (ipv4_place_refusal true (has_port (ipv4_of_quoted c.args.new.now c.args.passed).source_port
+    (ipv4_of_quoted c.args.new.now c.args.passed).destination_port) (slice_range message 8 end))) (sym c.requires.place.message)
+    ∙ ap (option_map (λ error. QuotedPacket))
+    (sym (ap (λ new. ipv4_place_refusal true (has_port new.source_port new.destination_port)
+    (slice_range (slice_range c.args.packet.now c.args.place.now.start c.args.place.now.end) 8 end))
+    c.of_quoted-for_quoted.ensures.passed) ∙ c.in-Some.ensures.found)
 
 pub returns-in_default-clause-refused : goal.returns-in_default-clause-refused
 returns-in_default-clause-refused c =
     let end : ℕ = 8 + c.args.quoted_len in
     let quoted : List ℕ = slice_range (slice_range c.args.packet.now c.args.place.now.start c.args.place.now.end) 8 end in
-    ap (λ message. option_map (λ error. QuotedPacket) (ipv4_place_refusal true (has_port (ipv4_of_quoted c.args.new.now c.args.passed).source_port (ipv4_of_quoted c.args.new.now c.args.passed).destination_port) (slice_range message 8 end))) (sym c.requires.place.message)
-    ∙ quoted_is_refused _ (subst (λ new. ipv4_place_refusal true (has_port new.source_port new.destination_port) quoted ≢ None) c.of_quoted-for_quoted.ensures.passed
+    ap (λ message. option_map (λ error. QuotedPacket)
+    (ipv4_place_refusal true (has_port (ipv4_of_quoted c.args.new.now c.args.passed).source_port
+    (ipv4_of_quoted c.args.new.now c.args.passed).destination_port) (slice_range message 8 end))) (sym c.requires.place.message)
+    ∙ quoted_is_refused _ (subst (λ new. ipv4_place_refusal true (has_port new.source_port new.destination_port) quoted ≢ None)
+    c.of_quoted-for_quoted.ensures.passed
     c.in_default.ensures.found)
 
 pub returns-clause-translated : goal.returns-clause-translated
@@ -30,11 +38,20 @@ returns-clause-translated c =
     let end : ℕ = 8 + c.args.quoted_len in
     let changed : List ℕ = c.translate_ipv4_quoted.new.message in
     let with_translated : List ℕ → List ℕ = λ message.
-    with_quote 0 0 (slice_range message 8 end) (ipv4_translated_flow (ipv4_of_quoted c.args.new.now c.args.passed) (message_in_ipv4 true (slice_range message 8 end)) (slice_range message 8 end)) message in
+    with_quote 0 0 (slice_range message 8 end)
+    (ipv4_translated_flow (ipv4_of_quoted c.args.new.now c.args.passed) (message_in_ipv4 true (slice_range message 8 end))
+    (slice_range message 8 end)) message in
     let changed_is : changed ≡ with_translated (message_in_ipv4 false packet) = (c.translate_ipv4_quoted.ensures.translated
-    ∙ ap (λ new. with_quote 0 0 (slice_range (slice_range c.args.packet.now c.args.place.now.start c.args.place.now.end) 8 end) (ipv4_translated_flow new (message_in_ipv4 true (slice_range (slice_range c.args.packet.now c.args.place.now.start c.args.place.now.end) 8 end)) (slice_range (slice_range c.args.packet.now c.args.place.now.start c.args.place.now.end) 8 end)) (slice_range c.args.packet.now c.args.place.now.start c.args.place.now.end)) c.of_quoted-for_quoted.ensures.passed) ∙ ap with_translated c.requires.place.message in
+    ∙ ap (λ new. with_quote 0 0 (slice_range (slice_range c.args.packet.now c.args.place.now.start c.args.place.now.end) 8 end)
+    (ipv4_translated_flow new (message_in_ipv4 true
+    (slice_range (slice_range c.args.packet.now c.args.place.now.start c.args.place.now.end) 8 end))
+    (slice_range (slice_range c.args.packet.now c.args.place.now.start c.args.place.now.end) 8 end))
+    (slice_range c.args.packet.now c.args.place.now.start c.args.place.now.end)) c.of_quoted-for_quoted.ensures.passed)
+    ∙ ap with_translated c.requires.place.message in
     c.replace_ipv4_addresses.ensures.replaced
-    ∙ ap (λ addresses. with_ipv4_addresses addresses (put_mid c.args.place.now.start (c.args.place.now.end - c.args.place.now.start) packet changed)) c.new_ipv4_addresses-addresses.ensures.new
+    ∙ ap (λ addresses. with_ipv4_addresses addresses
+    (put_mid c.args.place.now.start (c.args.place.now.end - c.args.place.now.start) packet changed))
+    c.new_ipv4_addresses-addresses.ensures.new
     ∙ ap (with_ipv4_addresses (ipv4_addresses c.args.new.now packet))
     (put_is c.args.place.now.start c.args.place.now.end packet changed (search rules)
     ∙ ap (λ start. with_bytes start changed packet) c.requires.place.start
@@ -45,19 +62,29 @@ returns-clause-len c =
     let packet : List ℕ = c.args.packet.now in
     let end : ℕ = 8 + c.args.quoted_len in
     let with_translated : List ℕ → List ℕ = λ message.
-    with_quote 0 0 (slice_range message 8 end) (ipv4_translated_flow (ipv4_of_quoted c.args.new.now c.args.passed) (message_in_ipv4 true (slice_range message 8 end)) (slice_range message 8 end)) message in
+    with_quote 0 0 (slice_range message 8 end)
+    (ipv4_translated_flow (ipv4_of_quoted c.args.new.now c.args.passed) (message_in_ipv4 true (slice_range message 8 end))
+    (slice_range message 8 end)) message in
     sym (ap length ((c.translate_ipv4_quoted.ensures.translated
-    ∙ ap (λ new. with_quote 0 0 (slice_range (slice_range c.args.packet.now c.args.place.now.start c.args.place.now.end) 8 end) (ipv4_translated_flow new (message_in_ipv4 true (slice_range (slice_range c.args.packet.now c.args.place.now.start c.args.place.now.end) 8 end)) (slice_range (slice_range c.args.packet.now c.args.place.now.start c.args.place.now.end) 8 end)) (slice_range c.args.packet.now c.args.place.now.start c.args.place.now.end)) c.of_quoted-for_quoted.ensures.passed) ∙ ap with_translated c.requires.place.message))
+    ∙ ap (λ new. with_quote 0 0 (slice_range (slice_range c.args.packet.now c.args.place.now.start c.args.place.now.end) 8 end)
+    (ipv4_translated_flow new (message_in_ipv4 true
+    (slice_range (slice_range c.args.packet.now c.args.place.now.start c.args.place.now.end) 8 end))
+    (slice_range (slice_range c.args.packet.now c.args.place.now.start c.args.place.now.end) 8 end))
+    (slice_range c.args.packet.now c.args.place.now.start c.args.place.now.end)) c.of_quoted-for_quoted.ensures.passed)
+    ∙ ap with_translated c.requires.place.message))
     ∙ c.translate_ipv4_quoted.auto.message ∙ ap length c.requires.place.message
 
 pub returns-clause-header : goal.returns-clause-header
 returns-clause-header c =
-    header_in_front c.args.packet.now c.replace_ipv4_addresses.new.packet c.translate_ipv4_quoted.new.message _ c.args.place.now c.requires.place c.replace_ipv4_addresses.ensures.header (search rules)
+    header_in_front c.args.packet.now c.replace_ipv4_addresses.new.packet c.translate_ipv4_quoted.new.message _ c.args.place.now
+    c.requires.place c.replace_ipv4_addresses.ensures.header (search rules)
 
 pub replace_ipv4_addresses-requires-clause-removed : goal.replace_ipv4_addresses-requires-clause-removed
 replace_ipv4_addresses-requires-clause-removed c =
     c.ipv4_change-change.ensures.removed
-    ∙ ap sum_of_ipv4 (sym (ipv4_header_put c.args.place.now.start (c.args.place.now.end - c.args.place.now.start) c.args.packet.now c.translate_ipv4_quoted.new.message c.requires.place.header (search rules)))
+    ∙ ap sum_of_ipv4 (sym (ipv4_header_put c.args.place.now.start
+    (c.args.place.now.end - c.args.place.now.start) c.args.packet.now c.translate_ipv4_quoted.new.message c.requires.place.header
+    (search rules)))
 
 pub returns-clause-verifies : goal.returns-clause-verifies
 returns-clause-verifies c = λ some sum.
@@ -65,11 +92,21 @@ returns-clause-verifies c = λ some sum.
     let end : ℕ = 8 + c.args.quoted_len in
     let range : List ℕ = slice_range packet c.args.place.now.start c.args.place.now.end in
     let with_translated : List ℕ → List ℕ = λ message.
-    with_quote 0 0 (slice_range message 8 end) (ipv4_translated_flow (ipv4_of_quoted c.args.new.now c.args.passed) (message_in_ipv4 true (slice_range message 8 end)) (slice_range message 8 end)) message in
+    with_quote 0 0 (slice_range message 8 end)
+    (ipv4_translated_flow (ipv4_of_quoted c.args.new.now c.args.passed) (message_in_ipv4 true (slice_range message 8 end))
+    (slice_range message 8 end)) message in
     subst (λ message. IsAcceptedAlike sum sum message (with_translated message)) c.requires.place.message
     (subst (IsAcceptedAlike sum sum range) (c.translate_ipv4_quoted.ensures.translated
-    ∙ ap (λ new. with_quote 0 0 (slice_range (slice_range c.args.packet.now c.args.place.now.start c.args.place.now.end) 8 end) (ipv4_translated_flow new (message_in_ipv4 true (slice_range (slice_range c.args.packet.now c.args.place.now.start c.args.place.now.end) 8 end)) (slice_range (slice_range c.args.packet.now c.args.place.now.start c.args.place.now.end) 8 end)) (slice_range c.args.packet.now c.args.place.now.start c.args.place.now.end)) c.of_quoted-for_quoted.ensures.passed)
-    (c.translate_ipv4_quoted.ensures.verifies (λ none. some (sym (ap (λ message. slice_index message 0) c.requires.place.message) ∙ none)) sum))
+    ∙ ap (λ new. with_quote 0 0 (slice_range (slice_range c.args.packet.now c.args.place.now.start c.args.place.now.end) 8 end)
+    (ipv4_translated_flow new (message_in_ipv4 true
+    (slice_range (slice_range c.args.packet.now c.args.place.now.start c.args.place.now.end) 8 end))
+    (slice_range (slice_range c.args.packet.now c.args.place.now.start c.args.place.now.end) 8 end))
+    (slice_range c.args.packet.now c.args.place.now.start c.args.place.now.end)) c.of_quoted-for_quoted.ensures.passed)
+    (c.translate_ipv4_quoted.ensures.verifies
+    (λ none. some (sym (ap (λ message. slice_index message 0) c.requires.place.message) ∙ none)) sum))
 
 pub returns-clause-types : goal.returns-clause-types
-returns-clause-types c = (c.of_quoted-for_quoted.ensures.types, subst IsIpv4Translation c.of_quoted-for_quoted.ensures.passed c.translate_ipv4_quoted.ensures.types)
+returns-clause-types c = (
+  c.of_quoted-for_quoted.ensures.types,
+  subst IsIpv4Translation c.of_quoted-for_quoted.ensures.passed c.translate_ipv4_quoted.ensures.types,
+)

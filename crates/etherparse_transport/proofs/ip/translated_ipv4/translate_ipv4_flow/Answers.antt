@@ -18,9 +18,11 @@ returns-clause-translated c =
     let end : ℕ = c.args.place.now.end in
     let message : List ℕ = c.translate_flow-all.new.message in
     let message_is : message ≡ ipv4_flow_message c.args.new.now (slice_range packet start end) packet =
-    c.translate_flow-all.ensures.translated ∙ ipv4_flow_message_is c.args.new.now packet _ _ _ _ _ c.requires.place.later c.requires.place.proto (search rules) (search rules) in
+    c.translate_flow-all.ensures.translated ∙ ipv4_flow_message_is c.args.new.now packet _ _ _ _ _ c.requires.place.later
+    c.requires.place.proto (search rules) (search rules) in
     c.replace_ipv4_addresses-old.ensures.replaced
-    ∙ ap (λ addresses. with_ipv4_addresses addresses (put_mid start (end - start) packet message)) c.new_ipv4_addresses-addresses.ensures.new
+    ∙ ap (λ addresses. with_ipv4_addresses addresses (put_mid start (end - start) packet message))
+    c.new_ipv4_addresses-addresses.ensures.new
     ∙ ap (with_ipv4_addresses (ipv4_addresses c.args.new.now packet)) (put_is start end packet message (search rules)
     ∙ ap (λ start. with_bytes start message packet) c.requires.place.start
     ∙ ap (λ message. with_bytes (ipv4_header_len packet) message packet) message_is)
@@ -40,12 +42,15 @@ returns-clause-verifies c =
 
 pub returns-clause-header : goal.returns-clause-header
 returns-clause-header c =
-    header_in_front c.args.packet.now c.replace_ipv4_addresses-old.new.packet c.translate_flow-all.new.message _ c.args.place.now c.requires.place c.replace_ipv4_addresses-old.ensures.header (search rules)
+    header_in_front c.args.packet.now c.replace_ipv4_addresses-old.new.packet c.translate_flow-all.new.message _ c.args.place.now
+    c.requires.place c.replace_ipv4_addresses-old.ensures.header (search rules)
 
 pub replace_ipv4_addresses-old-requires-clause-removed : goal.replace_ipv4_addresses-old-requires-clause-removed
 replace_ipv4_addresses-old-requires-clause-removed c =
     c.ipv4_change-change.ensures.removed
-    ∙ ap sum_of_ipv4 (sym (ipv4_header_put c.args.place.now.start (c.args.place.now.end - c.args.place.now.start) c.args.packet.now c.translate_flow-all.new.message c.requires.place.header (search rules)))
+    ∙ ap sum_of_ipv4 (sym (ipv4_header_put c.args.place.now.start
+    (c.args.place.now.end - c.args.place.now.start) c.args.packet.now c.translate_flow-all.new.message c.requires.place.header
+    (search rules)))
 
 pub returns-clause-turns : goal.returns-clause-turns
 returns-clause-turns c =
@@ -61,16 +66,20 @@ returns-clause-turns c =
     let between : List ℕ = put_mid start (end - start) packet translated in
     let header_kept = ap total_of_ipv4 (ipv4_header_put start (end - start) packet translated c.requires.place.header (search rules)) in
     let all = flow_turns (total packet) (total between) (total c.replace_ipv4_addresses-old.new.packet) (total message) (total translated)
-    old.source old.destination new.source new.destination removed added c.replace_ipv4_addresses-old.result.0 c.replace_ipv4_addresses-old.result.1 (removed_value c.translate_flow-all.result) (added_value c.translate_flow-all.result)
+    old.source old.destination new.source new.destination removed added c.replace_ipv4_addresses-old.result.0
+    c.replace_ipv4_addresses-old.result.1 (removed_value c.translate_flow-all.result) (added_value c.translate_flow-all.result)
     (inl (c.ipv4_change-change.ensures.removed, c.ipv4_change-change.ensures.added))
     (c.translate_flow-all.ensures.turns (removed + total message) added (ap folded (omega arith)))
-    (message_total start end packet translated (ap (λ n. n % 2) c.requires.place.start ∙ even_len (slice_index packet 0)) (search rules) c.requires.place.ordered c.requires.place.there)
+    (message_total start end packet translated (ap (λ n. n % 2) c.requires.place.start ∙ even_len (slice_index packet 0))
+    (search rules) c.requires.place.ordered c.requires.place.there)
     (omega (arith, c.replace_ipv4_addresses-old.ensures.total, header_kept)) in
     omega (
       arith,
       all,
-      ap (λ n. n % 65535) c.replace_2bytes.ensures.added ∙ folded-remainder (added_value c.translate_flow-all.result + total c.to_be_bytes-2.result),
-      ap (λ n. n % 65535) c.replace_2bytes.ensures.removed ∙ folded-remainder (removed_value c.translate_flow-all.result + total c.to_be_bytes.result),
+      ap (λ n. n % 65535) c.replace_2bytes.ensures.added
+          ∙ folded-remainder (added_value c.translate_flow-all.result + total c.to_be_bytes-2.result),
+      ap (λ n. n % 65535) c.replace_2bytes.ensures.removed
+          ∙ folded-remainder (removed_value c.translate_flow-all.result + total c.to_be_bytes.result),
       ap total c.to_be_bytes.ensures,
       ap total c.to_be_bytes-2.ensures,
     )

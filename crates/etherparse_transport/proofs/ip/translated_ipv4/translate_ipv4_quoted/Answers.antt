@@ -21,14 +21,17 @@ returns-clause-translated c =
     let flow : ChecksumChange = c.translate_ipv4_flow-change.result in
     let first : List ℕ = slice_index quoted 0 ∷ slice_index quoted 1 ∷ [] in
     let changed_is : changed ≡ translated =
-    c.translate_ipv4_flow-change.ensures.translated ∙ ap (λ message. ipv4_translated_flow c.args.new.now message quoted) c.requires.place.message in
+    c.translate_ipv4_flow-change.ensures.translated
+    ∙ ap (λ message. ipv4_translated_flow c.args.new.now message quoted) c.requires.place.message in
     let version : slice_index quoted 0 ≢ 0 = not_zero_by (slice_index quoted 0) 3 c.requires.place.is_ipv4 in
     let first_some : total first ≢ 0 = first_counts first version in
     let some : added_value c.replace_2bytes.result ≢ 0 = λ none.
     folded_some (added_value flow + total first) (λ zero. first_some (omega (arith, zero))) (sym c.replace_2bytes.ensures.added ∙ none) in
-    let changed_some : total changed ≢ 0 = first_counts changed (λ none. version (sym c.translate_ipv4_flow-change.ensures.version ∙ none)) in
+    let changed_some : total changed ≢ 0 =
+    first_counts changed (λ none. version (sym c.translate_ipv4_flow-change.ensures.version ∙ none)) in
     let checksum = quote_alike (number 2 (put_mid 8 (end - 8) message changed)) (0) (0) (total quoted) (total changed)
-    (removed_value c.replace_2bytes.result) (added_value c.replace_2bytes.result) (subst (λ n. n < 65536) (sym c.replace_2bytes.ensures.removed) (folded-lt (removed_value flow + total first))) some changed_some
+    (removed_value c.replace_2bytes.result) (added_value c.replace_2bytes.result)
+    (subst (λ n. n < 65536) (sym c.replace_2bytes.ensures.removed) (folded-lt (removed_value flow + total first))) some changed_some
     (omega (
       arith,
       c.translate_ipv4_flow-change.ensures.turns,
@@ -38,7 +41,8 @@ returns-clause-translated c =
     c.update_checksum.ensures.updated
     ∙ ap (λ checksum. with_number 2 checksum (put_mid 8 (end - 8) message changed)) checksum
     ∙ ap (with_updated_checksum (folded (0 + total quoted)) (folded (0 + total changed))) (put_is 8 end message changed (search rules))
-    ∙ ap (λ changed. with_updated_checksum (folded (0 + total quoted)) (folded (0 + total changed)) (with_bytes 8 changed message)) changed_is
+    ∙ ap (λ changed. with_updated_checksum (folded (0 + total quoted)) (folded (0 + total changed)) (with_bytes 8 changed message))
+    changed_is
 
 pub returns-clause-verifies : goal.returns-clause-verifies
 returns-clause-verifies c = λ some sum.
@@ -64,7 +68,8 @@ returns-clause-verifies c = λ some sum.
     (omega (arith, c.update_checksum.ensures.remainder (total quoted) (total changed) turned (search rules)))
     (λ none. first_counts message some (omega (arith, none)))
     (λ none. first_counts c.update_checksum.new.message
-    (λ zero. some (sym (c.update_checksum.ensures.first ∙ first_put 8 (end - 8) message changed (omega arith) (search rules)) ∙ zero)) (omega (arith, none)))
+    (λ zero. some (sym (c.update_checksum.ensures.first ∙ first_put 8 (end - 8) message changed (omega arith) (search rules)) ∙ zero))
+    (omega (arith, none)))
 
 pub translate_ipv4_flow-change-requires : goal.translate_ipv4_flow-change-requires
 translate_ipv4_flow-change-requires c =

@@ -12,6 +12,9 @@ returns-clause-there_and_back c =
     let packet : List ℕ = c.args.packet.now in
     let new : Ipv4Translation = c.args.new.now in
     let result = c.translate_ipv4_by.result in
-    if_ok_four result c.translate_ipv4_by.ensures.bytes c.translate_ipv4_by.ensures.types (if_ok_accepted result _ c.translate_ipv4_by.ensures.refused) c.translate_ipv4_by.ensures.translated
-    (λ bytes types accepted is. subst (λ changed. (ipv4_translated_with (ipv4_flow_back new (message_in_ipv4 false packet) packet) (ipv4_quoted_back (ipv4_quoted packet) c.args.quoted.now) changed ≡ packet) ↔ IsIpv4RestoredWith packet)
+    if_ok_four result c.translate_ipv4_by.ensures.bytes c.translate_ipv4_by.ensures.types
+    (if_ok_accepted result _ c.translate_ipv4_by.ensures.refused) c.translate_ipv4_by.ensures.translated
+    (λ bytes types accepted is. subst
+    (λ changed. (ipv4_translated_with (ipv4_flow_back new (message_in_ipv4 false packet) packet)
+    (ipv4_quoted_back (ipv4_quoted packet) c.args.quoted.now) changed ≡ packet) ↔ IsIpv4RestoredWith packet)
     (sym is) (ipv4_both_there_and_back _ _ new c.args.quoted.now packet bytes types.0 types.1 accepted))

@@ -18,9 +18,11 @@ returns-clause-place c =
       carries = c.in-Ok.ensures.found;
       missing = c.in-Ok.ensures.stated;
       after = c.in-Ok.ensures.parts;
-      known = c.proto_over-proto.ensures ∙ ap (λ headers. proto_over (by_value c.in-Ok.found.addresses) headers.protocol.0) c.skip_headers-headers.ensures.skipped;
+      known = c.proto_over-proto.ensures ∙ ap (λ headers. proto_over (by_value c.in-Ok.found.addresses) headers.protocol.0)
+          c.skip_headers-headers.ensures.skipped;
       has_port = has_port c.args.new.now.source_port c.args.new.now.destination_port;
-      accepted = ap (λ headers. is_none c.proto_over-proto.result && (has_port c.args.new.now.source_port c.args.new.now.destination_port || covers_ipv6_addresses headers.protocol.0))
+      accepted = ap (λ headers. is_none c.proto_over-proto.result
+          && (has_port c.args.new.now.source_port c.args.new.now.destination_port || covers_ipv6_addresses headers.protocol.0))
           (sym c.skip_headers-headers.ensures.skipped) ∙ sym c.is_ipv6_refused.ensures ∙ c.if-is_ipv6_refused.false;
     }) (ap (λ headers. headers.len) c.skip_headers-headers.ensures.skipped) refl refl
     (ap (λ headers. headers.is_later_fragment) c.skip_headers-headers.ensures.skipped)
@@ -28,8 +30,10 @@ returns-clause-place c =
 pub returns-then-is_ipv6_refused-clause-refused : goal.returns-then-is_ipv6_refused-clause-refused
 returns-then-is_ipv6_refused-clause-refused c =
     let begins : BeginsWithIpv6Header c.args.packet.now = c.in-Some.ensures.found.0 refl in
-    ipv6_no_proto _ c.args.packet.now c.in-Ok.found _ c.proto_over-proto.result c.in-Ok.ensures.refused begins.is_version_6 c.in-Ok.ensures.parts
-    (ap (λ headers. headers.protocol.0) c.skip_headers-headers.ensures.skipped) c.proto_over-proto.ensures (sym c.is_ipv6_refused.ensures ∙ c.if-is_ipv6_refused.true)
+    ipv6_no_proto _ c.args.packet.now c.in-Ok.found _ c.proto_over-proto.result c.in-Ok.ensures.refused begins.is_version_6
+    c.in-Ok.ensures.parts
+    (ap (λ headers. headers.protocol.0) c.skip_headers-headers.ensures.skipped) c.proto_over-proto.ensures
+    (sym c.is_ipv6_refused.ensures ∙ c.if-is_ipv6_refused.true)
 
 pub returns-in_default-clause-bytes : goal.returns-in_default-clause-bytes
 returns-in_default-clause-bytes c = λ place. (c.type_inv.packet place).fits

@@ -7,4 +7,5 @@ pub returns-in_default-clause-written : goal.returns-in_default-clause-written
 returns-in_default-clause-written c =
     let packet : List ℕ = c.args.packet.now in
     let place : ℕ = c.args.place in
-    sym (ap (λ new. with_bytes place (unwrap_or new (take 16 (drop place packet))) packet) c.in_default.is ∙ bytes_kept place 16 packet c.requires.room)
+    sym (ap (λ new. with_bytes place (unwrap_or new (take 16 (drop place packet))) packet) c.in_default.is
+    ∙ bytes_kept place 16 packet c.requires.room)

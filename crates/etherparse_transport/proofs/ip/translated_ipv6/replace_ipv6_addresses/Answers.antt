@@ -15,15 +15,18 @@ address_len (Some new) place packet passed there = passed
 source_len : (c : goal.After-slice_known-3-1) → length (unwrap_or c.args.new.now.source (slice_range c.args.packet.now 8 24)) ≡ 16
 source_len c = address_len c.args.new.now.source 8 c.args.packet.now c.replace_if_passed.ensures.len (omega (arith, c.requires.header))
 
-destination_len : (c : goal.After-slice_known-3-1) → length (unwrap_or c.args.new.now.destination (slice_range c.args.packet.now 24 40)) ≡ 16
-destination_len c = address_len c.args.new.now.destination 24 c.args.packet.now c.replace_if_passed-2.ensures.len (omega (arith, c.requires.header))
+destination_len : (c : goal.After-slice_known-3-1)
+    → length (unwrap_or c.args.new.now.destination (slice_range c.args.packet.now 24 40)) ≡ 16
+destination_len c = address_len c.args.new.now.destination 24 c.args.packet.now c.replace_if_passed-2.ensures.len
+    (omega (arith, c.requires.header))
 
 pub returns-clause-replaced : goal.returns-clause-replaced
 returns-clause-replaced c =
     let packet : List ℕ = c.args.packet.now in
     let between : List ℕ = c.replace_if_passed.new.packet in
     let source : List ℕ = unwrap_or c.args.new.now.source (slice_range packet 8 24) in
-    let kept : take 16 (drop 24 between) ≡ slice_range packet 24 40 = ap (λ packet. take 16 (drop 24 packet)) c.replace_if_passed.ensures.written
+    let kept : take 16 (drop 24 between) ≡ slice_range packet 24 40 =
+    ap (λ packet. take 16 (drop 24 packet)) c.replace_if_passed.ensures.written
     ∙ ap (take 16) (drop_after 8 source packet (omega (arith, c.requires.header, source_len c)) 24 (omega (arith, source_len c))) in
     c.replace_if_passed-2.ensures.written
     ∙ ap (λ old. with_bytes 24 (unwrap_or c.args.new.now.destination old) between) kept
@@ -35,6 +38,7 @@ returns-clause-total c =
     omega (
       arith,
       ap total (returns-clause-replaced c),
-      ipv6_addresses_total (unwrap_or c.args.new.now.source (slice_range packet 8 24)) (unwrap_or c.args.new.now.destination (slice_range packet 24 40))
+      ipv6_addresses_total (unwrap_or c.args.new.now.source (slice_range packet 8 24))
+          (unwrap_or c.args.new.now.destination (slice_range packet 24 40))
           packet (source_len c) (destination_len c) c.requires.header,
     )

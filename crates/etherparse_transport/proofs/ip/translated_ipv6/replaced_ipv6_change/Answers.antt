@@ -10,7 +10,11 @@ use Rattle.etherparse_transport.proofs.ip.translated_ipv6.replaced_ipv6_change.G
 abbrev pub IsAlike : List ℕ → ℕ → ℕ → Option (List ℕ) → Option (List ℕ) → Type 0
 IsAlike packet removed added source destination = AreUpdatedAlike removed added
     (sum_of_ipv6 (record { source = slice_range packet 8 24; destination = slice_range packet 24 40 }))
-    (sum_of_ipv6 (record { source = unwrap_or source (slice_range packet 8 24); destination = unwrap_or destination (slice_range packet 24 40) }))
+    (sum_of_ipv6 (record {
+      source =
+          unwrap_or source (slice_range packet 8 24);
+      destination = unwrap_or destination (slice_range packet 24 40);
+    }))
 
 pub returns-in-Some-None : goal.returns-in-Some-None
 returns-in-Some-None c =

@@ -12,6 +12,7 @@ returns-clause-there_and_back c =
     let packet : List ℕ = c.args.packet.now in
     let new : Ipv6Translation = c.args.new.now in
     let result = c.translate_ipv6_by.result in
-    if_ok_four result c.translate_ipv6_by.ensures.bytes c.translate_ipv6_by.ensures.types (if_ok_accepted result _ c.translate_ipv6_by.ensures.refused) c.translate_ipv6_by.ensures.translated
+    if_ok_four result c.translate_ipv6_by.ensures.bytes c.translate_ipv6_by.ensures.types
+    (if_ok_accepted result _ c.translate_ipv6_by.ensures.refused) c.translate_ipv6_by.ensures.translated
     (λ bytes types accepted is. subst (λ changed. (ipv6_translated (ipv6_way_back new packet) changed ≡ packet) ↔ IsIpv6Restored new packet)
     (sym is) (ipv6_there_and_back _ _ new packet bytes types.0 accepted))

@@ -17,9 +17,11 @@ returns-in-Some-clause-refused c =
     let packet : List ℕ = c.args.packet.now in
     let end : ℕ = 8 + c.in-Some.len in
     let left : IsIpv6Left (has_port c.args.new.now.source_port c.args.new.now.destination_port)
-    (has_port (ipv6_of_quoted c.args.new.now c.args.passed).source_port (ipv6_of_quoted c.args.new.now c.args.passed).destination_port) packet (Some (slice_range (message_in_ipv6 packet) 8 end)) =
+    (has_port (ipv6_of_quoted c.args.new.now c.args.passed).source_port (ipv6_of_quoted c.args.new.now c.args.passed).destination_port)
+    packet (Some (slice_range (message_in_ipv6 packet) 8 end)) =
     ipv6_left _ _ packet c.in_ok-place.place _ c.in_ok-place.ensures.place c.in_ok-place.ensures.refused c.in_ok-len.ensures.refused
-    (c.in_ok-len.ensures.quoted ∙ ap (option_map (λ len. slice_range (slice_range packet c.in_ok-place.place.start c.in_ok-place.place.end) 8 (8 + len))) c.in-Some.is
+    (c.in_ok-len.ensures.quoted ∙ ap
+    (option_map (λ len. slice_range (slice_range packet c.in_ok-place.place.start c.in_ok-place.place.end) 8 (8 + len))) c.in-Some.is
     ∙ ap (λ message. Some (slice_range message 8 end)) c.in_ok-place.ensures.place.message) in
     subst (RefusesExactly c.translate_ipv6_error.result) (sym left.refusal) c.translate_ipv6_error.ensures.refused
 
@@ -28,9 +30,11 @@ returns-in-Some-clause-translated c =
     let packet : List ℕ = c.args.packet.now in
     let end : ℕ = 8 + c.in-Some.len in
     let left : IsIpv6Left (has_port c.args.new.now.source_port c.args.new.now.destination_port)
-    (has_port (ipv6_of_quoted c.args.new.now c.args.passed).source_port (ipv6_of_quoted c.args.new.now c.args.passed).destination_port) packet (Some (slice_range (message_in_ipv6 packet) 8 end)) =
+    (has_port (ipv6_of_quoted c.args.new.now c.args.passed).source_port (ipv6_of_quoted c.args.new.now c.args.passed).destination_port)
+    packet (Some (slice_range (message_in_ipv6 packet) 8 end)) =
     ipv6_left _ _ packet c.in_ok-place.place _ c.in_ok-place.ensures.place c.in_ok-place.ensures.refused c.in_ok-len.ensures.refused
-    (c.in_ok-len.ensures.quoted ∙ ap (option_map (λ len. slice_range (slice_range packet c.in_ok-place.place.start c.in_ok-place.place.end) 8 (8 + len))) c.in-Some.is
+    (c.in_ok-len.ensures.quoted ∙ ap
+    (option_map (λ len. slice_range (slice_range packet c.in_ok-place.place.start c.in_ok-place.place.end) 8 (8 + len))) c.in-Some.is
     ∙ ap (λ message. Some (slice_range message 8 end)) c.in_ok-place.ensures.place.message) in
     subst (λ quoted. IfOk c.translate_ipv6_error.result (λ done. c.translate_ipv6_error.new.packet
     ≡ ipv6_with_message c.args.new.now (ipv6_message_by quoted c.args.new.now (ipv6_of_quoted c.args.new.now c.args.passed) packet) packet))
@@ -43,28 +47,35 @@ returns-in-Some-clause-read c =
     let quoted : List ℕ = slice_range (message_in_ipv6 packet) 8 end in
     let message : List ℕ = ipv6_message_by (Some quoted) c.args.new.now (ipv6_of_quoted c.args.new.now c.args.passed) packet in
     let left : IsIpv6Left (has_port c.args.new.now.source_port c.args.new.now.destination_port)
-    (has_port (ipv6_of_quoted c.args.new.now c.args.passed).source_port (ipv6_of_quoted c.args.new.now c.args.passed).destination_port) packet (Some quoted) =
+    (has_port (ipv6_of_quoted c.args.new.now c.args.passed).source_port (ipv6_of_quoted c.args.new.now c.args.passed).destination_port)
+    packet (Some quoted) =
     ipv6_left _ _ packet c.in_ok-place.place _ c.in_ok-place.ensures.place c.in_ok-place.ensures.refused c.in_ok-len.ensures.refused
-    (c.in_ok-len.ensures.quoted ∙ ap (option_map (λ len. slice_range (slice_range packet c.in_ok-place.place.start c.in_ok-place.place.end) 8 (8 + len))) c.in-Some.is
+    (c.in_ok-len.ensures.quoted ∙ ap
+    (option_map (λ len. slice_range (slice_range packet c.in_ok-place.place.start c.in_ok-place.place.end) 8 (8 + len))) c.in-Some.is
     ∙ ap (λ message. Some (slice_range message 8 end)) c.in_ok-place.ensures.place.message) in
     if_ok c.translate_ipv6_error.result c.translate_ipv6_error.ensures.translated c.translate_ipv6_error.ensures.len
     c.translate_ipv6_error.ensures.addresses
     (λ is same four. subst (λ quoted. IsReadWith packet c.translate_ipv6_error.new.packet (ipv6_between c.args.new.now packet)
     (ipv6_message_by quoted c.args.new.now (ipv6_of_quoted c.args.new.now c.args.passed) packet)) (sym left.quoted_is)
-    (ipv6_read _ c.args.new.now packet c.translate_ipv6_error.new.packet message c.in_ok-place.place c.in_ok-place.ensures.refused c.in_ok-place.ensures.place
+    (ipv6_read _ c.args.new.now packet c.translate_ipv6_error.new.packet message c.in_ok-place.place c.in_ok-place.ensures.refused
+    c.in_ok-place.ensures.place
     four same is))
 
 pub returns-in-None-clause-read : goal.returns-in-None-clause-read
 returns-in-None-clause-read c =
     let packet : List ℕ = c.args.packet.now in
     let left : IsIpv6Left (has_port c.args.new.now.source_port c.args.new.now.destination_port)
-    (has_port (ipv6_of_quoted c.args.new.now c.args.passed).source_port (ipv6_of_quoted c.args.new.now c.args.passed).destination_port) packet None =
+    (has_port (ipv6_of_quoted c.args.new.now c.args.passed).source_port (ipv6_of_quoted c.args.new.now c.args.passed).destination_port)
+    packet None =
     ipv6_left _ _ packet c.in_ok-place.place None c.in_ok-place.ensures.place c.in_ok-place.ensures.refused c.in_ok-len.ensures.refused
-    (c.in_ok-len.ensures.quoted ∙ ap (option_map (λ len. slice_range (slice_range packet c.in_ok-place.place.start c.in_ok-place.place.end) 8 (8 + len))) c.in-None.is) in
+    (c.in_ok-len.ensures.quoted ∙ ap
+    (option_map (λ len. slice_range (slice_range packet c.in_ok-place.place.start c.in_ok-place.place.end) 8 (8 + len)))
+    c.in-None.is) in
     subst (λ quoted. IsReadWith packet c.translate_ipv6_flow.new.packet (ipv6_between c.args.new.now packet)
     (ipv6_message_by quoted c.args.new.now (ipv6_of_quoted c.args.new.now c.args.passed) packet)) (sym left.quoted_is)
     (ipv6_read _ c.args.new.now packet c.translate_ipv6_flow.new.packet (ipv6_flow_message c.args.new.now packet) c.in_ok-place.place
-    c.in_ok-place.ensures.refused c.in_ok-place.ensures.place c.translate_ipv6_flow.ensures.addresses (ipv6_flow_message_len c.args.new.now packet) c.translate_ipv6_flow.ensures.translated)
+    c.in_ok-place.ensures.refused c.in_ok-place.ensures.place c.translate_ipv6_flow.ensures.addresses
+    (ipv6_flow_message_len c.args.new.now packet) c.translate_ipv6_flow.ensures.translated)
 
 pub returns-in-Some-clause-verifies : goal.returns-in-Some-clause-verifies
 returns-in-Some-clause-verifies c =
@@ -72,9 +83,11 @@ returns-in-Some-clause-verifies c =
     let end : ℕ = 8 + c.in-Some.len in
     let quoted : List ℕ = slice_range (message_in_ipv6 packet) 8 end in
     let left : IsIpv6Left (has_port c.args.new.now.source_port c.args.new.now.destination_port)
-    (has_port (ipv6_of_quoted c.args.new.now c.args.passed).source_port (ipv6_of_quoted c.args.new.now c.args.passed).destination_port) packet (Some quoted) =
+    (has_port (ipv6_of_quoted c.args.new.now c.args.passed).source_port (ipv6_of_quoted c.args.new.now c.args.passed).destination_port)
+    packet (Some quoted) =
     ipv6_left _ _ packet c.in_ok-place.place _ c.in_ok-place.ensures.place c.in_ok-place.ensures.refused c.in_ok-len.ensures.refused
-    (c.in_ok-len.ensures.quoted ∙ ap (option_map (λ len. slice_range (slice_range packet c.in_ok-place.place.start c.in_ok-place.place.end) 8 (8 + len))) c.in-Some.is
+    (c.in_ok-len.ensures.quoted ∙ ap
+    (option_map (λ len. slice_range (slice_range packet c.in_ok-place.place.start c.in_ok-place.place.end) 8 (8 + len))) c.in-Some.is
     ∙ ap (λ message. Some (slice_range message 8 end)) c.in_ok-place.ensures.place.message) in
     if_ok_too c.translate_ipv6_error.result (ipv6_accepted c.args.new.now packet quoted _ left.quoted_is)
 
@@ -82,10 +95,14 @@ pub returns-in-None-clause-verifies : goal.returns-in-None-clause-verifies
 returns-in-None-clause-verifies c =
     let packet : List ℕ = c.args.packet.now in
     let left : IsIpv6Left (has_port c.args.new.now.source_port c.args.new.now.destination_port)
-    (has_port (ipv6_of_quoted c.args.new.now c.args.passed).source_port (ipv6_of_quoted c.args.new.now c.args.passed).destination_port) packet None =
+    (has_port (ipv6_of_quoted c.args.new.now c.args.passed).source_port (ipv6_of_quoted c.args.new.now c.args.passed).destination_port)
+    packet None =
     ipv6_left _ _ packet c.in_ok-place.place None c.in_ok-place.ensures.place c.in_ok-place.ensures.refused c.in_ok-len.ensures.refused
-    (c.in_ok-len.ensures.quoted ∙ ap (option_map (λ len. slice_range (slice_range packet c.in_ok-place.place.start c.in_ok-place.place.end) 8 (8 + len))) c.in-None.is) in
-    subst (λ quoted. IsIpv6Accepted c.args.new.now packet (ipv6_message_by quoted c.args.new.now (ipv6_of_quoted c.args.new.now c.args.passed) packet)) (sym left.quoted_is)
+    (c.in_ok-len.ensures.quoted ∙ ap
+    (option_map (λ len. slice_range (slice_range packet c.in_ok-place.place.start c.in_ok-place.place.end) 8 (8 + len)))
+    c.in-None.is) in
+    subst (λ quoted. IsIpv6Accepted c.args.new.now packet
+    (ipv6_message_by quoted c.args.new.now (ipv6_of_quoted c.args.new.now c.args.passed) packet)) (sym left.quoted_is)
     c.translate_ipv6_flow.ensures.verifies
 
 pub returns-in-Some-clause-error : goal.returns-in-Some-clause-error
@@ -94,21 +111,29 @@ returns-in-Some-clause-error c =
     let end : ℕ = 8 + c.in-Some.len in
     let quoted : List ℕ = slice_range (message_in_ipv6 packet) 8 end in
     let left : IsIpv6Left (has_port c.args.new.now.source_port c.args.new.now.destination_port)
-    (has_port (ipv6_of_quoted c.args.new.now c.args.passed).source_port (ipv6_of_quoted c.args.new.now c.args.passed).destination_port) packet (Some quoted) =
+    (has_port (ipv6_of_quoted c.args.new.now c.args.passed).source_port (ipv6_of_quoted c.args.new.now c.args.passed).destination_port)
+    packet (Some quoted) =
     ipv6_left _ _ packet c.in_ok-place.place _ c.in_ok-place.ensures.place c.in_ok-place.ensures.refused c.in_ok-len.ensures.refused
-    (c.in_ok-len.ensures.quoted ∙ ap (option_map (λ len. slice_range (slice_range packet c.in_ok-place.place.start c.in_ok-place.place.end) 8 (8 + len))) c.in-Some.is
+    (c.in_ok-len.ensures.quoted ∙ ap
+    (option_map (λ len. slice_range (slice_range packet c.in_ok-place.place.start c.in_ok-place.place.end) 8 (8 + len))) c.in-Some.is
     ∙ ap (λ message. Some (slice_range message 8 end)) c.in_ok-place.ensures.place.message) in
-    subst (λ quoted. IfOk c.translate_ipv6_error.result (λ done. IsIpv6ErrorAccepted c.args.new.now packet (ipv6_message_by quoted c.args.new.now (ipv6_of_quoted c.args.new.now c.args.passed) packet))) (sym left.quoted_is)
-    (if_ok c.translate_ipv6_error.result c.translate_ipv6_error.ensures.addresses c.translate_ipv6_error.ensures.len c.translate_ipv6_error.ensures.verifies
+    subst (λ quoted. IfOk c.translate_ipv6_error.result
+    (λ done. IsIpv6ErrorAccepted c.args.new.now packet
+    (ipv6_message_by quoted c.args.new.now (ipv6_of_quoted c.args.new.now c.args.passed) packet))) (sym left.quoted_is)
+    (if_ok c.translate_ipv6_error.result c.translate_ipv6_error.ensures.addresses c.translate_ipv6_error.ensures.len
+    c.translate_ipv6_error.ensures.verifies
     (ipv6_error_accepted c.args.new.now packet quoted _ (search rules) left.quoted_is))
 
 pub returns-in-None-clause-error : goal.returns-in-None-clause-error
 returns-in-None-clause-error c = λ quoted is.
     let packet : List ℕ = c.args.packet.now in
     let left : IsIpv6Left (has_port c.args.new.now.source_port c.args.new.now.destination_port)
-    (has_port (ipv6_of_quoted c.args.new.now c.args.passed).source_port (ipv6_of_quoted c.args.new.now c.args.passed).destination_port) packet None =
+    (has_port (ipv6_of_quoted c.args.new.now c.args.passed).source_port (ipv6_of_quoted c.args.new.now c.args.passed).destination_port)
+    packet None =
     ipv6_left _ _ packet c.in_ok-place.place None c.in_ok-place.ensures.place c.in_ok-place.ensures.refused c.in_ok-len.ensures.refused
-    (c.in_ok-len.ensures.quoted ∙ ap (option_map (λ len. slice_range (slice_range packet c.in_ok-place.place.start c.in_ok-place.place.end) 8 (8 + len))) c.in-None.is) in
+    (c.in_ok-len.ensures.quoted ∙ ap
+    (option_map (λ len. slice_range (slice_range packet c.in_ok-place.place.start c.in_ok-place.place.end) 8 (8 + len)))
+    c.in-None.is) in
     let none : ipv6_quoted packet ≡ None = left.quoted_is in
     absurd (cc (none, is))
 
@@ -119,7 +144,9 @@ returns-in-None-clause-again c =
     let rule : Ipv6Translation = (ipv6_of_quoted c.args.new.now c.args.passed) in
     let left : IsIpv6Left (has_port new.source_port new.destination_port) (has_port rule.source_port rule.destination_port) packet None =
     ipv6_left _ _ packet c.in_ok-place.place None c.in_ok-place.ensures.place c.in_ok-place.ensures.refused c.in_ok-len.ensures.refused
-    (c.in_ok-len.ensures.quoted ∙ ap (option_map (λ len. slice_range (slice_range packet c.in_ok-place.place.start c.in_ok-place.place.end) 8 (8 + len))) c.in-None.is) in
+    (c.in_ok-len.ensures.quoted ∙ ap
+    (option_map (λ len. slice_range (slice_range packet c.in_ok-place.place.start c.in_ok-place.place.end) 8 (8 + len)))
+    c.in-None.is) in
     ap (ipv6_refusal_with new rule) (c.translate_ipv6_flow.ensures.translated
     ∙ ap (λ quoted. ipv6_with_message new (ipv6_message_by quoted new rule packet) packet) (sym left.quoted_is))
     ∙ ipv6_again _ _ new rule packet c.ipv6_place.ensures.bytes c.translate_ipv6_flow.ensures.types
@@ -134,12 +161,15 @@ returns-in-Some-clause-again c =
     let left : IsIpv6Left (has_port new.source_port new.destination_port) (has_port rule.source_port rule.destination_port) packet
     (Some (slice_range (message_in_ipv6 packet) 8 end)) =
     ipv6_left _ _ packet c.in_ok-place.place _ c.in_ok-place.ensures.place c.in_ok-place.ensures.refused c.in_ok-len.ensures.refused
-    (c.in_ok-len.ensures.quoted ∙ ap (option_map (λ len. slice_range (slice_range packet c.in_ok-place.place.start c.in_ok-place.place.end) 8 (8 + len))) c.in-Some.is
+    (c.in_ok-len.ensures.quoted ∙ ap
+    (option_map (λ len. slice_range (slice_range packet c.in_ok-place.place.start c.in_ok-place.place.end) 8 (8 + len))) c.in-Some.is
     ∙ ap (λ message. Some (slice_range message 8 end)) c.in_ok-place.ensures.place.message) in
     let result = c.translate_ipv6_error.result in
-    if_ok result (if_ok_accepted result _ c.translate_ipv6_error.ensures.refused) c.translate_ipv6_error.ensures.translated c.translate_ipv6_error.ensures.types
+    if_ok result (if_ok_accepted result _ c.translate_ipv6_error.ensures.refused) c.translate_ipv6_error.ensures.translated
+    c.translate_ipv6_error.ensures.types
     (λ accepted is types.
-    ap (ipv6_refusal_with new rule) (is ∙ ap (λ quoted. ipv6_with_message new (ipv6_message_by quoted new rule packet) packet) (sym left.quoted_is))
+    ap (ipv6_refusal_with new rule) (is ∙ ap (λ quoted. ipv6_with_message new (ipv6_message_by quoted new rule packet) packet)
+    (sym left.quoted_is))
     ∙ ipv6_again _ _ new rule packet c.ipv6_place.ensures.bytes types.0
     (subst (λ quoted. IfSome quoted (λ _. IsIpv6Translation rule)) (sym left.quoted_is) types.1) (left.refusal ∙ accepted))
 
@@ -150,7 +180,9 @@ returns-in-None-clause-types c =
     let rule : Ipv6Translation = (ipv6_of_quoted c.args.new.now c.args.passed) in
     let left : IsIpv6Left (has_port new.source_port new.destination_port) (has_port rule.source_port rule.destination_port) packet None =
     ipv6_left _ _ packet c.in_ok-place.place None c.in_ok-place.ensures.place c.in_ok-place.ensures.refused c.in_ok-len.ensures.refused
-    (c.in_ok-len.ensures.quoted ∙ ap (option_map (λ len. slice_range (slice_range packet c.in_ok-place.place.start c.in_ok-place.place.end) 8 (8 + len))) c.in-None.is) in
+    (c.in_ok-len.ensures.quoted ∙ ap
+    (option_map (λ len. slice_range (slice_range packet c.in_ok-place.place.start c.in_ok-place.place.end) 8 (8 + len)))
+    c.in-None.is) in
     (c.translate_ipv6_flow.ensures.types, subst (λ quoted. IfSome quoted (λ _. IsIpv6Translation rule)) (sym left.quoted_is) tt)
 
 pub returns-in-Some-clause-types : goal.returns-in-Some-clause-types
@@ -162,7 +194,8 @@ returns-in-Some-clause-types c =
     let left : IsIpv6Left (has_port new.source_port new.destination_port) (has_port rule.source_port rule.destination_port) packet
     (Some (slice_range (message_in_ipv6 packet) 8 end)) =
     ipv6_left _ _ packet c.in_ok-place.place _ c.in_ok-place.ensures.place c.in_ok-place.ensures.refused c.in_ok-len.ensures.refused
-    (c.in_ok-len.ensures.quoted ∙ ap (option_map (λ len. slice_range (slice_range packet c.in_ok-place.place.start c.in_ok-place.place.end) 8 (8 + len))) c.in-Some.is
+    (c.in_ok-len.ensures.quoted ∙ ap
+    (option_map (λ len. slice_range (slice_range packet c.in_ok-place.place.start c.in_ok-place.place.end) 8 (8 + len))) c.in-Some.is
     ∙ ap (λ message. Some (slice_range message 8 end)) c.in_ok-place.ensures.place.message) in
     if_ok_then c.translate_ipv6_error.result c.translate_ipv6_error.ensures.types
     (λ types. (types.0, subst (λ quoted. IfSome quoted (λ _. IsIpv6Translation rule)) (sym left.quoted_is) types.1))

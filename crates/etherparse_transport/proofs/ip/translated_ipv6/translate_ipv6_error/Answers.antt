@@ -17,8 +17,13 @@ use borrow.Rule.Slice.PartMut.{put_mid}
 pub returns-clause-refused : goal.returns-clause-refused
 returns-clause-refused c =
     let end : ℕ = 8 + c.args.quoted_len in
-    ap (λ message. option_map (λ error. QuotedPacket) (ipv6_place_refusal (has_port (ipv6_of_quoted c.args.new.now c.args.passed).source_port (ipv6_of_quoted c.args.new.now c.args.passed).destination_port) (slice_range message 8 end))) (sym c.requires.place.message)
-    ∙ ap (option_map (λ error. QuotedPacket)) (sym (ap (λ new. ipv6_place_refusal (has_port new.source_port new.destination_port) (slice_range (slice_range c.args.packet.now c.args.place.now.start c.args.place.now.end) 8 end)) c.of_quoted-for_quoted.ensures.passed) ∙ c.in-Ok.ensures.refused)
+    ap (λ message. option_map (λ error. QuotedPacket)
+    (ipv6_place_refusal (has_port (ipv6_of_quoted c.args.new.now c.args.passed).source_port
+    (ipv6_of_quoted c.args.new.now c.args.passed).destination_port) (slice_range message 8 end))) (sym c.requires.place.message)
+    ∙ ap (option_map (λ error. QuotedPacket))
+    (sym (ap (λ new. ipv6_place_refusal (has_port new.source_port new.destination_port)
+    (slice_range (slice_range c.args.packet.now c.args.place.now.start c.args.place.now.end) 8 end))
+    c.of_quoted-for_quoted.ensures.passed) ∙ c.in-Ok.ensures.refused)
 
 -- the new addresses, given the old addresses
 abbrev pub addresses_from : Ipv6Translation → Ipv6Header → Ipv6Header
@@ -30,21 +35,26 @@ returns-clause-translated c =
     let end : ℕ = 8 + c.args.quoted_len in
     let changed : List ℕ = c.translate_ipv6_quoted.new.message in
     let with_translated : ℕ → ℕ → List ℕ → List ℕ = λ old new message.
-    with_quote old new (slice_range message 8 end) (ipv6_translated_flow (ipv6_of_quoted c.args.new.now c.args.passed) (slice_range message 8 end)) message in
+    with_quote old new (slice_range message 8 end)
+    (ipv6_translated_flow (ipv6_of_quoted c.args.new.now c.args.passed) (slice_range message 8 end)) message in
     let old : ℕ = sum_of_ipv6 (ipv6_header_of packet) in
     let new : ℕ = sum_of_ipv6 (ipv6_addresses c.args.new.now packet) in
     let range : List ℕ = slice_range packet c.args.place.now.start c.args.place.now.end in
     let changed_is : changed ≡ with_translated old new (message_in_ipv6 packet) =
     (c.translate_ipv6_quoted.ensures.translated
-    ∙ ap (λ new. with_quote (removed_value c.ipv6_change-change.result) (added_value c.ipv6_change-change.result) (slice_range (slice_range c.args.packet.now c.args.place.now.start c.args.place.now.end) 8 end)
-    (ipv6_translated_flow new (slice_range (slice_range c.args.packet.now c.args.place.now.start c.args.place.now.end) 8 end)) (slice_range c.args.packet.now c.args.place.now.start c.args.place.now.end)) c.of_quoted-for_quoted.ensures.passed)
+    ∙ ap (λ new. with_quote (removed_value c.ipv6_change-change.result) (added_value c.ipv6_change-change.result)
+    (slice_range (slice_range c.args.packet.now c.args.place.now.start c.args.place.now.end) 8 end)
+    (ipv6_translated_flow new (slice_range (slice_range c.args.packet.now c.args.place.now.start c.args.place.now.end) 8 end))
+    (slice_range c.args.packet.now c.args.place.now.start c.args.place.now.end)) c.of_quoted-for_quoted.ensures.passed)
     ∙ ap (λ removed. with_translated removed (added_value c.ipv6_change-change.result) range) c.ipv6_change-change.ensures.removed
     ∙ ap (λ added. with_translated old added range)
     (c.ipv6_change-change.ensures.added ∙ ap sum_of_ipv6 c.new_ipv6_addresses-addresses.ensures.new)
     ∙ ap (with_translated old new) c.requires.place.message in
     c.replace_ipv6_addresses.ensures.replaced
-    ∙ ap (λ header. with_ipv6_addresses (addresses_from c.args.new.now header) (put_mid c.args.place.now.start (c.args.place.now.end - c.args.place.now.start) packet changed))
-    (ipv6_header_put c.args.place.now.start (c.args.place.now.end - c.args.place.now.start) packet changed c.requires.place.header (search rules))
+    ∙ ap (λ header. with_ipv6_addresses (addresses_from c.args.new.now header)
+    (put_mid c.args.place.now.start (c.args.place.now.end - c.args.place.now.start) packet changed))
+    (ipv6_header_put c.args.place.now.start (c.args.place.now.end - c.args.place.now.start) packet changed c.requires.place.header
+    (search rules))
     ∙ ap (with_ipv6_addresses (ipv6_addresses c.args.new.now packet))
     (put_is c.args.place.now.start c.args.place.now.end packet changed (search rules)
     ∙ ap (λ start. with_bytes start changed packet) c.requires.place.start
@@ -56,14 +66,17 @@ returns-clause-len c =
     let end : ℕ = 8 + c.args.quoted_len in
     let changed : List ℕ = c.translate_ipv6_quoted.new.message in
     let with_translated : ℕ → ℕ → List ℕ → List ℕ = λ old new message.
-    with_quote old new (slice_range message 8 end) (ipv6_translated_flow (ipv6_of_quoted c.args.new.now c.args.passed) (slice_range message 8 end)) message in
+    with_quote old new (slice_range message 8 end)
+    (ipv6_translated_flow (ipv6_of_quoted c.args.new.now c.args.passed) (slice_range message 8 end)) message in
     let old : ℕ = sum_of_ipv6 (ipv6_header_of packet) in
     let new : ℕ = sum_of_ipv6 (ipv6_addresses c.args.new.now packet) in
     let range : List ℕ = slice_range packet c.args.place.now.start c.args.place.now.end in
     sym (ap length (
     (c.translate_ipv6_quoted.ensures.translated
-    ∙ ap (λ new. with_quote (removed_value c.ipv6_change-change.result) (added_value c.ipv6_change-change.result) (slice_range (slice_range c.args.packet.now c.args.place.now.start c.args.place.now.end) 8 end)
-    (ipv6_translated_flow new (slice_range (slice_range c.args.packet.now c.args.place.now.start c.args.place.now.end) 8 end)) (slice_range c.args.packet.now c.args.place.now.start c.args.place.now.end)) c.of_quoted-for_quoted.ensures.passed)
+    ∙ ap (λ new. with_quote (removed_value c.ipv6_change-change.result) (added_value c.ipv6_change-change.result)
+    (slice_range (slice_range c.args.packet.now c.args.place.now.start c.args.place.now.end) 8 end)
+    (ipv6_translated_flow new (slice_range (slice_range c.args.packet.now c.args.place.now.start c.args.place.now.end) 8 end))
+    (slice_range c.args.packet.now c.args.place.now.start c.args.place.now.end)) c.of_quoted-for_quoted.ensures.passed)
     ∙ ap (λ removed. with_translated removed (added_value c.ipv6_change-change.result) range) c.ipv6_change-change.ensures.removed
     ∙ ap (λ added. with_translated old added range)
     (c.ipv6_change-change.ensures.added ∙ ap sum_of_ipv6 c.new_ipv6_addresses-addresses.ensures.new)
@@ -73,8 +86,13 @@ returns-clause-len c =
 pub returns-in_default-clause-refused : goal.returns-in_default-clause-refused
 returns-in_default-clause-refused c =
     let end : ℕ = 8 + c.args.quoted_len in
-    ap (λ message. option_map (λ error. QuotedPacket) (ipv6_place_refusal (has_port (ipv6_of_quoted c.args.new.now c.args.passed).source_port (ipv6_of_quoted c.args.new.now c.args.passed).destination_port) (slice_range message 8 end))) (sym c.requires.place.message)
-    ∙ ap (option_map (λ error. QuotedPacket)) (sym (ap (λ new. ipv6_place_refusal (has_port new.source_port new.destination_port) (slice_range (slice_range c.args.packet.now c.args.place.now.start c.args.place.now.end) 8 end)) c.of_quoted-for_quoted.ensures.passed) ∙ c.in_default.ensures.refused)
+    ap (λ message. option_map (λ error. QuotedPacket)
+    (ipv6_place_refusal (has_port (ipv6_of_quoted c.args.new.now c.args.passed).source_port
+    (ipv6_of_quoted c.args.new.now c.args.passed).destination_port) (slice_range message 8 end))) (sym c.requires.place.message)
+    ∙ ap (option_map (λ error. QuotedPacket))
+    (sym (ap (λ new. ipv6_place_refusal (has_port new.source_port new.destination_port)
+    (slice_range (slice_range c.args.packet.now c.args.place.now.start c.args.place.now.end) 8 end))
+    c.of_quoted-for_quoted.ensures.passed) ∙ c.in_default.ensures.refused)
 
 pub returns-clause-verifies : goal.returns-clause-verifies
 returns-clause-verifies c = λ before after turns some some_too.
@@ -82,7 +100,8 @@ returns-clause-verifies c = λ before after turns some some_too.
     let end : ℕ = 8 + c.args.quoted_len in
     let range : List ℕ = slice_range packet c.args.place.now.start c.args.place.now.end in
     let with_translated : ℕ → ℕ → List ℕ → List ℕ = λ old new message.
-    with_quote old new (slice_range message 8 end) (ipv6_translated_flow (ipv6_of_quoted c.args.new.now c.args.passed) (slice_range message 8 end)) message in
+    with_quote old new (slice_range message 8 end)
+    (ipv6_translated_flow (ipv6_of_quoted c.args.new.now c.args.passed) (slice_range message 8 end)) message in
     let old : ℕ = sum_of_ipv6 (ipv6_header_of packet) in
     let new : ℕ = sum_of_ipv6 (ipv6_addresses c.args.new.now packet) in
     let added : added_value c.ipv6_change-change.result ≡ new =
@@ -93,11 +112,16 @@ returns-clause-verifies c = λ before after turns some some_too.
     subst (λ message. IsAcceptedAlike before after message (with_translated old new message)) c.requires.place.message
     (subst (IsAcceptedAlike before after range)
     ((c.translate_ipv6_quoted.ensures.translated
-    ∙ ap (λ new. with_quote (removed_value c.ipv6_change-change.result) (added_value c.ipv6_change-change.result) (slice_range (slice_range c.args.packet.now c.args.place.now.start c.args.place.now.end) 8 end)
-    (ipv6_translated_flow new (slice_range (slice_range c.args.packet.now c.args.place.now.start c.args.place.now.end) 8 end)) (slice_range c.args.packet.now c.args.place.now.start c.args.place.now.end)) c.of_quoted-for_quoted.ensures.passed)
+    ∙ ap (λ new. with_quote (removed_value c.ipv6_change-change.result) (added_value c.ipv6_change-change.result)
+    (slice_range (slice_range c.args.packet.now c.args.place.now.start c.args.place.now.end) 8 end)
+    (ipv6_translated_flow new (slice_range (slice_range c.args.packet.now c.args.place.now.start c.args.place.now.end) 8 end))
+    (slice_range c.args.packet.now c.args.place.now.start c.args.place.now.end)) c.of_quoted-for_quoted.ensures.passed)
     ∙ ap (λ removed. with_translated removed (added_value c.ipv6_change-change.result) range) removed
     ∙ ap (λ added. with_translated old added range) added)
     (c.translate_ipv6_quoted.ensures.verifies before after turned some some_too))
 
 pub returns-clause-types : goal.returns-clause-types
-returns-clause-types c = (c.of_quoted-for_quoted.ensures.types, subst IsIpv6Translation c.of_quoted-for_quoted.ensures.passed c.translate_ipv6_quoted.ensures.types)
+returns-clause-types c = (
+  c.of_quoted-for_quoted.ensures.types,
+  subst IsIpv6Translation c.of_quoted-for_quoted.ensures.passed c.translate_ipv6_quoted.ensures.types,
+)

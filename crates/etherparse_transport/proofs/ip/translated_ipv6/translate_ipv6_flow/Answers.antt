@@ -22,7 +22,9 @@ returns-clause-translated c =
     let end : ℕ = c.args.place.now.end in
     let message : List ℕ = c.translate_flow-change.new.message in
     let message_is : message ≡ ipv6_flow_message c.args.new.now packet =
-    c.translate_flow-change.ensures.translated ∙ ipv6_flow_message_is c.args.new.now packet _ _ _ _ _ (search rules) c.requires.place.later c.requires.place.proto c.replaced_ipv6_change-change.ensures in
+    c.translate_flow-change.ensures.translated
+    ∙ ipv6_flow_message_is c.args.new.now packet _ _ _ _ _
+    (search rules) c.requires.place.later c.requires.place.proto c.replaced_ipv6_change-change.ensures in
     c.replace_ipv6_addresses.ensures.replaced
     ∙ ap (λ header. with_ipv6_addresses (addresses_from c.args.new.now header) (put_mid start (end - start) packet message))
     (ipv6_header_put start (end - start) packet message c.requires.place.header (search rules))
@@ -35,8 +37,10 @@ returns-clause-verifies c =
     let packet : List ℕ = c.args.packet.now in
     let message_is : c.translate_flow-change.new.message ≡ ipv6_flow_message c.args.new.now packet =
     c.translate_flow-change.ensures.translated
-    ∙ ipv6_flow_message_is c.args.new.now packet _ _ _ _ _ (search rules) c.requires.place.later c.requires.place.proto c.replaced_ipv6_change-change.ensures in
-    ipv6_verifies c.args.new.now packet (slice_range packet c.args.place.now.start c.args.place.now.end) c.translate_flow-change.new.message c.args.place.now _ _
+    ∙ ipv6_flow_message_is c.args.new.now packet _ _ _ _ _
+    (search rules) c.requires.place.later c.requires.place.proto c.replaced_ipv6_change-change.ensures in
+    ipv6_verifies c.args.new.now packet (slice_range packet c.args.place.now.start c.args.place.now.end) c.translate_flow-change.new.message
+    c.args.place.now _ _
     c.requires.place c.requires.place.message message_is c.replaced_ipv6_change-change.ensures
     (subst AreIpv6Addresses c.new_ipv6_addresses-addresses.ensures.new c.new_ipv6_addresses-addresses.ensures.addresses)
     c.translate_flow-change.ensures.verifies
@@ -55,9 +59,15 @@ returns-clause-turns c =
     let added : ℕ = added_value c.replaced_ipv6_change-change.result in
     let header = ipv6_header_put start (end - start) packet translated c.requires.place.header (search rules) in
     let all = flow_turns (total packet) (total between) (total c.replace_ipv6_addresses.new.packet) (total message) (total translated)
-    old.source old.destination new.source new.destination removed added 0 0 (removed_value c.translate_flow-change.result) (added_value c.translate_flow-change.result)
+    old.source old.destination new.source new.destination removed added 0 0 (removed_value c.translate_flow-change.result)
+    (added_value c.translate_flow-change.result)
     c.replaced_ipv6_change-change.ensures
     (c.translate_flow-change.ensures.turns (removed + total message) added (ap folded (omega arith)))
     (message_total start end packet translated c.requires.place.even (search rules) c.requires.place.ordered c.requires.place.there)
-    (omega (arith, c.replace_ipv6_addresses.ensures.total, ap total_of_ipv6 header, ap (λ header. total_of_ipv6 (addresses_from c.args.new.now header)) header)) in
+    (omega (
+      arith,
+      c.replace_ipv6_addresses.ensures.total,
+      ap total_of_ipv6 header,
+      ap (λ header. total_of_ipv6 (addresses_from c.args.new.now header)) header,
+    )) in
     omega (arith, all)

@@ -26,10 +26,15 @@ returns-clause-translated c =
     let first_added : added_value c.replace_2bytes.result ≢ 0 = λ none.
     folded_some (added_value flow + total first) (λ zero. first_some (omega (arith, zero))) (sym c.replace_2bytes.ensures.added ∙ none) in
     let some : added_value c.and.result ≢ 0 = λ none.
-    folded_some (added_value c.args.addresses + added_value c.replace_2bytes.result) (λ zero. first_added (omega (arith, zero))) (sym c.and.ensures.added ∙ none) in
-    let changed_some : total changed ≢ 0 = first_counts changed (λ none. version (sym c.translate_ipv6_flow-change.ensures.version ∙ none)) in
-    let checksum = quote_alike (number 2 (put_mid 8 (end - 8) message changed)) (removed_value c.args.addresses) (added_value c.args.addresses) (total quoted) (total changed)
-    (removed_value c.and.result) (added_value c.and.result) (subst (λ n. n < 65536) (sym c.and.ensures.removed) (folded-lt (removed_value c.args.addresses + removed_value c.replace_2bytes.result))) some changed_some
+    folded_some (added_value c.args.addresses + added_value c.replace_2bytes.result) (λ zero. first_added (omega (arith, zero)))
+    (sym c.and.ensures.added ∙ none) in
+    let changed_some : total changed ≢ 0 =
+    first_counts changed (λ none. version (sym c.translate_ipv6_flow-change.ensures.version ∙ none)) in
+    let checksum = quote_alike (number 2 (put_mid 8 (end - 8) message changed)) (removed_value c.args.addresses)
+    (added_value c.args.addresses) (total quoted) (total changed)
+    (removed_value c.and.result) (added_value c.and.result)
+    (subst (λ n. n < 65536) (sym c.and.ensures.removed)
+    (folded-lt (removed_value c.args.addresses + removed_value c.replace_2bytes.result))) some changed_some
     (omega (
       arith,
       c.translate_ipv6_flow-change.ensures.turns,
@@ -40,8 +45,10 @@ returns-clause-translated c =
     )) in
     c.update_checksum.ensures.updated
     ∙ ap (λ checksum. with_number 2 checksum (put_mid 8 (end - 8) message changed)) checksum
-    ∙ ap (with_updated_checksum (folded (removed_value c.args.addresses + total quoted)) (folded (added_value c.args.addresses + total changed))) (put_is 8 end message changed (search rules))
-    ∙ ap (λ changed. with_updated_checksum (folded (removed_value c.args.addresses + total quoted)) (folded (added_value c.args.addresses + total changed)) (with_bytes 8 changed message)) changed_is
+    ∙ ap (with_updated_checksum (folded (removed_value c.args.addresses + total quoted))
+    (folded (added_value c.args.addresses + total changed))) (put_is 8 end message changed (search rules))
+    ∙ ap (λ changed. with_updated_checksum (folded (removed_value c.args.addresses + total quoted))
+    (folded (added_value c.args.addresses + total changed)) (with_bytes 8 changed message)) changed_is
 
 pub returns-clause-verifies : goal.returns-clause-verifies
 returns-clause-verifies c = λ before after turns some some_too.
@@ -66,7 +73,8 @@ returns-clause-verifies c = λ before after turns some some_too.
     turns_shifted before (added_value c.args.addresses) after (removed_value c.args.addresses) (total quoted) turns in
     let joined = c.and.ensures.joins (before + total quoted) (after + total quoted) (after + total changed) shifted
     (ap folded (omega arith)
-    ∙ turns_shifted (total quoted) (added_value c.replace_2bytes.result) (total changed) (removed_value c.replace_2bytes.result) after turned
+    ∙ turns_shifted (total quoted) (added_value c.replace_2bytes.result) (total changed)
+    (removed_value c.replace_2bytes.result) after turned
     ∙ ap folded (omega arith)) in
     error_alike before after message between c.update_checksum.new.message (total quoted) (total changed)
     (message_total 8 end message changed refl (search rules) (omega arith) c.requires.room)

@@ -12,6 +12,9 @@ returns-clause-there_and_back c =
     let packet : List ℕ = c.args.packet.now in
     let new : Ipv6Translation = c.args.new.now in
     let result = c.translate_ipv6_by.result in
-    if_ok_four result c.translate_ipv6_by.ensures.bytes c.translate_ipv6_by.ensures.types (if_ok_accepted result _ c.translate_ipv6_by.ensures.refused) c.translate_ipv6_by.ensures.translated
-    (λ bytes types accepted is. subst (λ changed. (ipv6_translated_with (ipv6_flow_back new packet) (ipv6_quoted_back (ipv6_quoted packet) c.args.quoted.now) changed ≡ packet) ↔ IsIpv6RestoredWith packet)
+    if_ok_four result c.translate_ipv6_by.ensures.bytes c.translate_ipv6_by.ensures.types
+    (if_ok_accepted result _ c.translate_ipv6_by.ensures.refused) c.translate_ipv6_by.ensures.translated
+    (λ bytes types accepted is. subst
+    (λ changed. (ipv6_translated_with (ipv6_flow_back new packet) (ipv6_quoted_back (ipv6_quoted packet) c.args.quoted.now) changed
+    ≡ packet) ↔ IsIpv6RestoredWith packet)
     (sym is) (ipv6_both_there_and_back _ _ new c.args.quoted.now packet bytes types.0 types.1 accepted))

@@ -8,5 +8,6 @@ use Rattle.etherparse_transport.proofs.ip.translated_message.is_rest_zero.Goals 
 pub returns : goal.returns
 returns c =
     let message : List ℕ = c.args.message.now in
-    zero_test _ _ _ _ _ _ (rest_of_message message) c.new.ensures c.add_slice.ensures.sum c.add_slice-sum.ensures.sum c.ones_complement.ensures
+    zero_test _ _ _ _ _ _ (rest_of_message message) c.new.ensures c.add_slice.ensures.sum c.add_slice-sum.ensures.sum
+    c.ones_complement.ensures
     (rest_parts message c.requires.there ∙ sym (ap (λ bytes. total (take 2 message) + total bytes) (take_rest message 4)))

@@ -22,9 +22,11 @@ returns-clause-verifies c = λ before after turns some.
     let without : ℕ = total (with_checksum 2 message 0) in
     let without_too : ℕ = total (with_checksum 2 between 0) in
     let was : without + number 2 message ≡ total message + 0 = stored_number_total 2 0 message refl (omega arith) (omega (arith, long)) in
-    let is : without_too + number 2 between ≡ total between + 0 = stored_number_total 2 0 between refl (omega arith) (omega (arith, long, len)) in
+    let is : without_too + number 2 between ≡ total between + 0 =
+    stored_number_total 2 0 between refl (omega arith) (omega (arith, long, len)) in
     let replaced : total between + number 4 message ≡ total message + new = c.replace_number-change.ensures.total long in
-    let stored : total translated + number 2 between ≡ total between + checksum = c.replace_number.ensures.total (omega (arith, long, len)) in
+    let stored : total translated + number 2 between ≡ total between + checksum =
+    c.replace_number.ensures.total (omega (arith, long, len)) in
     let old_is : total c.to_be_bytes.result ≡ number 4 message = omega (arith, ap total c.to_be_bytes.ensures, c.number-old.ensures) in
     let new_is : total c.to_be_bytes-2.result ≡ new = omega (arith, ap total c.to_be_bytes-2.ensures) in
     let shifted : TurnsInto c.args.covered (before + without) (after + without) =

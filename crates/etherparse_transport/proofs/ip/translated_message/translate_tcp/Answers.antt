@@ -14,7 +14,8 @@ returns-clause-verifies c = λ before after turns some some_too long.
     let checksum : ℕ = number 16 message in
     let same : number 16 with_ports ≡ checksum =
     ap (number 16) c.replace_ports-change.ensures.ports
-    ∙ number_after 2 (port_or c.args.destination_port 2 message) 16 (with_number 0 (port_or c.args.source_port 0 message) message) (omega arith)
+    ∙ number_after 2 (port_or c.args.destination_port 2 message) 16 (with_number 0 (port_or c.args.source_port 0 message) message)
+    (omega arith)
     ∙ number_after 0 (port_or c.args.source_port 0 message) 16 message (omega arith) in
     let without : ℕ = total (with_checksum 16 message 0) in
     let without_too : ℕ = total (with_checksum 16 with_ports 0) in
@@ -26,7 +27,8 @@ returns-clause-verifies c = λ before after turns some some_too long.
     c.replace_number.ensures.total (omega (arith, long, len)) in
     let ports = c.replace_ports-change.ensures.total (omega (arith, long)) in
     let turned : TurnsInto c.replace_ports-change.result (before + without) (after + without_too) =
-    c.replace_ports-change.ensures.extends (omega (arith, long)) before after without without_too turns (omega (arith, was, is, same, ports)) in
+    c.replace_ports-change.ensures.extends (omega (arith, long)) before after without without_too turns
+    (omega (arith, was, is, same, ports)) in
     let sum : before + without + c.number-checksum.result ≡ before + total message = omega (arith, was, c.number-checksum.ensures) in
     let sum_too : after + without_too + c.apply.result ≡ after + total translated = omega (arith, is, stored) in
     let remainder = c.apply.ensures.remainder (before + without) (after + without_too) turned in

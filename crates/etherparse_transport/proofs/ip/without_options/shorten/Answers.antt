@@ -20,7 +20,8 @@ destination_len c =
 
 -- the packet is the new header, the message, and the bytes after the message
 written : (c : goal.After-slice_known-2-1) → c.replace_header.new.packet
-    ≡ header_without_options c.args.packet.now ++ (ipv4_message c.args.packet.now ++ drop (len_without_options c.args.packet.now) c.args.packet.now)
+    ≡ header_without_options c.args.packet.now
+    ++ (ipv4_message c.args.packet.now ++ drop (len_without_options c.args.packet.now) c.args.packet.now)
 written c =
     let packet : List ℕ = c.args.packet.now in
     let is : IsIpv4Request packet = c.requires.request in

@@ -8,10 +8,12 @@ use Rattle.etherparse_transport.proofs.ip.write_packet.write_message_ipv6.Goals 
 pub returns-in-Tcp-clause-valid : goal.returns-in-Tcp-clause-valid
 returns-in-Tcp-clause-valid c =
     let IsValid : TransportHeader → Type 0 = λ header.
-    IsValidOverIpv6 c.args.source c.args.destination (sent_over_ipv6 c.args.source c.args.destination header c.args.payload.now) c.args.payload.now in
+    IsValidOverIpv6 c.args.source c.args.destination
+    (sent_over_ipv6 c.args.source c.args.destination header c.args.payload.now) c.args.payload.now in
     subst IsValid (sym c.in-Tcp.is) c.write_tcp_ipv6.ensures.valid
 
 pub returns-in-Tcp-clause-reads_back : goal.returns-in-Tcp-clause-reads_back
 returns-in-Tcp-clause-reads_back c =
-    let IsRead : TransportHeader → Type 0 = λ header. IsReadBack (sent_over_ipv6 c.args.source c.args.destination header c.args.payload.now) c.args.payload.now in
+    let IsRead : TransportHeader → Type 0 =
+    λ header. IsReadBack (sent_over_ipv6 c.args.source c.args.destination header c.args.payload.now) c.args.payload.now in
     subst IsRead (sym c.in-Tcp.is) c.write_tcp_ipv6.ensures.reads_back

@@ -14,10 +14,14 @@ returns-clause-read c = λ padding.
 pub returns-clause-written : goal.returns-clause-written
 returns-clause-written c =
     let start : ℕ = message_len c.args.header.now (length c.args.payload.now) in
-    let header : List ℕ = ipv6_header (ipv6_start start) (number_of (proto_of c.args.header.now)) c.args.hop_limit c.args.source c.args.destination in
-    let message : List ℕ = wire (sent_over_ipv6 c.args.source c.args.destination c.args.header.now c.args.payload.now) ++ c.args.payload.now in
+    let header : List ℕ = ipv6_header (ipv6_start start)
+    (number_of (proto_of c.args.header.now)) c.args.hop_limit c.args.source c.args.destination in
+    let message : List ℕ = wire (sent_over_ipv6 c.args.source c.args.destination c.args.header.now c.args.payload.now)
+    ++ c.args.payload.now in
     let is_front : c.copy_from_slice.new.self ≡ header = search rules in
-    let is_rest : c.write_message_ipv6.new.message ≡ message ++ drop (message_len c.args.header.now (length c.args.payload.now)) (drop 40 c.args.slice.now) = search rules in
+    let is_rest : c.write_message_ipv6.new.message ≡ message
+    ++ drop (message_len c.args.header.now (length c.args.payload.now)) (drop 40 c.args.slice.now) = search rules in
     let header_len : ℕ = c.counted_header_len-header_len.result in
-    let len : 40 + message_len c.args.header.now (length c.args.payload.now) ≡ 40 + (header_len + length c.args.payload.now) = omega (arith, c.counted_header_len-header_len.ensures.value) in
+    let len : 40 + message_len c.args.header.now (length c.args.payload.now) ≡ 40 + (header_len + length c.args.payload.now) =
+    omega (arith, c.counted_header_len-header_len.ensures.value) in
     joined c.args.slice.now _ _ header message 40 _ is_front is_rest ∙ ap (λ n. (header ++ message) ++ drop n c.args.slice.now) len

@@ -7,6 +7,8 @@ use Rattle.etherparse_transport.proofs.ip.write_packet.write_tcp.Goals as goal
 
 pub returns-clause-reads_back : goal.returns-clause-reads_back
 returns-clause-reads_back c =
-    let IsRead : Result ℕ LenError → Type 0 = λ result. IfOk result (λ _. (payload : List ℕ) → tcp.DecodesAs (tcp.wire c.args.header.now ++ payload) c.args.header.now payload) in
+    let IsRead : Result ℕ LenError → Type 0 =
+    λ result. IfOk result (λ _. (payload : List ℕ) → tcp.DecodesAs (tcp.wire c.args.header.now ++ payload) c.args.header.now payload) in
     let decodes : IsRead (c.write_to_slice.result) = c.write_to_slice.ensures.reads_back in
-    reads_back_with c.args.header.now c.args.checksum c.args.payload.now (subst IsRead c.unwrap.ensures decodes c.args.payload.now) (search rules) (search rules)
+    reads_back_with c.args.header.now c.args.checksum c.args.payload.now (subst IsRead c.unwrap.ensures decodes c.args.payload.now)
+    (search rules) (search rules)

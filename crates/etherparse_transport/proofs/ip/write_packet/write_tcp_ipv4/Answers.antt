@@ -8,6 +8,7 @@ pub returns-clause-reads_back : goal.returns-clause-reads_back
 returns-clause-reads_back c =
     let IsRead : TcpHeader → Type 0 = λ header. tcp.DecodesAs (tcp.wire header ++ c.args.payload.now) header c.args.payload.now in
     let Sent : ℕ → Type 0 = λ checksum. IsRead (record c.args.header.now { checksum = checksum }) in
-    let summed : c.unwrap-checksum.result ≡ checksum_of (tcp.checksummed_ipv4 c.args.source c.args.destination (tcp.wire c.args.header.now) c.args.payload.now) =
+    let summed : c.unwrap-checksum.result ≡ checksum_of (tcp.checksummed_ipv4 c.args.source c.args.destination
+    (tcp.wire c.args.header.now) c.args.payload.now) =
     search rules in
     subst Sent summed c.write_tcp.ensures.reads_back
