@@ -1,6 +1,7 @@
 //! Tests of the crate `capture_text`.
 
 mod conversations;
+mod endpoints;
 mod further_fields;
 mod icmp;
 mod packet_lines;

@@ -2,7 +2,9 @@ use crate::expect::{expect_ok, expect_written};
 use crate::summaries::{flow_of_ipv4, judge, new_summary, refuse};
 use capture_file::pcapng::TimeResolution;
 use capture_file::{LinkType, PacketTime};
-use capture_summary::{CaptureInfo, FrameLen, Protocol, RefusalKind, Summary, VerdictKind};
+use capture_summary::{
+    Busiest, CaptureInfo, FrameLen, Protocol, RefusalKind, Summary, VerdictKind,
+};
 use capture_text::write_summary;
 use std::process::Abort;
 
@@ -40,6 +42,11 @@ IP version                          2
 busiest conversations                 packets         bytes   packets >       bytes >   packets <       bytes < first packet                duration         bits a second
 UDP 192.0.2.1:49152 <> 192.0.2.2:53         2          1044           1          1000           1            44 2023-11-14T22:13:20.000000Z 00:00:00.500000          16704
 packets without ports                       3           268
+
+busiest endpoints           packets         bytes
+192.0.2.1                         2          1044
+192.0.2.2                         2          1044
+packets without ports             3           268
 ";
 
 /// What a capture states about a packet with this number of bytes, captured at this second and this number of microseconds.
@@ -83,9 +90,9 @@ fn refuse_two(rt: &impl Abort, summary: &mut Summary) {
     }
 }
 
-/// Stops the test unless this is the text of a summary with the ten busiest conversations.
+/// Stops the test unless this is the text of a summary with the ten busiest conversations and endpoints.
 fn expect_tables(rt: &(impl Abort + AllocGlobal), summary: &Summary, wanted: &str) {
-    let busiest = expect_ok(rt, summary.flows().busiest(rt.alloc(), 10));
+    let busiest = expect_ok(rt, Busiest::of(summary.flows(), rt.alloc(), 10));
     let mut text = Vec::new(rt.alloc());
     expect_ok(rt, write_summary(&mut text, summary, &busiest));
     expect_written(rt, &text, wanted);

@@ -192,38 +192,57 @@ three_parts name before middle more =
     ∙ ap (λ text. print middle ++ text) (bracket_first (fold (λ _ one. ends one) false middle) more))
 
 -- members, an array of rows, and more members: their tokens in three parts
-parts : {X : Type 0} (name : List ℕ) (value : X → Data) (first more : List Member) (rows : List X)
-    → object_ended (with_members (first ++ (name, array_of (map value rows)) ∷ more) (token.begin_object ∷ []))
-    ≡ array_begun name (with_members first (token.begin_object ∷ []))
+parts : {X : Type 0} (name : List ℕ) (value : X → Data) (first more : List Member) (rows : List X) (start : List Token)
+    → object_ended (with_members (first ++ (name, array_of (map value rows)) ∷ more) start)
+    ≡ array_begun name (with_members first start)
     ++ (flat_map (λ row. value_tokens (value row)) rows ++ token.end_array ∷ members_tokens (members_outline (members_of more)))
 unfolding put
-parts name value first more rows =
-    let head = with_members first (token.begin_object ∷ []) in
+parts name value first more rows start =
+    let head = with_members first start in
     let middle = flat_map (λ row. value_tokens (value row)) rows in
     let end = members_tokens (members_outline (members_of more)) in
-    ap object_ended (with_append first ((name, array_of (map value rows)) ∷ more) (token.begin_object ∷ []))
+    ap object_ended (with_append first ((name, array_of (map value rows)) ∷ more) start)
     ∙ closed more (put name (array_of (map value rows)) head)
     ∙ append_assoc head (token.key name ∷ value_tokens (array_of (map value rows))) end
     ∙ ap (λ items. head ++ token.key name ∷ token.begin_array ∷ (items ++ end)) (items_are value rows)
     ∙ ap (λ items. head ++ token.key name ∷ token.begin_array ∷ items) (append_assoc middle (token.end_array ∷ []) end)
     ∙ sym (append_assoc head (token.key name ∷ token.begin_array ∷ []) (middle ++ token.end_array ∷ end))
 
--- the text of a line whose rows are written in order
-pub line_by_rows : {X : Type 0} (name : List ℕ) (members : X → List Member) (first more : List Member) (rows : List X)
-    → print (array_begun name (with_members first (token.begin_object ∷ [])))
+-- the text of members after these tokens, if an array among them is written row by row
+text_by_rows : {X : Type 0} (name : List ℕ) (members : X → List Member) (first more : List Member) (rows : List X) (start : List Token)
+    → print (array_begun name (with_members first start))
     ++ (rows_text (λ row. object_of (members row)) rows ++ line_text (with_members more (token.end_array ∷ [])))
-    ≡ json_line (first ++ (name, array_of (map (λ row. object_of (members row)) rows)) ∷ more)
-line_by_rows {X} name members first more rows =
+    ≡ line_text (with_members (first ++ (name, array_of (map (λ row. object_of (members row)) rows)) ∷ more) start)
+text_by_rows {X} name members first more rows tokens =
     let value = λ (row : X). object_of (members row) in
-    let head = with_members first (token.begin_object ∷ []) in
+    let head = with_members first tokens in
     let middle = flat_map (λ row. value_tokens (value row)) rows in
     let end = members_tokens (members_outline (members_of more)) in
     let feed = codes "\n" in
     let start = print (array_begun name head) in
-    sym (sym (line_is (first ++ (name, array_of (map value rows)) ∷ more))
-    ∙ ap (λ tokens. print tokens ++ feed) (parts name value first more rows)
+    sym (ap (λ all. print all ++ feed) (parts name value first more rows tokens)
     ∙ ap (λ text. text ++ feed) (three_parts name head middle end)
     ∙ append_assoc start (print middle ++ print (token.end_array ∷ end)) feed
     ∙ ap (λ text. start ++ text) (append_assoc (print middle) (print (token.end_array ∷ end)) feed)
     ∙ ap (λ text. start ++ (text ++ (print (token.end_array ∷ end) ++ feed))) (rows_are members rows)
-    ∙ ap (λ tokens. start ++ (rows_text value rows ++ (print tokens ++ feed))) (sym (closed more (token.end_array ∷ []))))
+    ∙ ap (λ all. start ++ (rows_text value rows ++ (print all ++ feed))) (sym (closed more (token.end_array ∷ []))))
+
+-- the text of a line in which two arrays are written row by row
+pub line_by_two_rows : {X Y : Type 0} (name next : List ℕ) (members : X → List Member) (next_members : Y → List Member) (first more : List Member)
+    (rows : List X) (others : List Y)
+    → print (array_begun name (with_members first (token.begin_object ∷ [])))
+    ++ (rows_text (λ row. object_of (members row)) rows
+    ++ ((print (array_begun next (token.end_array ∷ [])) ++ rows_text (λ row. object_of (next_members row)) others)
+    ++ line_text (with_members more (token.end_array ∷ []))))
+    ≡ json_line (first ++ (name, array_of (map (λ row. object_of (members row)) rows))
+    ∷ (next, array_of (map (λ row. object_of (next_members row)) others)) ∷ more)
+line_by_two_rows {X} {Y} name next members next_members first more rows others =
+    let begun = print (array_begun name (with_members first (token.begin_object ∷ []))) in
+    let second : Member = (next, array_of (map (λ (row : Y). object_of (next_members row)) others)) in
+    let begun_next = print (array_begun next (token.end_array ∷ [])) in
+    let ended = line_text (with_members more (token.end_array ∷ [])) in
+    ap (λ text. begun ++ (rows_text (λ (row : X). object_of (members row)) rows ++ text))
+    (append_assoc begun_next (rows_text (λ (row : Y). object_of (next_members row)) others) ended
+    ∙ text_by_rows next next_members [] more others (token.end_array ∷ []))
+    ∙ text_by_rows name members first (second ∷ more) rows (token.begin_object ∷ [])
+    ∙ line_is (first ++ (name, array_of (map (λ (row : X). object_of (members row)) rows)) ∷ second ∷ more)

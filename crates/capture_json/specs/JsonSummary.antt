@@ -8,6 +8,7 @@ use Rattle.capture_summary.specs.Rates.{average_len, rates_of}
 use Rattle.capture_summary.specs.declared.rates.Rates.{Rates}
 use Rattle.capture_words.specs.AbsoluteTime.{absolute_text}
 use Rattle.capture_summary.specs.Conversations.{both}
+use Rattle.capture_summary.specs.Endpoints.{busiest_endpoints}
 use Rattle.capture_words.specs.Elapsed.{elapsed_text}
 use Rattle.capture_file.specs.declared.reader.capture_reader.CaptureReader.{CaptureReader}
 use Rattle.capture_json.specs.JsonFacts.{facts_members}
@@ -18,6 +19,7 @@ use Rattle.capture_json.specs.Words.{with_underscores}
 use Rattle.capture_summary.specs.Ranking.{busiest_of}
 use Rattle.capture_summary.specs.SummaryTables.{SummaryTables}
 use Rattle.capture_summary.specs.declared.count.Count.{Count}
+use Rattle.capture_summary.specs.declared.endpoint_count.EndpointCount.{EndpointCount}
 use Rattle.capture_summary.specs.declared.flow.Flow.{Flow}
 use Rattle.capture_summary.specs.declared.time_span.TimeSpan.{TimeSpan}
 use Rattle.capture_summary.specs.declared.conversation_count.ConversationCount.{ConversationCount}
@@ -98,6 +100,20 @@ uncounted_members without_ports without_room =
     (codes "packets_without_ports", object_of (count_members without_ports))
     ∷ (codes "packets_of_other_flows", object_of (count_members without_room)) ∷ []
 
+-- ---- endpoints
+
+-- an endpoint: its address, and the count of its packets
+abbrev pub endpoint_members : EndpointCount → List Member
+endpoint_members row = (codes "address", string (ip_text row.address)) ∷ count_members row.count
+
+-- an endpoint, as an object
+abbrev pub endpoint_data : EndpointCount → Data
+endpoint_data row = object_of (endpoint_members row)
+
+-- the addresses with the most packets
+abbrev pub endpoints_member : List EndpointCount → Member
+endpoints_member endpoints = (codes "endpoints", array_of (map endpoint_data endpoints))
+
 -- ---- the summary
 
 -- the average number of bytes of a packet, if there are packets
@@ -126,11 +142,13 @@ head_members capture tables = type_member (codes "summary") ∷ (facts_members c
 abbrev pub tables_members : Option CaptureReader → SummaryTables → List Member
 tables_members capture tables = head_members capture tables ++ rows_members tables
 
--- all members of the summary, with these conversations
-abbrev pub summary_members : Option CaptureReader → List ConversationCount → SummaryTables → List Member
-summary_members capture busiest tables =
-    tables_members capture tables ++ busiest_member busiest ∷ uncounted_members tables.flows.without_ports tables.flows.without_room
+-- all members of the summary, with these conversations and endpoints
+abbrev pub summary_members : Option CaptureReader → List ConversationCount → List EndpointCount → SummaryTables → List Member
+summary_members capture conversations endpoints tables =
+    tables_members capture tables ++ busiest_member conversations ∷ endpoints_member endpoints
+    ∷ uncounted_members tables.flows.without_ports tables.flows.without_room
 
--- the line of the summary, with at most `top` of the busiest conversations
+-- the line of the summary, with at most `top` of the busiest conversations, and at most `top` of the busiest endpoints
 abbrev pub json_summary : Option CaptureReader → ℕ → SummaryTables → List ℕ
-json_summary capture top tables = json_line (summary_members capture (busiest_of top tables.flows.rows) tables)
+json_summary capture top tables =
+    json_line (summary_members capture (busiest_of top tables.flows.rows) (busiest_endpoints top tables.flows.rows) tables)

@@ -143,7 +143,7 @@ pub fn put_count(line: &mut Line, name: &str, count: Count) -> Result<(), AllocE
 }
 
 /// Writes the packets and bytes of a count.
-fn put_packets_and_bytes(line: &mut Line, count: Count) -> Result<(), AllocError>
+pub(crate) fn put_packets_and_bytes(line: &mut Line, count: Count) -> Result<(), AllocError>
     ensures { OnOk result (tokens_in line.new ≡ with_members (count_members count) (tokens_in line.old)) }
 {
     line.put_number("packets", count.packets)?;

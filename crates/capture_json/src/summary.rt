@@ -9,20 +9,21 @@ ghost use Rattle.capture_json.specs.JsonPacket.{json_line};
 ghost use Rattle.capture_json.specs.JsonSummary.{counts_data, counts_member, row_member, rows_data, summary_members, tables_members, uncounted_members};
 
 use crate::Line;
+use crate::endpoints::write_endpoints;
 use crate::facts::put_facts;
 use crate::flows::{put_count, put_uncounted, write_rows};
 use crate::text::{as_text, fill_with_underscores, write_line, write_part};
 use crate::totals::put_totals;
 use capture_file::reader::CaptureReader;
 use capture_request::WriteError;
-use capture_summary::{ConversationCount, Count, Summary};
+use capture_summary::{Busiest, Count, Summary};
 use std::alloc::Global;
 use std::io;
 use std::io::Write;
 
 /// Writes the summary as a JSON object of the type `summary`, on its own line. The object contains the facts of the capture, the numbers of
 /// packets, bytes and conversations, the times, and each table under its name. If `capture` is `None`, the facts are left out. The
-/// conversations are written row by row, so that the memory does not grow with their number.
+/// conversations and the endpoints are written row by row, so that the memory does not grow with their number.
 ///
 /// # Errors
 ///
@@ -32,12 +33,14 @@ pub fn write_summary<W: Write>(
     alloc: Global,
     capture: &Option<CaptureReader>,
     summary: &Summary,
-    busiest: &[ConversationCount],
+    busiest: &Busiest,
 ) -> Result<(), WriteError>
-    ensures { OnOk result (Appends (W.contents output.old) (W.contents output.new) (json_line (summary_members capture.now busiest.now summary.now))) }
+    ensures { OnOk result (Appends (W.contents output.old) (W.contents output.new)
+        (json_line (summary_members capture.now busiest.now.conversations.items busiest.now.endpoints.items summary.now))) }
 {
     write_tables(output, alloc, capture, summary)?;
-    write_rows(output, alloc, busiest)?;
+    write_rows(output, alloc, busiest.conversations.as_slice())?;
+    write_endpoints(output, alloc, busiest.endpoints.as_slice())?;
     let flows = summary.flows();
     write_end(output, alloc, flows.without_ports(), flows.without_room())
 }
@@ -65,7 +68,7 @@ fn write_tables<W: Write>(
     }
 }
 
-/// Writes everything after the last conversation: the end of the array, and the counts of packets that belong to no row.
+/// Writes everything after the last endpoint: the end of the array, and the counts of packets that belong to no row.
 fn write_end<W: Write>(
     output: &mut W,
     alloc: Global,

@@ -4,6 +4,7 @@ ghost use Rattle.capture_file.specs.declared.reader.capture_reader.CaptureReader
 ghost use Rattle.capture_run.specs.Captures.{only_capture, progress_of};
 ghost use Rattle.capture_request.specs.Endings.{status_of};
 ghost use Rattle.capture_run.specs.PacketsText.{IsCaptureReport, empty_line, end_text, has_headings, has_packet_line, summary_in};
+ghost use Rattle.capture_summary.specs.Endpoints.{busiest_endpoints};
 ghost use Rattle.capture_summary.specs.Ranking.{busiest_of};
 ghost use Rattle.capture_request.specs.ExitStatuses.{final_status, greater};
 ghost use Rattle.capture_request.specs.Limits.{EndsByLimit, IsWithin, is_full, limited};
@@ -20,7 +21,7 @@ use crate::packets::report_packets;
 use crate::{CaptureError, ExitStatus, Format, Lines, MAX_PACKET_LEN, Parts, Reached, WriteError};
 use capture_facts::write_facts;
 use capture_file::reader::CaptureReader;
-use capture_summary::{ConversationCount, Summary};
+use capture_summary::{Busiest, Summary};
 use capture_text::write_summary;
 use std::alloc::Global;
 use std::hash::RandomState;
@@ -199,19 +200,21 @@ impl CaptureReports {
         if self.is_empty || !self.parts.summary {
             return Ok(());
         }
-        let busiest = self.summary.flows().busiest(alloc, self.parts.top)?;
-        self.write_summary(count, busiest.as_slice(), alloc, output)
+        let busiest = Busiest::of(self.summary.flows(), alloc, self.parts.top)?;
+        self.write_summary(count, &busiest, alloc, output)
     }
 
-    /// Writes the summary in the requested format. The summary lists the conversations `busiest`.
+    /// Writes the summary in the requested format. The summary lists the conversations and endpoints in `busiest`.
     fn write_summary<W: Write>(
         &self,
         count: usize,
-        busiest: &[ConversationCount],
+        busiest: &Busiest,
         alloc: Global,
         output: &mut W,
     ) -> Result<(), WriteError>
-        ensures { busiest.now ≡ busiest_of self.now.parts.top self.now.summary.flows.rows → OnOk result (Appends (W.contents output.old) (W.contents output.new)
+        ensures { busiest.now.conversations.items ≡ busiest_of self.now.parts.top self.now.summary.flows.rows
+            → busiest.now.endpoints.items ≡ busiest_endpoints self.now.parts.top self.now.summary.flows.rows
+            → OnOk result (Appends (W.contents output.old) (W.contents output.new)
             (summary_in self.now.parts.format self.now.parts count self.now.capture self.now.summary)) }
     {
         let (capture, summary) = (&self.capture, &self.summary);
@@ -226,12 +229,12 @@ impl CaptureReports {
     fn write_text_summary<W: Write>(
         &self,
         count: usize,
-        busiest: &[ConversationCount],
+        busiest: &Busiest,
         output: &mut W,
     ) -> Result<(), WriteError>
         ensures { OnOk result (Appends (W.contents output.old) (W.contents output.new)
-            (empty_line self.now.parts.lines count self.now.summary
-            ++ (facts_text self.now.capture ++ tables_text busiest.now self.now.summary))) }
+            (empty_line self.now.parts.lines count self.now.summary ++ (facts_text self.now.capture
+            ++ tables_text busiest.now.conversations.items busiest.now.endpoints.items self.now.summary))) }
     {
         write_empty_line(output, self.parts.lines, count, &self.summary)?;
         Ok(write_facts_and_tables(output, &self.capture, &self.summary, busiest)?)
@@ -254,9 +257,10 @@ fn write_facts_and_tables<W: Write>(
     output: &mut W,
     capture: &Option<CaptureReader>,
     summary: &Summary,
-    busiest: &[ConversationCount],
+    busiest: &Busiest,
 ) -> io::Result<()>
-    ensures { OnOk result (Appends (W.contents output.old) (W.contents output.new) (facts_text capture.now ++ tables_text busiest.now summary.now)) }
+    ensures { OnOk result (Appends (W.contents output.old) (W.contents output.new) (facts_text capture.now
+        ++ tables_text busiest.now.conversations.items busiest.now.endpoints.items summary.now)) }
 {
     write_facts(output, capture)?;
     write_summary(output, summary, busiest)

@@ -111,6 +111,8 @@ summary_of_five : summary_text 10 five_packets
     ++ codes " first packet                duration         bits a second\n"
     ++ codes "UDP 192.0.2.1:49152 <> 192.0.2.2:53         2          1044           1          1000           1            44\n"
     ++ codes "packets without ports                       3           268\n"
+    ++ codes "\nbusiest endpoints           packets         bytes\n192.0.2.1                         2          1044\n"
+    ++ codes "192.0.2.2                         2          1044\npackets without ports             3           268\n"
 unfolding char_count digits encode_utf8 padded padded_integral take_chars
 summary_of_five = refl
 

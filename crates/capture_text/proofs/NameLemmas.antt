@@ -1,8 +1,10 @@
--- Laws of the length of the name of a conversation.
+-- Laws of the length of the name of a conversation, and of the length of an address.
 use Rattle.std.specs.Prelude.{List, [], ◌∷◌, ℕ, ◌+◌, ◌*◌, ◌-◌, ◌/◌, ◌%◌, ◌^◌, ◌≤◌, ◌<◌, ◌++◌, ◌==◌, Bool, true, false, bytes_eq, codes, decimal, drop, flat_map, if◌then◌else◌, length, nat_lt, slice_index, take}
-use Rattle.std.specs.Net.Addr.{ipv4_octets, ipv6_segments, octets_of}
+use Rattle.std.specs.Net.Addr.{IsIpv4Addr, IsIpv6Addr, MatchIp, ipv4_octets, ipv6_segments, octets_of}
 use Rattle.std.specs.Net.Socket.{IsSocketAddr}
-use Rattle.std.specs.Net.Text.{groups_text, hex, hex_groups_text, ipv4_text, ipv6_text, leading_zero_digits, longest_zero_run, scope_text, socket_text}
+use Rattle.std.specs.Net.Text.{groups_text, hex, hex_groups_text, ip_text, ipv4_text, ipv6_text, leading_zero_digits, longest_zero_run, scope_text, socket_text}
+use Rattle.std.specs.declared.net.ip_addr.IpAddr.{IpAddr}
+use Rattle.std.specs.declared.net.ip_addr.IpAddr.TheVariants as Ip
 use Rattle.std.specs.declared.net.socket_addr.SocketAddr.{SocketAddr}
 use Rattle.std.specs.declared.net.socket_addr.SocketAddr.TheVariants as Socket
 use Rattle.capture_summary.specs.Kinds.{flow_protocol_word}
@@ -115,6 +117,10 @@ ipv6_by segments false eight small =
 length-ipv6 : (segments : List ℕ) → length segments ≡ 8 → ((k : ℕ) → slice_index segments k < 2 ^ 16) → length (ipv6_text segments) ≤ 41
 unfolding ipv6_text
 length-ipv6 segments = ipv6_by segments (bytes_eq (take 6 segments) (0 ∷ 0 ∷ 0 ∷ 0 ∷ 0 ∷ 0xffff ∷ []))
+
+pub length-address : (address : IpAddr) → MatchIp address IsIpv4Addr IsIpv6Addr → length (ip_text address) ≤ 48
+length-address (Ip.V4 ip) is = omega (arith, length-ipv4 (ipv4_octets ip) (λ k. omega (arith, is.1 k)))
+length-address (Ip.V6 ip) is = omega (arith, length-ipv6 (ipv6_segments ip) is.0 is.1)
 
 scope_by : (scope : ℕ) (test : Bool) → scope < 2 ^ 32 → length (if test then [] else codes "%" ++ decimal scope) ≤ 11
 scope_by scope true small = omega arith

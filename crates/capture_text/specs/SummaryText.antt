@@ -2,15 +2,17 @@
 use Rattle.std.specs.Prelude.{ℕ, Bool, ◌-◌, ◌^◌, ◌==◌, ◌&&◌, false, if◌then◌else◌, List, [], ◌++◌, fold, length, max, slice_index, codes, decimal, Option, Some, None}
 use Rattle.std.specs.Fmt.{format_spec, padded, padded_integral, styled_text}
 use Rattle.std.specs.List.{flat_map}
-use Rattle.std.specs.Net.Text.{socket_text}
+use Rattle.std.specs.Net.Text.{ip_text, socket_text}
 use Rattle.capture_summary.specs.declared.verdict_kind.VerdictKind.TheVariants.{Refused}
 use Rattle.capture_summary.specs.Conversations.{both}
+use Rattle.capture_summary.specs.Endpoints.{busiest_endpoints}
 use Rattle.capture_summary.specs.Kinds.{flow_protocol_word, link_rows, protocol_rows, refusal_rows, verdict_place, verdict_rows}
 use Rattle.capture_summary.specs.Ranking.{busiest_of, by_packets}
 use Rattle.capture_summary.specs.Rates.{rates_of}
 use Rattle.capture_summary.specs.SummaryTables.{SummaryTables}
 use Rattle.capture_text.specs.TotalsText.{totals_text}
 use Rattle.capture_summary.specs.declared.count.Count.{Count}
+use Rattle.capture_summary.specs.declared.endpoint_count.EndpointCount.{EndpointCount}
 use Rattle.capture_summary.specs.declared.flow.Flow.{Flow}
 use Rattle.capture_summary.specs.declared.conversation_count.ConversationCount.{ConversationCount}
 use Rattle.capture_summary.specs.declared.rates.Rates.{Rates}
@@ -135,17 +137,47 @@ conversations_table busiest without_ports without_room =
     if is_without_rows busiest without_ports without_room then []
     else conversation_rows busiest without_ports without_room (conversation_width busiest)
 
+-- ---- endpoints
+
+-- the head of the table of endpoints
+abbrev pub endpoints_head : ℕ → List ℕ → List ℕ
+endpoints_head width title = name_cell width title ++ codes "   packets         bytes\n"
+
+-- the width of the column of addresses: the length of the longest address of these endpoints, but at least the width in the other tables
+abbrev pub endpoint_width : List EndpointCount → ℕ
+endpoint_width rows = fold (λ width row. max width (length (ip_text row.address))) name_width rows
+
+-- the row of an endpoint: its address, and the count of its packets
+abbrev pub endpoint_row : ℕ → EndpointCount → List ℕ
+endpoint_row width row =
+    name_cell width (ip_text row.address) ++ (codes " " ++ (number_cell 9 row.count.packets ++ (codes " "
+    ++ (number_cell 13 row.count.bytes ++ codes "\n"))))
+
+-- The head and the rows of the table: the busiest endpoints, and then the packets that no endpoint counts, in the last two rows of the
+-- table of conversations.
+abbrev pub endpoint_rows : List EndpointCount → Count → Count → ℕ → List ℕ
+endpoint_rows endpoints without_ports without_room width =
+    codes "\n" ++ (endpoints_head width (codes "busiest endpoints") ++ (flat_map (endpoint_row width) endpoints
+    ++ (counted_row width (codes "packets without ports") without_ports
+    ++ counted_row width (codes "packets of other flows") without_room)))
+
+-- the table of endpoints; it is left out if there are no endpoints
+abbrev pub endpoints_table : List EndpointCount → Count → Count → List ℕ
+endpoints_table endpoints without_ports without_room =
+    if length endpoints == 0 then [] else endpoint_rows endpoints without_ports without_room (endpoint_width endpoints)
+
 -- ---- the summary
 
--- the totals and the tables, with these conversations; the rows of protocols are in the order of their numbers of packets
-abbrev pub tables_text : List ConversationCount → SummaryTables → List ℕ
-tables_text busiest tables =
+-- the totals and the tables, with these conversations and endpoints; the rows of protocols are in the order of their numbers of packets
+abbrev pub tables_text : List ConversationCount → List EndpointCount → SummaryTables → List ℕ
+tables_text conversations endpoints tables =
     totals_text tables ++ (packets_table tables.packets (codes "link type") (link_rows tables.links)
     ++ (counts_table tables.packets (codes "protocol") (by_packets (protocol_rows tables.protocols))
     ++ (packets_table tables.packets (codes "checksum") (verdict_rows tables.verdicts)
     ++ (packets_table (slice_index tables.verdicts (verdict_place Refused)) (codes "refused") (refusal_rows tables.refusals)
-    ++ conversations_table busiest tables.flows.without_ports tables.flows.without_room))))
+    ++ (conversations_table conversations tables.flows.without_ports tables.flows.without_room
+    ++ endpoints_table endpoints tables.flows.without_ports tables.flows.without_room)))))
 
--- the totals and the tables, with the `top` busiest conversations, or all conversations if there are fewer
+-- the totals and the tables, with the `top` busiest conversations and the `top` busiest endpoints, or all of them if there are fewer
 abbrev pub summary_text : ℕ → SummaryTables → List ℕ
-summary_text top tables = tables_text (busiest_of top tables.flows.rows) tables
+summary_text top tables = tables_text (busiest_of top tables.flows.rows) (busiest_endpoints top tables.flows.rows) tables

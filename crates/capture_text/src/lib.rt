@@ -7,6 +7,7 @@
 
 mod addresses;
 mod arp;
+mod endpoints;
 mod fragment;
 mod interface;
 #[doc(hidden)]
@@ -16,5 +17,6 @@ mod tables;
 mod totals;
 mod verdict;
 
+pub use endpoints::write_endpoints;
 pub use packet_line::write_packet_line;
 pub use tables::{write_conversations, write_summary};

@@ -6,24 +6,27 @@ ghost use Rattle.std.specs.Net.Socket.{IsSocketAddr};
 ghost use Rattle.capture_text.specs.SummaryText as specs;
 ghost use Rattle.capture_text.specs.SummaryText.{conversations_table, counts_table, packets_table, tables_text};
 
+use crate::endpoints::write_endpoints;
 use crate::totals::write_totals;
 use arrayvec::ArrayString;
-use capture_summary::{ConversationCount, Count, Flow, Rates, Summary, TimeSpan, VerdictKind};
+use capture_summary::{
+    Busiest, ConversationCount, Count, Flow, Flows, Rates, Summary, TimeSpan, VerdictKind,
+};
 use capture_words::{write_absolute, write_elapsed};
 use std::fmt::Write as _;
 use std::io;
 use std::io::{ErrorKind, Write};
 
 /// The width of the column of names. Every name fits into it, except names of conversations.
-const NAME_WIDTH: usize = 25;
+pub(crate) const NAME_WIDTH: usize = 25;
 
 /// The room for the name of a conversation, in bytes. A name contains a protocol and two addresses with ports. An IPv6 address with its
 /// port has at most 58 bytes.
 const MOST_CONVERSATION_NAME_LEN: usize = 128;
 
 /// Writes the numbers of packets, bytes and conversations, and the times of the packets. Then it writes the tables of link types,
-/// protocols, checksums, refusals and conversations. The rows of protocols are in the order of `Summary::protocols_by_packets`. The last
-/// table lists the conversations in `busiest`.
+/// protocols, checksums, refusals, conversations and endpoints. The rows of protocols are in the order of `Summary::protocols_by_packets`.
+/// The last two tables list the conversations and the endpoints in `busiest`.
 ///
 /// A table has a name and columns of numbers, which are aligned to the right. Rows that count no packet are left out. A table without rows
 /// is left out too.
@@ -34,18 +37,31 @@ const MOST_CONVERSATION_NAME_LEN: usize = 128;
 pub fn write_summary<W: Write>(
     output: &mut W,
     summary: &Summary,
-    busiest: &[ConversationCount],
+    busiest: &Busiest,
 ) -> io::Result<()>
-    ensures { OnOk result (Appends (W.contents output.old) (W.contents output.new) (tables_text busiest.now summary.now)) }
+    ensures { OnOk result (Appends (W.contents output.old) (W.contents output.new)
+        (tables_text busiest.now.conversations.items busiest.now.endpoints.items summary.now)) }
 {
     let (packets, refused) = (summary.packets(), summary.verdict(VerdictKind::Refused));
-    let flows = summary.flows();
+    let (without_ports, without_room) = uncounted(summary.flows());
     write_totals(output, summary)?;
     write_table(output, "link type", &summary.links(), packets)?;
     write_protocols(output, &summary.protocols_by_packets(), packets)?;
     write_table(output, "checksum", &summary.verdicts(), packets)?;
     write_table(output, "refused", &summary.refusals(), refused)?;
-    write_conversations(output, busiest, flows.without_ports(), flows.without_room())
+    let (conversations, endpoints) = (
+        busiest.conversations.as_slice(),
+        busiest.endpoints.as_slice(),
+    );
+    write_conversations(output, conversations, without_ports, without_room)?;
+    write_endpoints(output, endpoints, without_ports, without_room)
+}
+
+/// The counts of the packets that belong to no conversation: the packets without ports, and the packets of other flows.
+fn uncounted(flows: &Flows) -> (Count, Count)
+    ensures { result ≡ (flows.now.without_ports, flows.now.without_room) }
+{
+    (flows.without_ports(), flows.without_room())
 }
 
 /// Writes an empty line and a table. `packets` is the number of packets that the table counts. If it is 0, nothing is written.
@@ -243,7 +259,12 @@ fn write_rate<W: Write>(output: &mut W, rates: Option<Rates>) -> io::Result<()>
 
 /// Writes a row for packets that are counted in no conversation: packets without ports, or packets of flows for which the summary had no
 /// room. If their number is 0, nothing is written.
-fn write_counted<W: Write>(output: &mut W, name: &str, width: usize, count: Count) -> io::Result<()>
+pub(crate) fn write_counted<W: Write>(
+    output: &mut W,
+    name: &str,
+    width: usize,
+    count: Count,
+) -> io::Result<()>
     ensures { OnOk result (Appends (W.contents output.old) (W.contents output.new) (specs.counted_row width name.now count)) }
 {
     let Count { packets, bytes } = count;

@@ -8,7 +8,7 @@ from ..build import IPV4, LINKS, OTHER_LINK, RAW, capture, ipv4, pcapng, udp
 from ..kinds import every_kind, transports
 from .members import check_objects, fields_of, is_within, numbers_of
 from .names import LINK_NAMES
-from .report import lines_of, rows_of_conversations, run, table_of, totals_of, with_underscores
+from .report import last_table, lines_of, rows_of_conversations, rows_of_endpoints, run, table_of, totals_of, with_underscores
 
 
 def row_of(conversation):
@@ -30,16 +30,19 @@ def times_as_numbers(counted):
             for member, number in numbers_of(text, (f"{name}_seconds", f"{name}_nanoseconds")).items()}
 
 
-def other_rows(report):
-    """The rows after the conversations, for packets of no conversation that has a row: the name of each as JSON has it, and its numbers."""
-    rows = [re.fullmatch(r"(packets [a-z ]+?) +(\d+) +(\d+)", row) for row in report.decode().split("\n\n")[-1].splitlines()]
+def other_rows(report, title="busiest conversations"):
+    """The last rows of a table, for packets of no conversation that has a row: the name of each as JSON has it, and its numbers."""
+    rows = [re.fullmatch(r"(packets [a-z ]+?) +(\d+) +(\d+)", row) for row in last_table(report, title)]
     return {with_underscores(row.group(1)): {"packets": int(row.group(2)), "bytes": int(row.group(3))} for row in rows if row}
 
 
 def check_other_rows(tally, name, report, summary):
-    """The numbers of packets without ports and of other flows are those of the text, which has no row for no packets."""
+    """The numbers of packets without ports and of other flows are those of the text, which has no row for no packets. So are the endpoints."""
     members = {member: summary[member] for member in ("packets_without_ports", "packets_of_other_flows")}
-    tally.expect(f"{name}: packets of no conversation", {member: row for member, row in members.items() if row["packets"]}, other_rows(report))
+    for title in ("busiest conversations", "busiest endpoints") if summary["endpoints"] else ("busiest conversations",):
+        tally.expect(f"{name}: packets of no conversation, {title}", {member: row for member, row in members.items() if row["packets"]},
+                     other_rows(report, title))
+    tally.expect(f"{name}: endpoints", [tuple(row.values()) for row in summary["endpoints"]], rows_of_endpoints(report))
 
 
 def check_json(tally):
@@ -84,6 +87,7 @@ def check_json(tally):
     report, summary = run(data, "--summary").stdout, json.loads(run(data, "--summary", "--json").stdout)
     check_other_rows(tally, "65,539 conversations", report, summary)
     tally.expect("packets of other flows", other_rows(report), {"packets_of_other_flows": {"packets": 3, "bytes": 3 * 28}})
+    tally.expect("endpoints of 65,536 conversations", rows_of_endpoints(report), [(f"192.0.2.{end}", 65_536, 65_536 * 28) for end in (1, 2)])
     whole = [(number, packet) for number, (verdict, packet) in enumerate(transports())
              if verdict in ("right", "wrong", "none") and packet[0] == 0x45]
     objects = lines_of(run(capture(RAW, [packet for _, packet in transports()]), "--packets", "--json").stdout)

@@ -114,7 +114,19 @@ def table_of(text, title):
     return {with_underscores(row.group(1)): [int(number) for number in row.group(2).split()] for row in found}
 
 
+def last_table(report, title):
+    """The lines of the last table with this title, if the summary has one."""
+    tables = [table for table in report.decode().split("\n\n") if table.startswith(title)]
+    return tables[-1].splitlines() if tables else []
+
+
 def rows_of_conversations(report):
-    """The rows of conversations at the end of a summary, each with single spaces, and the last row of the table."""
-    table = report.decode().split("\n\n")[-1].splitlines()
+    """The rows of conversations in a summary, each with single spaces, and the last row of the table."""
+    table = last_table(report, "busiest conversations")
     return [" ".join(row.split()) for row in table[1:] if row.startswith(("UDP ", "TCP "))], table[-1]
+
+
+def rows_of_endpoints(report):
+    """The rows of endpoints in a summary: the address, the packets and the bytes of each."""
+    rows = [row.split() for row in last_table(report, "busiest endpoints")[1:] if not row.startswith("packets ")]
+    return [(address, int(packets), int(length)) for address, packets, length in rows]

@@ -8,7 +8,7 @@ import struct
 from ..build import (ETHERNET, IPV4, IPV6, RAW, START, block, capture, frame, interface_description, ipv4, ipv6, packet_block, section_header,
                      tcp, udp)
 from ..kinds import every_kind
-from .report import date_and_time, rows_of_conversations, run, table_of, totals_of
+from .report import date_and_time, rows_of_conversations, rows_of_endpoints, run, table_of, totals_of
 
 
 def check_sums(tally):
@@ -76,6 +76,18 @@ def rows_of_packets(packets):
             f" {back[0]} {back[1]} {times_text(times, there[1] + back[1])}" for protocol, first, there, back, times in rows]
 
 
+def endpoints_of(packets):
+    """The endpoints of packets: by a dictionary whose keys are addresses. A packet from an address to itself counts once."""
+    counts = collections.Counter()
+    for _, source, destination, length, _ in packets:
+        for address in {source[0], destination[0]}:
+            counts[address, "packets"] += 1
+            counts[address, "bytes"] += length
+    rows = [(address, counts[address, "packets"], counts[address, "bytes"]) for address, column in counts if column == "packets"]
+    rows.sort(key=lambda row: (-row[1], -row[2], len(row[0]), row[0]))
+    return [(str(ipaddress.ip_address(address)), *numbers) for address, *numbers in rows]
+
+
 def check_conversations(tally):
     """Packets between a few ends, of both protocols, not in the order of their times: each is counted in its direction of the row of its
     conversation. Where source and destination of all are exchanged, the same rows are named by the other direction."""
@@ -97,10 +109,13 @@ def check_conversations(tally):
     for name, sent in (("as sent", packets), ("exchanged", [(protocol, to, source, length) for protocol, source, to, length in packets])):
         frames = [frame_of(*packet) for packet in sent]
         times = [numbers.randrange(10 ** 6) for _ in sent]
-        stated = rows_of_packets([(*packet[:3], len(data), time) for packet, data, time in zip(sent, frames, times)])
+        counted = [(*packet[:3], len(data), time) for packet, data, time in zip(sent, frames, times)]
+        stated = rows_of_packets(counted)
         blocks = b"".join(packet_block(0, START * 10 ** 6 + time, data, len(data)) for data, time in zip(frames, times))
-        rows, _ = rows_of_conversations(run(section_header() + interface_description(ETHERNET) + blocks, "--summary", "--top", "1000").stdout)
+        report = run(section_header() + interface_description(ETHERNET) + blocks, "--summary", "--top", "1000").stdout
+        rows, _ = rows_of_conversations(report)
         tally.expect(f"conversations, {name}", rows, stated)
+        tally.expect(f"endpoints, {name}", rows_of_endpoints(report), endpoints_of(counted))
 
 
 def check_totals(tally):

@@ -1,6 +1,7 @@
 use Rattle.std.proofs.Common.{◌≡◌, ◌∙◌, ℕ, Bool, List, [], ap, false, if◌then◌else◌, refl, rules, subst, sym, true}
 use Rattle.std.proofs.lemmas.Result.{on_ok_weaker}
 use Rattle.std.specs.Io.KnownBytes.{Appends}
+use Rattle.capture_summary.specs.Endpoints.{busiest_endpoints}
 use Rattle.capture_summary.specs.Ranking.{busiest_of}
 use Rattle.capture_run.proofs.capture_reports.CaptureReports.write_end.Goals as goal
 
@@ -9,7 +10,7 @@ asked_text : (is_empty asked : Bool) (text : List ℕ) → is_empty ≡ false �
     → (if is_empty then [] else (if asked then text else [])) ≡ text
 asked_text is_empty asked text some is = rw (some, is) refl
 
--- the summary lists the busiest flows
+-- the summary lists the busiest conversations and endpoints
 pub returns : goal.returns
 returns g c =
     let some : c.args.self.now.is_empty ≡ false = search rules in
@@ -18,4 +19,5 @@ returns g c =
     (λ written. subst (Appends (g.W.Write.contents c.args.output.now) (g.W.Write.contents c.write_summary.new.output))
     (sym (asked_text c.args.self.now.is_empty c.args.self.now.parts.summary _ some asked)) written)
     (c.write_summary.ensures
-    (c.as_slice.ensures.value ∙ c.in_ok-busiest.ensures.busiest ∙ ap (λ flows. busiest_of c.args.self.now.parts.top flows.rows) c.flows.ensures))
+    (c.in_ok-busiest.ensures.conversations ∙ ap (λ flows. busiest_of c.args.self.now.parts.top flows.rows) c.flows.ensures)
+    (c.in_ok-busiest.ensures.endpoints ∙ ap (λ flows. busiest_endpoints c.args.self.now.parts.top flows.rows) c.flows.ensures))
