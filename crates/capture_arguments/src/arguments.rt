@@ -228,7 +228,7 @@ fn format_of(matches: &ArgMatches<'_>) -> Format
     }
 }
 
-/// The requested number of busiest conversations.
+/// The requested number of busiest conversations and endpoints.
 fn top_of(matches: &ArgMatches<'_>) -> usize
     ensures { HasNumberOr matches.now (codes "top") 64 (λ given. given) default_top result }
 {
@@ -484,7 +484,7 @@ fn top<'a>(alloc: Global) -> Arg<'a>
         alloc,
         "top",
         "N",
-        "Name the N busiest conversations in the summary instead of 10",
+        "Name the N busiest conversations and endpoints in the summary instead of 10",
     )
     .value_parser(value_parser!(usize))
 }
