@@ -227,7 +227,7 @@ type FileRow = (&'static [&'static [u8]], u8, &'static str, &'static str);
 static PCAPNG_FILES: [FileRow; 5] = [
     (&[SECTION, RAW_IP, OTHER_BLOCK, ENHANCED, &UDP, ENHANCED_END], 0, LINE, ""),
     (&[SECTION, RAW_IP, OTHER_LINK, ENHANCED, &UDP, ENHANCED_END, ENHANCED_OF_SECOND, &UDP, ENHANCED_END], 0,
-     "1 00:00:00.000000 length 29: 192.0.2.1:7 > 192.0.2.2:9 UDP length 9, payload 1; checksum right\n2 -00:00:00.000004994 length 29: link type 147\n",
+     "1 00:00:00.000000 interface 0 length 29: 192.0.2.1:7 > 192.0.2.2:9 UDP length 9, payload 1; checksum right\n2 -00:00:00.000004994 interface 1 length 29: link type 147\n",
      ""),
     (&[SECTION, RAW_IP, SIMPLE, &UDP, SIMPLE_END], 0, "1 - length 29: 192.0.2.1:7 > 192.0.2.2:9 UDP length 9, payload 1; checksum right\n", ""),
     (&[SECTION, RAW_IP, ENHANCED, &UDP, ENHANCED_END, ENHANCED_OF_SECOND, &UDP, ENHANCED_END], 1, LINE,
