@@ -543,7 +543,11 @@ fn long_payloads_are_refused(rt: HostRuntime) {
     expect_equal(&rt, &outcome, &Err(error));
     packet[6] = 60;
     packet[40] = 50;
-    expect_equal(&rt, &ipv6_to_ipv4(&packet, &PREFIXES, 0, &mut buffer), &Ok(65_528));
+    expect_equal(
+        &rt,
+        &ipv6_to_ipv4(&packet, &PREFIXES, 0, &mut buffer),
+        &Ok(65_528),
+    );
 }
 
 /// What is no translated packet. The buffer has 30 bytes, and the last row needs 31.

@@ -1,8 +1,7 @@
 use crate::expect::{expect_equal, expect_ok};
 use crate::summaries::{judge, new_summary};
 use capture_summary::{
-    CaptureInfo, Count, EndpointCount, Flow, FlowProtocol, FrameLen, Protocol, Summary,
-    VerdictKind,
+    CaptureInfo, Count, EndpointCount, Flow, FlowProtocol, FrameLen, Protocol, Summary, VerdictKind,
 };
 use std::net::{IpAddr, Ipv4Addr, Ipv6Addr, SocketAddr};
 use std::process::Abort;
