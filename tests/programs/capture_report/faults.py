@@ -84,7 +84,7 @@ def check_blocks(tally):
     for name, data, status, lines in [
         ("an interface whose link type is not read",
          begin + interface_description(OTHER_LINK) + block(6, of_first) + block(6, of_second), 0,
-         [f"1 00:00:00.000000 {line}", f"2 00:00:00.000001 {unread}"]),
+         [f"1 00:00:00.000000 interface 0 {line}", f"2 00:00:00.000001 interface 1 {unread}"]),
         ("a simple packet block", begin + block(3, struct.pack("<I", len(packet)) + packet), 0, [f"1 - {line}"]),
         ("two sections of different orders", begin + block(6, of_first) + pcapng(RAW, [packet], ">"), 0,
          [f"1 00:00:00.000000 {line}", f"2 444444:26:40.000000 {line}"]),
