@@ -1168,14 +1168,15 @@ static const struct {
     {84, 2, ETHERPARSE_STATUS_REASSEMBLY_OTHER_END},        {83, 0x1F, ETHERPARSE_STATUS_REASSEMBLY_OTHER_END}
 };
 
-/* Each of these fragments is refused. */
-static void packets_not_put_together(uint8_t packets[98], const size_t lens[4], uint8_t room[69])
+/* Each of these fragments is refused, with room for every payload. */
+static void packets_not_put_together(uint8_t packets[98], const size_t lens[4], uint8_t room[ETHERPARSE_REASSEMBLY_ROOM_MAX_LEN])
 {
     size_t i;
     for (i = 0; i < sizeof wrong_fragments / sizeof *wrong_fragments; i++) {
         const uint8_t before = packets[wrong_fragments[i].place];
         packets[wrong_fragments[i].place] = wrong_fragments[i].value;
-        REFUSED(etherparse_reassembly_packet(packets, 98, lens, 4, room, 69, buffer, 29, &written, &error), wrong_fragments[i].wanted);
+        REFUSED(etherparse_reassembly_packet(packets, 98, lens, 4, room, ETHERPARSE_REASSEMBLY_ROOM_MAX_LEN, buffer, 29, &written, &error),
+                wrong_fragments[i].wanted);
         packets[wrong_fragments[i].place] = before;
     }
     packets[55] = 0x3F;
