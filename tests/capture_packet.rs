@@ -2,6 +2,7 @@
 
 mod arp;
 mod fragments;
+mod link;
 mod packet;
 mod pppoe;
 mod quoted_packet;

@@ -3,4 +3,5 @@
 mod choice;
 mod endpoints;
 mod kinds;
+mod protocols;
 mod summary;

@@ -6,17 +6,11 @@
 #[cfg(test)]
 mod capture_arguments;
 #[cfg(test)]
-mod capture_facts;
-#[cfg(test)]
 mod capture_file;
 #[cfg(test)]
 mod capture_json;
 #[cfg(test)]
-mod capture_link;
-#[cfg(test)]
 mod capture_packet;
-#[cfg(test)]
-mod capture_protocols;
 #[cfg(test)]
 mod capture_run;
 #[cfg(test)]

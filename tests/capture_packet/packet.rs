@@ -1,7 +1,7 @@
 use crate::expect::{append, expect_at, expect_equal, expect_ok, joined};
 use crate::packets::{IPV4_UDP, UDP_OVER_IPV4};
 use capture_file::{ByteOrder, LinkType};
-use capture_link::LinkHeaderCutOff;
+use capture_packet::LinkHeaderCutOff;
 use capture_packet::{
     Arp, Content, HopLimit, NetworkProtocol, Packet, Refusal, Transport, Verdict, read_packet,
 };

@@ -3,7 +3,7 @@ use crate::expect::{expect_all_written, expect_ok, expect_some, expect_written};
 use crate::packets::{OVER_IPV4, OVER_IPV6};
 use crate::summaries::first_info;
 use capture_file::reader::PacketInterface;
-use capture_link::LinkHeaderCutOff;
+use capture_packet::LinkHeaderCutOff;
 use capture_packet::{
     Content, HopLimit, NetworkProtocol, Packet, Refusal, Transport, Tunnel, Verdict,
 };

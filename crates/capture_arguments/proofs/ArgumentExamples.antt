@@ -19,7 +19,7 @@ use Rattle.clap.specs.declared.parser.matches.ValueSource.TheVariants.{CommandLi
 use Rattle.capture_request.specs.Lines.{lines_by}
 use Rattle.capture_request.specs.declared.parts.Format.TheVariants.{Json, Text as AsText}
 use Rattle.capture_request.specs.declared.parts.Lines.TheVariants.{All}
-use Rattle.capture_protocols.specs.declared.protocol.Protocol.TheVariants.{Tcp}
+use Rattle.capture_summary.specs.declared.protocol.Protocol.TheVariants.{Tcp}
 use Rattle.capture_summary.specs.Choice.{every_packet}
 use Rattle.capture_summary.specs.declared.choice.ChosenProtocol.TheVariants.{One}
 use Rattle.capture_summary.specs.declared.choice.PortRange.{PortRange}

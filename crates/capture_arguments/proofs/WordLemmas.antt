@@ -5,7 +5,7 @@ use Rattle.std.specs.List.{flat_map}
 use Rattle.std.specs.Str.{is_utf8}
 use Rattle.std.specs.declared.io.ErrorKind.{ErrorKind}
 use Rattle.std.specs.declared.io.ErrorKind.TheVariants.{ArgumentListTooLong, OutOfMemory}
-use Rattle.capture_facts.specs.ShownText.{escaped_byte}
+use Rattle.capture_words.specs.ShownText.{escaped_byte}
 use Rattle.capture_arguments.specs.Words.{AreArguments, AreTooLong, max_argument_len, word_of}
 
 -- bytes that are UTF-8 are the word itself

@@ -1,7 +1,7 @@
 -- The names by which protocols are chosen.
 use Rattle.std.specs.Prelude.{◌≡◌, ◌⊎◌, ℕ, List, [], ◌∷◌, codes, map, None, Option, Some}
 use Rattle.std.specs.Char.{to_ascii_lowercase}
-use Rattle.capture_protocols.specs.declared.protocol.Protocol.TheVariants as protocols
+use Rattle.capture_summary.specs.declared.protocol.Protocol.TheVariants as protocols
 use Rattle.capture_summary.specs.declared.choice.ChosenProtocol.{ChosenProtocol}
 use Rattle.capture_summary.specs.declared.choice.ChosenProtocol.TheVariants.{Icmp, One}
 

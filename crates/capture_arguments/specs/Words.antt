@@ -5,7 +5,7 @@ use Rattle.std.specs.List.{flat_map}
 use Rattle.std.specs.Str.{bytes_eq, is_utf8}
 use Rattle.std.specs.declared.io.Error.{Error}
 use Rattle.std.specs.declared.io.ErrorKind.TheVariants.{ArgumentListTooLong, OutOfMemory}
-use Rattle.capture_facts.specs.ShownText.{escaped_byte}
+use Rattle.capture_words.specs.ShownText.{escaped_byte}
 use Rattle.capture_request.specs.Names.{without_mark}
 
 -- An argument as a word. If the argument is not UTF-8, the word consists of NUL (0), which no argument contains, and the escaped bytes.

@@ -4,8 +4,8 @@ ghost use Rattle.std.specs.Prelude.{◌≡◌, IfErr, IfOk, OnErr, map, option_m
 ghost use Rattle.capture_arguments.specs.Words.{AreNoWords, AreWordsOf, escaped_option, escaped_option_text, is_escaped_option, word_of};
 
 use crate::memory::Memory;
-use capture_facts::EscapedBytes;
 use capture_request::{ESCAPED, without_mark};
+use capture_words::EscapedBytes;
 use std::alloc::AllocError;
 use std::env::{Env, FillError};
 use std::io;

@@ -1,6 +1,6 @@
 -- The facts of a capture, as members of the summary.
 use Rattle.std.specs.Prelude.{ℕ, ◌+◌, List, [], ◌∷◌, ◌++◌, codes, slice_get, Option, Some, None}
-use Rattle.capture_facts.specs.FactsText.{byte_order_word, resolution_text}
+use Rattle.capture_words.specs.FactsText.{byte_order_word, resolution_text}
 use Rattle.capture_file.specs.Packets.{power_of_ten}
 use Rattle.capture_texts.specs.declared.byte_order.ByteOrder.{ByteOrder}
 use Rattle.capture_file.specs.declared.pcapng.interface_description.InterfaceDescription.{InterfaceDescription}

@@ -19,8 +19,8 @@ use Rattle.transport_part.specs.declared.transport_slice.TransportSlice.{Transpo
 use Rattle.transport_part.specs.declared.transport_slice.TransportSlice.TheVariants as slices
 use Rattle.capture_packet.specs.declared.content.Content.{Content}
 use Rattle.capture_packet.specs.declared.content.Content.TheVariants as contents
-use Rattle.capture_link.specs.declared.network_protocol.NetworkProtocol.{NetworkProtocol}
-use Rattle.capture_link.specs.declared.network_protocol.NetworkProtocol.TheVariants.{AddressFamily, EtherType, FrameRelay, Ieee80211, LinkType, Llc, Nlpid, PppProtocol, Radiotap, Snap}
+use Rattle.capture_packet.specs.declared.network_protocol.NetworkProtocol.{NetworkProtocol}
+use Rattle.capture_packet.specs.declared.network_protocol.NetworkProtocol.TheVariants.{AddressFamily, EtherType, FrameRelay, Ieee80211, LinkType, Llc, Nlpid, PppProtocol, Radiotap, Snap}
 use Rattle.capture_packet.specs.declared.transport.Transport.{Transport}
 use Rattle.capture_packet.specs.declared.transport.Transport.TheVariants as transports
 use Rattle.capture_packet.specs.Payloads.{payload_in}
@@ -53,7 +53,7 @@ use Rattle.capture_words.specs.Flags.{NamedFlag}
 use Rattle.capture_words.specs.Icmpv4Text as icmpv4_text
 use Rattle.capture_words.specs.Icmpv6Fields.{fields_of}
 use Rattle.capture_words.specs.Icmpv6Text as icmpv6_text
-use Rattle.capture_protocols.specs.Protocols.{ip_protocol_name, network_protocol_name}
+use Rattle.capture_summary.specs.Protocols.{ip_protocol_name, network_protocol_name}
 use Rattle.capture_words.specs.Refusals.{refusal_text}
 use Rattle.capture_words.specs.TcpText.{tcp_flags}
 use Rattle.capture_words.specs.TimeText.{time_text}

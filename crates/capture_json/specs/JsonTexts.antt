@@ -1,7 +1,7 @@
 -- The texts of a pcapng file, as members of the summary. A member without a value is left out.
 use Rattle.std.specs.Prelude.{ℕ, ◌==◌, if◌then◌else◌, List, [], ◌∷◌, ◌++◌, codes, Option, Some, None}
-use Rattle.capture_facts.specs.ShownText.{shown_kept}
-use Rattle.capture_facts.specs.TextsText.{is_absent}
+use Rattle.capture_words.specs.ShownText.{shown_kept}
+use Rattle.capture_words.specs.TextsText.{is_absent}
 use Rattle.capture_json.specs.Members.{Member, whole_number}
 use Rattle.capture_texts.specs.declared.file_texts.FileTexts.{FileTexts}
 use Rattle.capture_texts.specs.declared.file_texts.InterfaceTexts.{InterfaceTexts}

@@ -1,7 +1,7 @@
 //! The facts of a capture, as members of the summary.
 
 ghost use Rattle.std.specs.Prelude.{◌≡◌, OnOk, codes};
-ghost use Rattle.capture_facts.specs.FactsText.{resolution_text};
+ghost use Rattle.capture_words.specs.FactsText.{resolution_text};
 ghost use Rattle.capture_json.specs.JsonFacts.{facts_members, form_members, interface_data, interfaces_data, limits_members};
 ghost use Rattle.capture_json.specs.Members.{array_of};
 ghost use Rattle.capture_json.specs.Tokens.{push, put, tokens_in, with_items, with_members};
@@ -10,15 +10,15 @@ ghost use Rattle.serde_json.specs.Data.{string};
 use crate::Line;
 use crate::text::put_written;
 use crate::texts::{put_interface_texts, put_texts};
-use capture_facts::{byte_order_word, time_resolution, write_resolution};
 use capture_file::ByteOrder;
 use capture_file::pcapng::{InterfaceDescription, TimeResolution};
 use capture_file::reader::CaptureReader;
 use capture_texts::InterfaceTexts;
+use capture_words::{byte_order_word, time_resolution, write_resolution};
 use std::alloc::AllocError;
 use std::io;
 
-/// Writes the facts that `capture_facts::write_facts` writes, or nothing if there is no capture.
+/// Writes the facts that `capture_words::write_facts` writes, or nothing if there is no capture.
 pub fn put_facts(
     line: &mut Line,
     room: &mut Vec<u8>,

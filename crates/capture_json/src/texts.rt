@@ -6,12 +6,12 @@ ghost use Rattle.capture_json.specs.Tokens.{tokens_in, with_members};
 
 use crate::Line;
 use crate::text::put_written;
-use capture_facts::write_shown;
 use capture_texts::{FileTexts, InterfaceTexts, KeptText};
+use capture_words::write_shown;
 use std::alloc::AllocError;
 use std::io;
 
-/// Writes the texts of a section and the number of packets with a comment. `capture_facts::write_facts` writes the same facts.
+/// Writes the texts of a section and the number of packets with a comment. `capture_words::write_facts` writes the same facts.
 pub fn put_texts(line: &mut Line, room: &mut Vec<u8>, texts: &FileTexts) -> io::Result<()>
     ensures { OnOk result (tokens_in line.new ≡ with_members (texts_members texts.now) (tokens_in line.old)) }
 {

@@ -1,7 +1,7 @@
 -- Worked examples of the fields of fragments and of ARP packets, so that a wrong definition fails before any code does.
 use Rattle.std.proofs.Common.{◌≡◌, ℕ, true, false, List, [], ◌∷◌, ◌++◌, None, Some, refl, replicate}
 use Rattle.reassembly.specs.Fragments.{fragment_header_from}
-use Rattle.capture_link.specs.declared.network_protocol.NetworkProtocol.TheVariants.{EtherType}
+use Rattle.capture_packet.specs.declared.network_protocol.NetworkProtocol.TheVariants.{EtherType}
 use Rattle.capture_packet.specs.ArpPackets.{arp_of}
 use Rattle.capture_packet.specs.FragmentFields.{fragment_fields}
 use Rattle.capture_packet.specs.declared.arp.Arp.TheVariants.{Addresses, CutOff, Operation}

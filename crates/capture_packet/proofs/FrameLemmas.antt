@@ -2,9 +2,9 @@
 use Rattle.std.proofs.Common.{◌≡◌, ℕ, Bool, List, inl, subst}
 use Rattle.capture_texts.specs.declared.byte_order.ByteOrder.{ByteOrder}
 use Rattle.capture_texts.specs.declared.link_type.LinkType.{LinkType}
-use Rattle.capture_link.specs.Link.{HasLinkHeader, IsFoundAfter}
-use Rattle.capture_link.specs.declared.link.Frame.TheVariants.{Ip}
-use Rattle.capture_link.specs.declared.link.NetworkBytes.{NetworkBytes}
+use Rattle.capture_packet.specs.Link.{HasLinkHeader, IsFoundAfter}
+use Rattle.capture_packet.specs.declared.link.Frame.TheVariants.{Ip}
+use Rattle.capture_packet.specs.declared.link.NetworkBytes.{NetworkBytes}
 use Rattle.capture_packet.specs.Frames.{IsInTunnels, IsRead, are_bytes_cut}
 use Rattle.capture_packet.specs.Tunnels.{innermost}
 use Rattle.capture_packet.specs.declared.packet.Packet.{Packet}

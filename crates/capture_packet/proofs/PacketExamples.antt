@@ -17,7 +17,7 @@ use Rattle.transport_part.specs.declared.transport_slice.TransportSlice.TheVaria
 use Rattle.word_sum.specs.Checksum.{folded}
 use Rattle.capture_texts.specs.declared.byte_order.ByteOrder.TheVariants.{LittleEndian}
 use Rattle.capture_texts.specs.declared.link_type.LinkType.TheVariants.{RawIp}
-use Rattle.capture_link.specs.declared.link.Frame.TheVariants.{Ip as InFrame}
+use Rattle.capture_packet.specs.declared.link.Frame.TheVariants.{Ip as InFrame}
 use Rattle.capture_packet.specs.Frames.{IsIpPacket, IsRead}
 use Rattle.capture_packet.specs.Packets.{in_no_tunnel}
 use Rattle.capture_packet.specs.Tunnels.{nested_in}

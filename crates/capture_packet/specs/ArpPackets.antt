@@ -1,8 +1,8 @@
 -- ARP packets (RFC 826).
 use Rattle.std.specs.Prelude.{ℕ, ◌+◌, ◌*◌, ◌==◌, ◌&&◌, Bool, true, false, nat_lt, if◌then◌else◌, List, length, slice_index, slice_range, Option, Some, None}
 use Rattle.net_base.specs.Bytes.{be_number}
-use Rattle.capture_link.specs.declared.network_protocol.NetworkProtocol.{NetworkProtocol}
-use Rattle.capture_link.specs.declared.network_protocol.NetworkProtocol.TheVariants.{EtherType}
+use Rattle.capture_packet.specs.declared.network_protocol.NetworkProtocol.{NetworkProtocol}
+use Rattle.capture_packet.specs.declared.network_protocol.NetworkProtocol.TheVariants.{EtherType}
 use Rattle.capture_packet.specs.declared.arp.Arp.{Arp}
 use Rattle.capture_packet.specs.declared.arp.Arp.TheVariants.{Addresses, CutOff, Operation}
 use Rattle.capture_packet.specs.declared.arp.ArpAddresses.{ArpAddresses}

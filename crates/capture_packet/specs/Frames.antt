@@ -9,16 +9,16 @@ use Rattle.capture_texts.specs.declared.link_type.LinkType.{LinkType}
 use Rattle.capture_packet.specs.ArpPackets.{arp_of}
 use Rattle.capture_packet.specs.Contents.{Shows, ShowsRefused}
 use Rattle.capture_packet.specs.FragmentFields.{fragment_fields}
-use Rattle.capture_link.specs.Link.{HasLinkHeader, IsFoundAfter, NeedsLinkHeader}
+use Rattle.capture_packet.specs.Link.{HasLinkHeader, IsFoundAfter, NeedsLinkHeader}
 use Rattle.capture_packet.specs.HopLimits.{hop_limit_of}
 use Rattle.capture_packet.specs.Packets.{in_no_tunnel}
 use Rattle.capture_packet.specs.Tunnels.{Nested, by_value, innermost}
 use Rattle.capture_packet.specs.Verdicts.{JudgesTransport, is_cut_off, unread_verdict, untested}
 use Rattle.capture_packet.specs.declared.content.Content.TheVariants.{NotIp, Unread}
-use Rattle.capture_link.specs.declared.link.Frame.{Frame}
-use Rattle.capture_link.specs.declared.link.Frame.TheVariants.{Ip, Other}
-use Rattle.capture_link.specs.declared.link.LinkHeaderCutOff.{LinkHeaderCutOff}
-use Rattle.capture_link.specs.declared.network_protocol.NetworkProtocol.{NetworkProtocol}
+use Rattle.capture_packet.specs.declared.link.Frame.{Frame}
+use Rattle.capture_packet.specs.declared.link.Frame.TheVariants.{Ip, Other}
+use Rattle.capture_packet.specs.declared.link.LinkHeaderCutOff.{LinkHeaderCutOff}
+use Rattle.capture_packet.specs.declared.network_protocol.NetworkProtocol.{NetworkProtocol}
 use Rattle.capture_packet.specs.declared.packet.Packet.{Packet}
 use Rattle.capture_packet.specs.declared.refusal.Refusal.TheVariants as refusals
 use Rattle.capture_packet.specs.declared.verdict.Verdict.{Verdict}

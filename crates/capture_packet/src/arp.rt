@@ -3,8 +3,8 @@
 ghost use Rattle.std.specs.Prelude.{◌≡◌, ◌≤◌, length};
 ghost use Rattle.capture_packet.specs.ArpPackets as specs;
 
-use capture_link::NetworkProtocol;
-use capture_link::link::ether_type;
+use crate::NetworkProtocol;
+use crate::link::ether_type;
 
 /// The ether type of ARP.
 const ARP: u16 = 0x0806;

@@ -1,5 +1,4 @@
-use crate::Transport;
-use capture_link::NetworkProtocol;
+use crate::{NetworkProtocol, Transport};
 use ip_part::{IpAddresses, Proto};
 use net_base::IpNumber;
 

@@ -6,7 +6,7 @@ ghost use Rattle.capture_packet.specs.Gre as specs;
 ghost use Rattle.capture_packet.specs.Tunnels.{packet_after_gre, packet_of_type};
 
 use crate::fixed_header::{ipv4_packet, ipv6_packet};
-use capture_link::link::ether_type;
+use crate::link::ether_type;
 
 /// The length of a header without optional fields, in bytes (RFC 2784, section 2.1).
 const SHORTEST_LEN: usize = 4;

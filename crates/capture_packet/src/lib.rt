@@ -1,6 +1,6 @@
 //! The content of a packet in a capture, and the verdict on its checksum. Nothing is allocated.
 //!
-//! `capture_link` finds the network packet in a frame. `read_packet` reads its IP headers, and the header of its transport: UDP (RFC 768),
+//! `network_packet` finds the network packet in a frame. `read_packet` reads its IP headers, and the header of its transport: UDP (RFC 768),
 //! TCP (RFC 9293), ICMPv4 (RFC 792) or ICMPv6 (RFC 4443). If an IP packet contains another one, `read_packet` reads the inner packet. It
 //! opens up to four such tunnels: IP in IP (RFC 2003; RFC 4213; RFC 2473) and GRE (RFC 2784).
 //!
@@ -21,6 +21,8 @@ mod fixed_header;
 mod fragment_fields;
 mod gre;
 mod hop_limit;
+pub mod link;
+mod network_protocol;
 mod packet;
 mod payload;
 mod quoted_packet;
@@ -32,10 +34,11 @@ mod verdict;
 
 pub use addresses::{destination_of, source_of};
 pub use arp::{Arp, ArpAddresses};
-pub use capture_link::NetworkProtocol;
 pub use content::Content;
 pub use fragment_fields::{FragmentFields, Identification};
 pub use hop_limit::HopLimit;
+pub use link::{Frame, LinkHeaderCutOff, NetworkBytes, network_packet};
+pub use network_protocol::NetworkProtocol;
 pub use packet::Packet;
 pub use quoted_packet::QuotedPacket;
 pub use read::{MAX_PACKET_LEN, read_packet};

@@ -14,9 +14,11 @@ use crate::fragment_fields::fragment_fields;
 use crate::payload::{counted_payload_len, payload_len};
 use crate::transport::{is_transport_cut_off, read_transport};
 use crate::tunnel::packet_in_payload;
-use crate::{Content, Packet, Refusal, Tunnel, Tunnels, Verdict};
+use crate::{
+    Content, Frame, LinkHeaderCutOff, NetworkProtocol, Packet, Refusal, Tunnel, Tunnels, Verdict,
+    network_packet,
+};
 use arrayvec::ArrayVec;
-use capture_link::{Frame, LinkHeaderCutOff, NetworkProtocol, network_packet};
 use capture_texts::{ByteOrder, LinkType};
 use ip_part::{IpError, TransportInIp, fixed_header, transport_in_ip, transport_in_ip_lax};
 use transport_part::Untested;

@@ -1,4 +1,4 @@
-use capture_link::LinkHeaderCutOff;
+use crate::LinkHeaderCutOff;
 use ip_part::{IpError, Proto};
 use net_base::err::tcp::HeaderSliceError;
 

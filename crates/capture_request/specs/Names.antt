@@ -1,6 +1,6 @@
 -- How a report shows the name of a capture.
 use Rattle.std.specs.Prelude.{ℕ, ◌==◌, if◌then◌else◌, List, [], ◌∷◌}
-use Rattle.capture_facts.specs.ShownText.{shown_text}
+use Rattle.capture_words.specs.ShownText.{shown_text}
 
 -- A name without its mark, which is a byte 0. A file name that is not UTF-8 begins with this mark.
 abbrev pub without_mark : List ℕ → List ℕ

@@ -9,12 +9,12 @@ use Rattle.capture_summary.specs.FlowOf.{IsFlowOf}
 use Rattle.capture_packet.specs.Frames.{IsRead, max_packet_len}
 use Rattle.capture_packet.specs.Packets.{in_no_tunnel}
 use Rattle.capture_packet.specs.Verdicts.{untested}
-use Rattle.capture_protocols.specs.Protocols.{content_protocol}
+use Rattle.capture_summary.specs.Protocols.{content_protocol}
 use Rattle.capture_summary.specs.Kinds.{verdict_kind, verdict_refusal_kind}
 use Rattle.capture_summary.specs.SummaryTables.{CountsOne, SummaryTables}
 use Rattle.capture_texts.specs.declared.link_type.LinkType.{LinkType}
 use Rattle.capture_packet.specs.declared.content.Content.TheVariants.{NotIp, Unread}
-use Rattle.capture_link.specs.declared.network_protocol.NetworkProtocol.TheVariants as protocols
+use Rattle.capture_packet.specs.declared.network_protocol.NetworkProtocol.TheVariants as protocols
 use Rattle.capture_packet.specs.declared.packet.Packet.{Packet}
 use Rattle.capture_packet.specs.declared.verdict.Verdict.TheVariants.{TooLong}
 use Rattle.transport_part.specs.declared.checksum_verdict.Untested.TheVariants.{OtherProtocol}

@@ -21,13 +21,13 @@ use Rattle.capture_file.specs.declared.reader.capture_reader.ClassicReader.{Clas
 use Rattle.capture_file.specs.declared.reader.captured_packet.CapturedPacket.{CapturedPacket}
 use Rattle.capture_file.specs.declared.reader.next_packet.NextPacket.TheVariants as packets
 use Rattle.capture_file.specs.declared.reader.pcapng_reader.PcapngReader.{PcapngReader}
-use Rattle.capture_link.specs.declared.network_protocol.NetworkProtocol.TheVariants.{LinkType}
+use Rattle.capture_packet.specs.declared.network_protocol.NetworkProtocol.TheVariants.{LinkType}
 use Rattle.capture_packet.specs.Frames.{max_packet_len}
 use Rattle.capture_packet.specs.Packets.{in_no_tunnel}
 use Rattle.capture_packet.specs.Verdicts.{untested}
 use Rattle.capture_packet.specs.declared.content.Content.TheVariants.{NotIp}
 use Rattle.capture_packet.specs.declared.packet.Packet.{Packet}
-use Rattle.capture_protocols.specs.Protocols.{content_protocol, protocol_place}
+use Rattle.capture_summary.specs.Protocols.{content_protocol, protocol_place}
 use Rattle.capture_request.specs.Report.{CountsEach, IsPacketOf}
 use Rattle.capture_request.specs.declared.exit_status.ExitStatus.TheVariants.{Success}
 use Rattle.capture_request.specs.declared.parts.Format.TheVariants as formats

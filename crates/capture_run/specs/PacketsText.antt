@@ -6,7 +6,7 @@ use Rattle.capture_file.specs.Interfaces.{interface_of}
 use Rattle.capture_file.specs.declared.reader.capture_reader.CaptureReader.{CaptureReader}
 use Rattle.capture_file.specs.declared.packet_time.PacketTime.{PacketTime}
 use Rattle.capture_file.specs.declared.reader.packet_interface.PacketInterface.{PacketInterface}
-use Rattle.capture_facts.specs.FactsText.{facts_text}
+use Rattle.capture_words.specs.FactsText.{facts_text}
 use Rattle.capture_packet.specs.Frames.{max_packet_len}
 use Rattle.capture_json.specs.JsonSummary.{json_summary}
 use Rattle.capture_request.specs.Limits.{EndsWithRequested}

@@ -11,7 +11,7 @@ ghost use Rattle.capture_request.specs.Limits.{EndsByLimit, IsWithin, is_full, l
 ghost use Rattle.capture_run.specs.Runs.{EndsAtHeader};
 ghost use Rattle.capture_request.specs.declared.exit_status.ExitStatus.TheVariants as ExitStatus;
 ghost use Rattle.capture_summary.specs.SummaryTables.{empty_tables};
-ghost use Rattle.capture_facts.specs.FactsText.{facts_text};
+ghost use Rattle.capture_words.specs.FactsText.{facts_text};
 ghost use Rattle.capture_text.specs.SummaryText.{tables_text};
 ghost use Rattle.capture_words.specs.Written.{AppendsOne};
 ghost use Rattle.capture_request.specs.declared.parts.Lines.TheVariants as Lines;
@@ -19,10 +19,10 @@ ghost use Rattle.capture_request.specs.declared.parts.Lines.TheVariants as Lines
 use crate::packet_report::{PacketReport, is_full};
 use crate::packets::report_packets;
 use crate::{CaptureError, ExitStatus, Format, Lines, MAX_PACKET_LEN, Parts, Reached, WriteError};
-use capture_facts::write_facts;
 use capture_file::reader::CaptureReader;
 use capture_summary::{Busiest, Summary};
 use capture_text::write_summary;
+use capture_words::write_facts;
 use std::alloc::Global;
 use std::hash::RandomState;
 use std::io;

@@ -13,9 +13,9 @@ use crate::named_capture::NamedCapture;
 use crate::{
     ExitStatus, Format, MAX_PACKET_LEN, Open, Outputs, Parts, STANDARD_INPUT, Sources, WriteError,
 };
-use capture_facts::ShownText;
 use capture_json::write_file_name;
 use capture_request::{without_mark, write_end, write_open_error};
+use capture_words::ShownText;
 use std::alloc::Global;
 use std::hash::RandomState;
 use std::io;

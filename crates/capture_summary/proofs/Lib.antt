@@ -6,6 +6,7 @@ mod EndpointTable
 mod FlowLemmas
 mod FlowPlacesLemmas
 mod NetworkLemmas
+mod ProtocolExamples
 mod RankingLemmas
 mod RankingOrder
 mod RankingRows

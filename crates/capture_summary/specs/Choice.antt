@@ -1,7 +1,7 @@
 -- The packets that are chosen: by hosts, ports and protocols.
 use Rattle.std.specs.Prelude.{◌≡◌, ◌⊎◌, ◌≤◌, ℕ, IfSome, IsSomeAnd, List, [], ◌∷◌, Option, Some, None}
 use Rattle.ip_part.specs.Addresses.{Addresses, Ipv4, Ipv6, by_value}
-use Rattle.capture_protocols.specs.Protocols.{content_protocol, protocol_place}
+use Rattle.capture_summary.specs.Protocols.{content_protocol, protocol_place}
 use Rattle.capture_summary.specs.Networks.{IsIpv4In, IsIpv6In}
 use Rattle.capture_packet.specs.declared.content.Content.{Content}
 use Rattle.capture_packet.specs.declared.content.Content.TheVariants as contents
@@ -17,7 +17,7 @@ use Rattle.capture_summary.specs.declared.choice.Side.{Side}
 use Rattle.capture_summary.specs.declared.choice.Side.TheVariants.{Destination, Either, Source}
 use Rattle.capture_summary.specs.declared.flow.FlowProtocol.{FlowProtocol}
 use Rattle.capture_summary.specs.declared.network.Network.{Network}
-use Rattle.capture_protocols.specs.declared.protocol.Protocol.TheVariants.{Icmpv4, Icmpv6}
+use Rattle.capture_summary.specs.declared.protocol.Protocol.TheVariants.{Icmpv4, Icmpv6}
 
 -- the choice of all packets
 abbrev pub every_packet : Choice

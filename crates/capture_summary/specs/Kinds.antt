@@ -16,7 +16,7 @@ use Rattle.capture_packet.specs.declared.refusal.Refusal.{Refusal}
 use Rattle.capture_packet.specs.declared.refusal.Refusal.TheVariants as refusals
 use Rattle.capture_packet.specs.declared.verdict.Verdict.{Verdict}
 use Rattle.capture_packet.specs.declared.verdict.Verdict.TheVariants as verdicts
-use Rattle.capture_protocols.specs.Protocols.{protocol_kinds, protocol_place, protocol_word}
+use Rattle.capture_summary.specs.Protocols.{protocol_kinds, protocol_place, protocol_word}
 use Rattle.capture_summary.specs.Tables.{no_packets}
 use Rattle.capture_summary.specs.declared.count.Count.{Count}
 use Rattle.capture_summary.specs.declared.flow.FlowProtocol.{FlowProtocol}

@@ -7,6 +7,7 @@ pub mod FlowPlaces
 pub mod FlowTable
 pub mod Kinds
 pub mod Networks
+pub mod Protocols
 pub mod Ranking
 pub mod Rates
 pub mod SummaryTables

@@ -12,8 +12,8 @@ use Rattle.capture_summary.specs.declared.capture_info.FrameLen.{FrameLen}
 use Rattle.capture_summary.specs.declared.count.Count.{Count}
 use Rattle.capture_summary.specs.declared.flow.Flow.{Flow}
 use Rattle.capture_summary.specs.declared.time_span.TimeSpan.{TimeSpan}
-use Rattle.capture_protocols.specs.Protocols.{protocol_kinds, protocol_place}
-use Rattle.capture_protocols.specs.declared.protocol.Protocol.{Protocol}
+use Rattle.capture_summary.specs.Protocols.{protocol_kinds, protocol_place}
+use Rattle.capture_summary.specs.declared.protocol.Protocol.{Protocol}
 
 -- the numbers of packets and bytes, the times of the packets, and the tables in which each packet is counted
 pub record SummaryTables : Type 0 where

@@ -6,7 +6,7 @@ use Rattle.ip_part.specs.declared.proto.Proto.TheVariants.{Tcp, Udp}
 use Rattle.transport_part.specs.declared.checksum_verdict.ChecksumVerdict.TheVariants.{Right}
 use Rattle.transport_part.specs.declared.checksum_verdict.Untested.TheVariants.{Fragment, OtherProtocol}
 use Rattle.transport_part.specs.declared.transport_slice.TransportSlice.TheVariants as slices
-use Rattle.capture_link.specs.declared.network_protocol.NetworkProtocol.TheVariants.{EtherType}
+use Rattle.capture_packet.specs.declared.network_protocol.NetworkProtocol.TheVariants.{EtherType}
 use Rattle.capture_packet.proofs.PacketExamples.{addresses, packet, reference_to}
 use Rattle.capture_packet.specs.Packets.{in_no_tunnel}
 use Rattle.capture_packet.specs.Verdicts.{untested}

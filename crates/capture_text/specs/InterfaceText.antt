@@ -1,7 +1,7 @@
 -- The interface of a packet, in the line of the packet.
 use Rattle.std.specs.Prelude.{List, ℕ, [], ◌++◌, if◌then◌else◌, codes, decimal, Option, Some, None}
-use Rattle.capture_facts.specs.ShownText.{shown_kept}
-use Rattle.capture_facts.specs.TextsText.{is_absent}
+use Rattle.capture_words.specs.ShownText.{shown_kept}
+use Rattle.capture_words.specs.TextsText.{is_absent}
 use Rattle.capture_file.specs.declared.reader.packet_interface.PacketInterface.{PacketInterface}
 
 -- a space and the name of an interface, or its number if it has no name

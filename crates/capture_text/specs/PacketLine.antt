@@ -10,8 +10,8 @@ use Rattle.capture_packet.specs.Payloads.{payload_in}
 use Rattle.capture_packet.specs.Quotes.{Quoted, quoted_in}
 use Rattle.capture_packet.specs.declared.content.Content.{Content}
 use Rattle.capture_packet.specs.declared.content.Content.TheVariants as contents
-use Rattle.capture_link.specs.declared.network_protocol.NetworkProtocol.{NetworkProtocol}
-use Rattle.capture_link.specs.declared.network_protocol.NetworkProtocol.TheVariants.{AddressFamily, EtherType, FrameRelay, Ieee80211, LinkType, Llc, Nlpid, PppProtocol, Radiotap, Snap}
+use Rattle.capture_packet.specs.declared.network_protocol.NetworkProtocol.{NetworkProtocol}
+use Rattle.capture_packet.specs.declared.network_protocol.NetworkProtocol.TheVariants.{AddressFamily, EtherType, FrameRelay, Ieee80211, LinkType, Llc, Nlpid, PppProtocol, Radiotap, Snap}
 use Rattle.capture_packet.specs.declared.fragment_fields.FragmentFields.{FragmentFields}
 use Rattle.capture_packet.specs.declared.fragment_fields.Identification.{Identification}
 use Rattle.capture_packet.specs.declared.fragment_fields.Identification.TheVariants as identifications
@@ -30,7 +30,7 @@ use Rattle.capture_text.specs.InterfaceText.{interface_text}
 use Rattle.capture_words.specs.Icmpv4Text as icmpv4_text
 use Rattle.capture_words.specs.Icmpv6Text as icmpv6_text
 use Rattle.capture_words.specs.Numbers.{hex_padded}
-use Rattle.capture_protocols.specs.Protocols.{ip_protocol_name, network_protocol_name}
+use Rattle.capture_summary.specs.Protocols.{ip_protocol_name, network_protocol_name}
 use Rattle.capture_summary.specs.declared.capture_info.FrameLen.{FrameLen}
 use Rattle.capture_words.specs.TcpText.{IsHeaderText}
 use Rattle.capture_words.specs.TimeText.{time_text}

@@ -4,8 +4,8 @@ ghost use Rattle.std.specs.Prelude.{OnOk};
 ghost use Rattle.std.specs.Io.KnownBytes.{Appends};
 ghost use Rattle.capture_text.specs.InterfaceText.{interface_text, known_interface};
 
-use capture_facts::write_shown;
 use capture_file::reader::PacketInterface;
+use capture_words::write_shown;
 use std::io;
 use std::io::Write;
 

@@ -1,5 +1,6 @@
 pub mod AbsoluteTime
 pub mod Elapsed
+pub mod FactsText
 pub mod Flags
 pub mod HardwareAddress
 pub mod IcmpText
@@ -8,6 +9,8 @@ pub mod Icmpv6Fields
 pub mod Icmpv6Text
 pub mod Numbers
 pub mod Refusals
+pub mod ShownText
 pub mod TcpText
+pub mod TextsText
 pub mod TimeText
 pub mod Written

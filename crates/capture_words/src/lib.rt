@@ -5,6 +5,8 @@
 #![tactic(auto)]
 
 mod absolute_time;
+mod fact_words;
+mod facts;
 mod flags;
 mod hardware_address;
 mod hex;
@@ -13,15 +15,20 @@ pub mod icmpv4;
 pub mod icmpv6;
 mod icmpv6_fields;
 mod refusal;
+mod shown_text;
 pub mod tcp;
 mod tcp_options;
+mod texts;
 mod time;
 mod times;
 
 pub use absolute_time::{nanoseconds_since_1970, write_absolute};
+pub use fact_words::{byte_order_word, time_resolution, write_resolution};
+pub use facts::write_facts;
 pub use hardware_address::write_hardware_address;
 pub use icmpv6_fields::{Icmpv6Fields, LISTENER_QUERY, LISTENER_REPORT_2};
 pub use refusal::{write_refusal, write_zero_length};
+pub use shown_text::{EscapedBytes, ShownText, write_shown};
 pub use tcp_options::{write_fault, write_option};
 pub use time::{write_elapsed, write_since, write_time};
 pub use times::Times;

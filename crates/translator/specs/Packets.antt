@@ -2,9 +2,9 @@
 use Rattle.std.specs.Prelude.{◌≡◌, ◌≤◌, ◌++◌, ◌⊎◌, ℕ, ◌==◌, Bool, true, false, if◌then◌else◌, List, drop, length, slice_range, take, Option, Some, None, Result, Ok, Err}
 use Rattle.capture_texts.specs.declared.byte_order.ByteOrder.{ByteOrder}
 use Rattle.capture_texts.specs.declared.link_type.LinkType.{LinkType}
-use Rattle.capture_link.specs.Link.{HasLinkHeader, NeedsLinkHeader}
-use Rattle.capture_link.specs.LinkHeaders.{end_in}
-use Rattle.capture_link.specs.declared.network_protocol.NetworkProtocol.{NetworkProtocol}
+use Rattle.capture_packet.specs.Link.{HasLinkHeader, NeedsLinkHeader}
+use Rattle.capture_packet.specs.LinkHeaders.{end_in}
+use Rattle.capture_packet.specs.declared.network_protocol.NetworkProtocol.{NetworkProtocol}
 use Rattle.etherparse_transport.specs.Ipv4Translations.{ipv4_translated}
 use Rattle.etherparse_transport.specs.Ipv6Translations.{ipv6_translated}
 use Rattle.net_base.specs.IpHeaders.{version}

@@ -11,7 +11,7 @@ use crate::ipv6_packet::translate_ipv6_packet;
 use crate::reason::Reason;
 use crate::table::Table;
 use capture_file::{ByteOrder, LinkType};
-use capture_link::{Frame, network_packet};
+use capture_packet::{Frame, network_packet};
 use etherparse_transport::ip::TransportInIp;
 use etherparse_transport::{Icmpv4Slice, Icmpv6Slice, Ipv6HeaderSlice, Proto};
 

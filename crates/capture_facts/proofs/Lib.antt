@@ -1,3 +1,0 @@
-mod FactsExamples
-pub mod FactsLemmas
-pub mod ShownLemmas

@@ -1,3 +1,0 @@
-pub mod FactsText
-pub mod ShownText
-pub mod TextsText

@@ -1,5 +1,0 @@
-mod LinkExamples
-pub mod LinkLaws
-pub mod LinkLemmas
-pub mod MplsLemmas
-pub mod NflogLemmas
