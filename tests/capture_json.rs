@@ -14,7 +14,7 @@ use capture_packet::{
 use capture_summary::{
     Busiest, CaptureInfo, FrameLen, Protocol, RefusalKind, Summary, VerdictKind,
 };
-use capture_texts::KeptText;
+use capture_file::KeptText;
 use capture_words::Times;
 use etherparse_transport::ip::{IpAddresses, IpError};
 use etherparse_transport::{

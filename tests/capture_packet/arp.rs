@@ -3,7 +3,7 @@
 use super::packet::OTHER_PROTOCOL;
 use crate::expect::{expect_at, joined};
 use capture_packet::{Arp, ArpAddresses, Content, NetworkProtocol, Packet, read_packet};
-use capture_texts::{ByteOrder, LinkType};
+use capture_numbers::{ByteOrder, LinkType};
 use std::process::Abort;
 
 /// The addresses of `SENDER` and `TARGET`.

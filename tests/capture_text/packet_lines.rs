@@ -9,7 +9,7 @@ use capture_packet::{
 };
 use capture_summary::FrameLen;
 use capture_text::write_packet_line;
-use capture_texts::KeptText;
+use capture_file::KeptText;
 use capture_words::Times;
 use etherparse_transport::err::tcp::{HeaderError, HeaderSliceError};
 use etherparse_transport::err::{Layer, LenError, LenSource};

@@ -6,7 +6,7 @@ use capture_file::ByteOrder;
 use capture_file::classic::{CaptureHeader, Resolution};
 use capture_file::pcapng::{InterfaceDescription, TimeResolution};
 use capture_file::reader::{CaptureReader, ClassicReader, PcapngReader, Section};
-use capture_texts::FileTexts;
+use capture_file::FileTexts;
 use std::process::Abort;
 
 /// Stops the test unless the facts of the capture are this text.

@@ -2,7 +2,7 @@
 use Rattle.std.proofs.Common.{◌≡◌, ◌++◌, ◌∙◌, ℕ, List, Some, [], append-nil, subst, sym}
 use Rattle.std.specs.Io.KnownBytes.{Consumes}
 use Rattle.capture_file.specs.PcapngReading.{IsNextBlock, ReadsAfter}
-use Rattle.capture_texts.specs.declared.byte_order.ByteOrder.{ByteOrder}
+use Rattle.capture_numbers.specs.declared.byte_order.ByteOrder.{ByteOrder}
 use Rattle.capture_file.specs.declared.pcapng.read.NextBlock.{NextBlock}
 
 -- reading all the bytes that are left ends at the end of input

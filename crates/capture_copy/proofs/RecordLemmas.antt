@@ -3,8 +3,8 @@ use Rattle.std.proofs.Common.{◌≡◌, ◌<◌, ◌+◌, ◌++◌, ℕ, List, 
 use Rattle.std.proofs.lemmas.Bool.Decides.{nat_tests}
 use Rattle.capture_file.proofs.RecordLemmas.{record_len_front}
 use Rattle.capture_file.specs.Classic.{IsRecord}
-use Rattle.capture_texts.specs.Numbers.{number_at}
-use Rattle.capture_texts.specs.declared.byte_order.ByteOrder.{ByteOrder}
+use Rattle.capture_numbers.specs.Numbers.{number_at}
+use Rattle.capture_numbers.specs.declared.byte_order.ByteOrder.{ByteOrder}
 use Rattle.capture_copy.specs.Records.{IsCutRecord}
 
 -- a header and the bytes that it counts are a record

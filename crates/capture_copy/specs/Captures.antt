@@ -6,7 +6,7 @@ use Rattle.capture_file.specs.Pcapng.{is_section_header}
 use Rattle.capture_file.specs.Reading.{RefusesHeader}
 use Rattle.capture_file.specs.declared.classic.capture_header.CaptureHeader.{CaptureHeader}
 use Rattle.capture_file.specs.declared.classic.capture_header_error.CaptureHeaderError.{CaptureHeaderError}
-use Rattle.capture_texts.specs.Blocks.{min_block_len}
+use Rattle.capture_numbers.specs.Blocks.{min_block_len}
 use Rattle.capture_copy.specs.Passing.{Format, PassesTo}
 use Rattle.capture_copy.specs.declared.copier.CopyError.{CopyError}
 use Rattle.capture_copy.specs.declared.copier.CopyError.TheVariants.{Read, Write}

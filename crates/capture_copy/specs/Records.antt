@@ -2,7 +2,7 @@
 use Rattle.std.specs.Prelude.{◌≡◌, ◌≢◌, ℕ, List, [], length}
 use Rattle.capture_file.specs.Classic.{IsPartial}
 use Rattle.capture_file.specs.Reading.{required_len}
-use Rattle.capture_texts.specs.declared.byte_order.ByteOrder.{ByteOrder}
+use Rattle.capture_numbers.specs.declared.byte_order.ByteOrder.{ByteOrder}
 
 -- The bytes begin with a record, and end within it. `len` is their number. `required` is the length of the record, or of its header if the
 -- header is incomplete.

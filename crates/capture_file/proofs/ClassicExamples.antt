@@ -1,11 +1,11 @@
 -- Worked examples of captures, so that a wrong definition fails before any code does.
 use Rattle.std.proofs.Common.{◌≡◌, ℕ, List, [], ◌∷◌, ◌++◌, None, Some, Err, Ok, arith, inl, refl, replicate}
 use Rattle.capture_file.specs.Classic.{form_of, header_refusal, link_type_or_number, record_header, record_len, IsHeaderOf, IsReading, IsRecord}
-use Rattle.capture_texts.specs.LinkTypes.{link_type_with}
+use Rattle.capture_numbers.specs.LinkTypes.{link_type_with}
 use Rattle.capture_file.specs.Reading.{required_len}
-use Rattle.capture_texts.specs.declared.byte_order.ByteOrder.TheVariants.{BigEndian, LittleEndian}
+use Rattle.capture_numbers.specs.declared.byte_order.ByteOrder.TheVariants.{BigEndian, LittleEndian}
 use Rattle.capture_file.specs.declared.classic.capture_header_error.CaptureHeaderError.TheVariants.{CutOff, Magic, Modified, Pcapng, Version}
-use Rattle.capture_texts.specs.declared.link_type.LinkType.TheVariants.{Ethernet, LinuxCooked2}
+use Rattle.capture_numbers.specs.declared.link_type.LinkType.TheVariants.{Ethernet, LinuxCooked2}
 use Rattle.capture_file.specs.declared.classic.record_header.Resolution.TheVariants.{Microseconds, Nanoseconds}
 
 -- the header of a little-endian capture: version 2.4, a snap length of 262,144 bytes, Ethernet

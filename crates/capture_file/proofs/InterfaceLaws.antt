@@ -4,12 +4,12 @@ use Rattle.std.proofs.Common.{◌≡◌, ◌≢◌, ◌≤◌, ◌<◌, ◌∙�
 use Rattle.std.proofs.lemmas.List.{map-append}
 use Rattle.std.specs.Prelude.{◌-◌, nat_lt, slice_range}
 use Rattle.net_base.specs.Bytes.{IsBytes}
-use Rattle.capture_texts.specs.Blocks.{interface_description_type, section_header_type}
-use Rattle.capture_texts.specs.Texts.{max_interfaces_with_texts}
-use Rattle.capture_texts.specs.declared.file_texts.InterfaceTexts.{InterfaceTexts}
+use Rattle.capture_numbers.specs.Blocks.{interface_description_type, section_header_type}
+use Rattle.capture_file.specs.Texts.{max_interfaces_with_texts}
+use Rattle.capture_file.specs.declared.file_texts.InterfaceTexts.{InterfaceTexts}
 use Rattle.capture_file.proofs.PacketsOfBlocksLaws.{FirstBlock, first_block}
 use Rattle.capture_file.proofs.PacketsOfBlocksLemmas.{both_orders, bytes_front, section_number}
-use Rattle.capture_texts.specs.declared.byte_order.ByteOrder.TheVariants.{BigEndian}
+use Rattle.capture_numbers.specs.declared.byte_order.ByteOrder.TheVariants.{BigEndian}
 use Rattle.capture_file.specs.BlockTexts.{noted, texts_with, unless_refused}
 use Rattle.capture_file.specs.CapturePackets.{Begins, FilePacket, ReadsOne, ReadsPackets}
 use Rattle.capture_file.specs.Interfaces.{Description, HasOwnTexts, KeepsOwnTexts, description_of, texts_of}

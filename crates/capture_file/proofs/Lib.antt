@@ -20,3 +20,5 @@ pub mod ReadingLemmas
 pub mod RecordLemmas
 pub mod SectionLaws
 pub mod StepLaws
+pub mod TextsExamples
+pub mod TextsLemmas

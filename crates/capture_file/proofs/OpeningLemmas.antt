@@ -10,7 +10,7 @@ use Rattle.capture_file.proofs.PcapngReadingLemmas.{with_first}
 use Rattle.capture_file.specs.Opening.{ReadsBeginning, ReadsFirstBlock, ReadsRestOfBlock, ReadsRestOfHeader}
 use Rattle.capture_file.specs.Reading.{ReadsHeader}
 use Rattle.capture_file.specs.Pcapng.{is_section_header}
-use Rattle.capture_texts.specs.declared.byte_order.ByteOrder.TheVariants.{BigEndian}
+use Rattle.capture_numbers.specs.declared.byte_order.ByteOrder.TheVariants.{BigEndian}
 use Rattle.capture_file.specs.declared.classic.capture_header.CaptureHeader.{CaptureHeader}
 use Rattle.capture_file.specs.declared.classic.capture_header_error.CaptureHeaderError.{CaptureHeaderError}
 use Rattle.capture_file.specs.declared.reader.open_error.OpenError.TheVariants as refusals

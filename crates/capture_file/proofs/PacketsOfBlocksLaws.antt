@@ -21,11 +21,11 @@ use Rattle.capture_file.specs.PacketsOfBlocks.{Contents, FilesHavePacketsOfBlock
 use Rattle.capture_file.specs.Pcapng.{AreBlocks, IsBlock, IsBlockReading, block_header, block_refusal, is_section_header, order_after, order_of}
 use Rattle.capture_file.specs.PcapngBodies.{section_header_refusal}
 use Rattle.capture_file.specs.PcapngBody.{body_refusal}
-use Rattle.capture_texts.specs.Blocks.{section_header_type}
+use Rattle.capture_numbers.specs.Blocks.{section_header_type}
 use Rattle.capture_file.specs.PcapngReading.{ReadsNextBlock}
 use Rattle.capture_file.specs.PcapngSteps.{ReadsPacket, ReadsStep, is_description, is_packet, next_by_taken, next_by_too_long, offset_after, refused_at}
-use Rattle.capture_texts.specs.declared.byte_order.ByteOrder.{ByteOrder}
-use Rattle.capture_texts.specs.declared.byte_order.ByteOrder.TheVariants.{BigEndian}
+use Rattle.capture_numbers.specs.declared.byte_order.ByteOrder.{ByteOrder}
+use Rattle.capture_numbers.specs.declared.byte_order.ByteOrder.TheVariants.{BigEndian}
 use Rattle.capture_file.specs.declared.pcapng.block.BlockHeader.{BlockHeader}
 use Rattle.capture_file.specs.declared.pcapng.errors.BlockError.{BlockError}
 use Rattle.capture_file.specs.declared.pcapng.errors.BodyError.{BodyError}
@@ -39,7 +39,7 @@ use Rattle.capture_file.specs.declared.reader.packet_error.PacketError.{PacketEr
 use Rattle.capture_file.specs.declared.reader.packet_error.PacketError.TheVariants as errors
 use Rattle.capture_file.specs.declared.reader.pcapng_reader.PcapngReader.{PcapngReader}
 use Rattle.capture_file.specs.declared.reader.pcapng_reader.Section.{Section}
-use Rattle.capture_texts.specs.declared.file_texts.FileTexts.{FileTexts}
+use Rattle.capture_file.specs.declared.file_texts.FileTexts.{FileTexts}
 
 -- ---- one block
 

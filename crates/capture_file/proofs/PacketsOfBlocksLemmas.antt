@@ -7,17 +7,17 @@ use Rattle.std.specs.Prelude.{slice_get, slice_range}
 use Rattle.net_base.specs.Bytes.{IsBytes, be_number}
 use Rattle.capture_file.proofs.SectionLaws.{Given}
 use Rattle.capture_file.specs.CapturePackets.{FilePacket, packet_in}
-use Rattle.capture_texts.specs.Numbers.{number_at, short_at}
+use Rattle.capture_numbers.specs.Numbers.{number_at, short_at}
 use Rattle.capture_file.specs.Packets.{packet_of_block, packet_start}
 use Rattle.capture_file.specs.PacketsOfBlocks.{interfaces_after, simple_packet, timed_packet, whole_result}
 use Rattle.capture_file.specs.Pcapng.{is_section_header, order_of}
 use Rattle.capture_file.specs.PcapngBodies.{interface_description, section_header_refusal}
 use Rattle.capture_file.specs.PcapngBody.{IsBody, body_refusal}
-use Rattle.capture_texts.specs.Blocks.{interface_description_type, section_header_type}
+use Rattle.capture_numbers.specs.Blocks.{interface_description_type, section_header_type}
 use Rattle.capture_file.specs.PcapngPackets.{IsSimplePacketOf, IsTimedPacket, captured_len}
 use Rattle.capture_file.specs.Sections.{Describes, TakesBlock, TakesBody, TakesUnless, max_interfaces}
-use Rattle.capture_texts.specs.declared.byte_order.ByteOrder.{ByteOrder}
-use Rattle.capture_texts.specs.declared.byte_order.ByteOrder.TheVariants.{BigEndian, LittleEndian}
+use Rattle.capture_numbers.specs.declared.byte_order.ByteOrder.{ByteOrder}
+use Rattle.capture_numbers.specs.declared.byte_order.ByteOrder.TheVariants.{BigEndian, LittleEndian}
 use Rattle.capture_file.specs.declared.pcapng.block.BlockHeader.{BlockHeader}
 use Rattle.capture_file.specs.declared.pcapng.block_body.BlockBody.{BlockBody}
 use Rattle.capture_file.specs.declared.pcapng.block_body.BlockBody.TheVariants.{InterfaceDescription as Description, Other, Packet, SectionHeader}

@@ -3,7 +3,7 @@ use Rattle.std.proofs.Common.{◌≡◌, true, List, [], ◌∷◌, Ok, Err, ref
 use Rattle.std.specs.Iterator.{Yields}
 use Rattle.std.specs.Iterator.Runs.{Run, YieldsRun}
 use Rattle.capture_file.specs.PcapngBlocks.{AreItems, BlockItem, GivesBlock, UnreadFile}
-use Rattle.capture_texts.specs.declared.byte_order.ByteOrder.{ByteOrder}
+use Rattle.capture_numbers.specs.declared.byte_order.ByteOrder.{ByteOrder}
 
 -- without bytes there are no items
 none_left : (section : ByteOrder) (items : List BlockItem) → AreItems section [] items → items ≡ []

@@ -8,9 +8,9 @@ use Rattle.capture_file.specs.Pcapng.{IsBlock, IsBlockReading, block_len, block_
 use Rattle.capture_file.specs.PcapngBodies.{interface_description, section_header_refusal}
 use Rattle.capture_file.specs.PcapngPackets.{simple_end, timed_refusal}
 use Rattle.capture_file.specs.PcapngSteps.{refused_at}
-use Rattle.capture_texts.specs.declared.byte_order.ByteOrder.TheVariants.{BigEndian, LittleEndian}
+use Rattle.capture_numbers.specs.declared.byte_order.ByteOrder.TheVariants.{BigEndian, LittleEndian}
 use Rattle.capture_file.specs.declared.pcapng.errors.BlockError.TheVariants.{CutOff, LastLength, Magic, SectionLength, TotalLength}
-use Rattle.capture_texts.specs.declared.link_type.LinkType.TheVariants.{Ethernet}
+use Rattle.capture_numbers.specs.declared.link_type.LinkType.TheVariants.{Ethernet}
 use Rattle.capture_file.specs.declared.pcapng.errors.BodyError.TheVariants.{Interface, Version}
 use Rattle.capture_file.specs.declared.pcapng.time_resolution.TimeResolution.TheVariants.{PowerOfTen, PowerOfTwo}
 use Rattle.capture_file.specs.declared.reader.next_packet.NextPacket.TheVariants as packets

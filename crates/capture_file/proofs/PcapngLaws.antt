@@ -5,7 +5,7 @@ use Rattle.capture_file.proofs.PieceLaws.{Form, before_cut, exists, unique}
 use Rattle.capture_file.specs.Classic.{AreBeforeCut}
 use Rattle.capture_file.specs.Laws.{AreUnique, Exist, RemainAtCut}
 use Rattle.capture_file.specs.Pcapng.{AreBlocks, IsBlock, IsBlockReading, block_len, block_refusal, order_after, order_of}
-use Rattle.capture_texts.specs.declared.byte_order.ByteOrder.{ByteOrder}
+use Rattle.capture_numbers.specs.declared.byte_order.ByteOrder.{ByteOrder}
 use Rattle.capture_file.specs.declared.pcapng.errors.BlockError.{BlockError}
 
 -- bytes are refused, or begin with a block

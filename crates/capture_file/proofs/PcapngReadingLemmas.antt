@@ -9,11 +9,11 @@ use Rattle.net_base.specs.Bytes.{be_number}
 use Rattle.net_base.specs.Refusals.{first_of, refused_if}
 use Rattle.capture_file.proofs.PcapngLemmas.{begins_with, block_header_front, block_len_front, is_short_section_front, lacks_magic_front, last_len_front, order_of_front}
 use Rattle.capture_file.proofs.RecordLemmas.{be_number_front}
-use Rattle.capture_texts.specs.Numbers.{le_number, number_at}
+use Rattle.capture_numbers.specs.Numbers.{le_number, number_at}
 use Rattle.capture_file.specs.Pcapng.{IsBlock, block_header, block_header_refusal, block_len, block_refusal, last_len}
 use Rattle.capture_file.specs.PcapngReading.{AreFirst, FailsAfter, FailsInBlock, IsLastBlock, ReadsAfter, ReadsNextBlock}
 use Rattle.streams.specs.Streams.{FillsAfter, ReadsFewer}
-use Rattle.capture_texts.specs.declared.byte_order.ByteOrder.{ByteOrder}
+use Rattle.capture_numbers.specs.declared.byte_order.ByteOrder.{ByteOrder}
 use Rattle.capture_file.specs.declared.pcapng.errors.BlockError.{BlockError}
 use Rattle.capture_file.specs.declared.pcapng.errors.BlockError.TheVariants.{CutOff, LastLength}
 use Rattle.capture_file.specs.declared.pcapng.block.BlockHeader.{BlockHeader}

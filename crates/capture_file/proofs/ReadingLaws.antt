@@ -7,7 +7,7 @@ use Rattle.capture_file.proofs.PieceLaws.{Form, before_cut, exists, unique}
 use Rattle.capture_file.proofs.RecordLemmas.{not_partial, record_len_front, same_record}
 use Rattle.capture_file.specs.Classic.{record_len, AreBeforeCut, IsPartial, IsReading, IsRecord}
 use Rattle.capture_file.specs.Laws.{AreUnique, Exist, RemainAtCut}
-use Rattle.capture_texts.specs.declared.byte_order.ByteOrder.{ByteOrder}
+use Rattle.capture_numbers.specs.declared.byte_order.ByteOrder.{ByteOrder}
 
 -- the first bytes, up to the stated length, are a record
 first_record : (order : ByteOrder) (bytes : List ℕ) → record_len order bytes ≤ length bytes

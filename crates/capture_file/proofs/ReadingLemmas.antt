@@ -8,10 +8,10 @@ use Rattle.std.specs.List.{AllByRecursion, concat}
 use Rattle.std.specs.Io.KnownBytes.{Consumes, IsAtEnd}
 use Rattle.capture_file.proofs.RecordLemmas.{record_header_front, record_len_front}
 use Rattle.capture_file.specs.Classic.{record_header, IsPartial, IsReading, IsRecord}
-use Rattle.capture_texts.specs.Numbers.{number_at}
+use Rattle.capture_numbers.specs.Numbers.{number_at}
 use Rattle.capture_file.specs.Reading.{FailsInRecord, IsCaptured, IsNext, ReadsCaptured, ReadsNext, ReadsRecords}
 use Rattle.streams.specs.Streams.{ReadsFewer}
-use Rattle.capture_texts.specs.declared.byte_order.ByteOrder.{ByteOrder}
+use Rattle.capture_numbers.specs.declared.byte_order.ByteOrder.{ByteOrder}
 use Rattle.capture_file.specs.declared.classic.read.NextRecord.{NextRecord}
 use Rattle.capture_file.specs.declared.classic.read.NextRecord.TheVariants.{CutOff, End, TooLong, Whole}
 use Rattle.capture_file.specs.declared.classic.record_header.RecordHeader.{RecordHeader}

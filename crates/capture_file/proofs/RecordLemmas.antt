@@ -3,8 +3,8 @@ use Rattle.std.proofs.Common.{◌≡◌, ℕ, zero, suc, ◌+◌, ◌≤◌, Lis
 use Rattle.std.proofs.lemmas.List.{append_cancel_left, get_or_append_left, take_at}
 use Rattle.net_base.specs.Bytes.{be_number}
 use Rattle.capture_file.specs.Classic.{record_header, record_len, IsPartial, IsRecord}
-use Rattle.capture_texts.specs.Numbers.{le_number, number_at}
-use Rattle.capture_texts.specs.declared.byte_order.ByteOrder.{ByteOrder}
+use Rattle.capture_numbers.specs.Numbers.{le_number, number_at}
+use Rattle.capture_numbers.specs.declared.byte_order.ByteOrder.{ByteOrder}
 
 -- a number in the first bytes is the number in all bytes at its place
 pub be_number_front : (count : ℕ) (first more : List ℕ) (from : ℕ) → from + count ≤ length first

@@ -16,7 +16,7 @@ use Rattle.capture_file.specs.Pcapng.{IsBlock, block_header, block_refusal}
 use Rattle.capture_file.specs.PcapngReading.{ReadsNextBlock}
 use Rattle.capture_file.specs.PcapngSteps.{IsStep, ReadsStep, next_by_refusal, next_by_taken, next_by_too_long}
 use Rattle.capture_file.specs.Sections.{TakesBlock}
-use Rattle.capture_texts.specs.declared.byte_order.ByteOrder.{ByteOrder}
+use Rattle.capture_numbers.specs.declared.byte_order.ByteOrder.{ByteOrder}
 use Rattle.capture_file.specs.declared.pcapng.errors.BlockError.{BlockError}
 use Rattle.capture_file.specs.declared.pcapng.errors.BlockError.TheVariants as refusals
 use Rattle.capture_file.specs.declared.pcapng.block.BlockHeader.{BlockHeader}
@@ -27,7 +27,7 @@ use Rattle.capture_file.specs.declared.reader.next_packet.NextPacket.{NextPacket
 use Rattle.capture_file.specs.declared.reader.next_packet.NextPacket.TheVariants as packets
 use Rattle.capture_file.specs.declared.reader.pcapng_reader.PcapngReader.{PcapngReader}
 use Rattle.capture_file.specs.declared.reader.pcapng_reader.Section.{Section}
-use Rattle.capture_texts.specs.declared.file_texts.FileTexts.{FileTexts}
+use Rattle.capture_file.specs.declared.file_texts.FileTexts.{FileTexts}
 
 -- ---- the item of a block, whatever is in the buffer after it
 

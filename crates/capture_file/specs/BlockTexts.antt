@@ -1,13 +1,13 @@
 -- The texts of a pcapng file, block by block (draft-ietf-opsawg-pcapng, sections 3.5, 4.1 and 4.2).
 use Rattle.std.specs.Prelude.{ℕ, ◌-◌, List, slice_range, Option, Some}
-use Rattle.capture_texts.specs.Blocks.{body_at, trailer_len}
+use Rattle.capture_numbers.specs.Blocks.{body_at, trailer_len}
 use Rattle.capture_file.specs.declared.pcapng.block.BlockHeader.{BlockHeader}
 use Rattle.capture_file.specs.declared.pcapng.read.NextBlock.{NextBlock}
 use Rattle.capture_file.specs.declared.pcapng.read.NextBlock.TheVariants.{Whole}
 use Rattle.capture_file.specs.declared.reader.next_packet.NextPacket.{NextPacket}
 use Rattle.capture_file.specs.declared.reader.next_packet.NextPacket.TheVariants.{Refused}
-use Rattle.capture_texts.specs.Texts.{texts_after}
-use Rattle.capture_texts.specs.declared.file_texts.FileTexts.{FileTexts}
+use Rattle.capture_file.specs.Texts.{texts_after}
+use Rattle.capture_file.specs.declared.file_texts.FileTexts.{FileTexts}
 
 -- the texts of the file after a block with this header and body
 abbrev pub texts_with : BlockHeader → List ℕ → FileTexts → FileTexts

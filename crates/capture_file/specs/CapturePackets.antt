@@ -6,7 +6,7 @@ use Rattle.capture_file.specs.Opening.{ReadsFirstBlock}
 use Rattle.capture_file.specs.Packets.{begins_records, long_record, packet_of_record}
 use Rattle.capture_file.specs.PcapngSteps.{FailsToPass, HasPassed, ReadsPacket}
 use Rattle.capture_file.specs.Reading.{FailsInRecord, required_len}
-use Rattle.capture_texts.specs.declared.byte_order.ByteOrder.{ByteOrder}
+use Rattle.capture_numbers.specs.declared.byte_order.ByteOrder.{ByteOrder}
 use Rattle.capture_file.specs.declared.classic.capture_header.CaptureHeader.{CaptureHeader}
 use Rattle.capture_file.specs.declared.reader.capture_reader.CaptureReader.{CaptureReader}
 use Rattle.capture_file.specs.declared.reader.capture_reader.CaptureReader.TheVariants.{Classic, Pcapng}

@@ -2,11 +2,11 @@
 use Rattle.std.specs.Prelude.{◌≡◌, ℕ, nat_lt, if◌then◌else◌, List, [], drop, length, map, slice_get, take, Option, Some, None, unwrap_or}
 use Rattle.std.specs.Option.{option_map}
 use Rattle.net_base.specs.Bytes.{IsBytes}
-use Rattle.capture_texts.specs.Blocks.{interface_description_len}
-use Rattle.capture_texts.specs.Texts.{interface_texts, kept_text, max_interfaces_with_texts}
-use Rattle.capture_texts.specs.declared.byte_order.ByteOrder.{ByteOrder}
-use Rattle.capture_texts.specs.declared.file_texts.InterfaceTexts.{InterfaceTexts}
-use Rattle.capture_texts.specs.declared.kept_text.KeptText.{KeptText}
+use Rattle.capture_numbers.specs.Blocks.{interface_description_len}
+use Rattle.capture_file.specs.Texts.{interface_texts, kept_text, max_interfaces_with_texts}
+use Rattle.capture_numbers.specs.declared.byte_order.ByteOrder.{ByteOrder}
+use Rattle.capture_file.specs.declared.file_texts.InterfaceTexts.{InterfaceTexts}
+use Rattle.capture_file.specs.declared.kept_text.KeptText.{KeptText}
 use Rattle.capture_file.specs.CapturePackets.{Begins, FilePacket, ReadsPackets}
 use Rattle.capture_file.specs.PcapngBodies.{interface_description}
 use Rattle.capture_file.specs.declared.pcapng.interface_description.InterfaceDescription.{InterfaceDescription}

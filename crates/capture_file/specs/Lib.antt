@@ -18,3 +18,4 @@ pub mod Places
 pub mod Readers
 pub mod Reading
 pub mod Sections
+pub mod Texts

@@ -2,7 +2,7 @@
 -- header block (draft-ietf-opsawg-pcapng, section 4.1).
 use Rattle.std.specs.Prelude.{◌≡◌, ◌≢◌, ℕ, ◌-◌, ◌<◌, ◌≤◌, true, List, [], ◌++◌, length, slice_range, Option, Some, None, Result, Ok, Err}
 use Rattle.std.specs.Io.KnownBytes.{Consumes, IsAtEnd}
-use Rattle.capture_texts.specs.Blocks.{body_at, min_block_len, trailer_len}
+use Rattle.capture_numbers.specs.Blocks.{body_at, min_block_len, trailer_len}
 use Rattle.capture_file.specs.BlockTexts.{texts_with}
 use Rattle.capture_file.specs.Classic.{IsHeaderOf, capture_header_len, header_refusal}
 use Rattle.capture_file.specs.Packets.{begins_records}
@@ -10,7 +10,7 @@ use Rattle.capture_file.specs.Pcapng.{is_section_header}
 use Rattle.capture_file.specs.PcapngBodies.{section_header_refusal}
 use Rattle.capture_file.specs.PcapngReading.{ReadsAfter, ReadsNextBlock}
 use Rattle.capture_file.specs.Reading.{ReadsHeader}
-use Rattle.capture_texts.specs.declared.byte_order.ByteOrder.TheVariants.{BigEndian}
+use Rattle.capture_numbers.specs.declared.byte_order.ByteOrder.TheVariants.{BigEndian}
 use Rattle.capture_file.specs.declared.classic.capture_header.CaptureHeader.{CaptureHeader}
 use Rattle.capture_file.specs.declared.classic.capture_header_error.CaptureHeaderError.{CaptureHeaderError}
 use Rattle.capture_file.specs.declared.classic.capture_header_error.CaptureHeaderError.TheVariants as header_errors
@@ -26,7 +26,7 @@ use Rattle.capture_file.specs.declared.reader.open_error.OpenError.TheVariants a
 use Rattle.capture_file.specs.declared.reader.packet_error.PacketError.{PacketError}
 use Rattle.capture_file.specs.declared.reader.packet_error.PacketError.TheVariants as errors
 use Rattle.capture_file.specs.declared.reader.pcapng_reader.PcapngReader.{PcapngReader}
-use Rattle.capture_texts.specs.Texts.{no_texts}
+use Rattle.capture_file.specs.Texts.{no_texts}
 
 -- ---- a pcapng file
 

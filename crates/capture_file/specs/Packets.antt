@@ -2,7 +2,7 @@
 use Rattle.std.specs.Prelude.{◌≡◌, ℕ, ◌+◌, ◌-◌, ◌^◌, ◌/◌, ◌%◌, ◌==◌, ◌≤◌, if◌then◌else◌, min, pos, List, length, Option, Some, None}
 use Rattle.std.specs.Option.{option_map}
 use Rattle.capture_file.specs.Classic.{capture_header_len, link_type_or_number, record_header_len}
-use Rattle.capture_texts.specs.Blocks.{body_at, simple_captured_at, simple_packet_type, timed_captured_at}
+use Rattle.capture_numbers.specs.Blocks.{body_at, simple_captured_at, simple_packet_type, timed_captured_at}
 use Rattle.capture_file.specs.PcapngBodies.{units_per_second}
 use Rattle.capture_file.specs.Reading.{ReadsNext}
 use Rattle.capture_file.specs.declared.classic.capture_header.CaptureHeader.{CaptureHeader}

@@ -6,17 +6,17 @@ use Rattle.std.specs.Option.{option_map}
 use Rattle.net_base.specs.Bytes.{IsBytes}
 use Rattle.net_base.specs.Refusals.{first_of, refused_if}
 use Rattle.capture_file.specs.CapturePackets.{Begins, FilePacket, HasPackets, kept, too_long}
-use Rattle.capture_texts.specs.Numbers.{number_at, short_at}
+use Rattle.capture_numbers.specs.Numbers.{number_at, short_at}
 use Rattle.capture_file.specs.Packets.{interface_packet, long_block}
 use Rattle.capture_file.specs.Pcapng.{IsBlockReading, block_header, block_refusal}
 use Rattle.capture_file.specs.PcapngBodies.{interface_description}
 use Rattle.capture_file.specs.PcapngBody.{body_refusal}
-use Rattle.capture_texts.specs.Blocks.{body_at, enhanced_packet_type, interface_description_type, obsolete_packet_type, section_header_type, simple_captured_at, simple_packet_type, timed_captured_at, timed_captured_len_at, trailer_len}
+use Rattle.capture_numbers.specs.Blocks.{body_at, enhanced_packet_type, interface_description_type, obsolete_packet_type, section_header_type, simple_captured_at, simple_packet_type, timed_captured_at, timed_captured_len_at, trailer_len}
 use Rattle.capture_file.specs.PcapngPackets.{simple_end}
 use Rattle.capture_file.specs.PcapngSteps.{is_description, is_packet, next_by_refusal, offset_after, refused_at}
 use Rattle.capture_file.specs.Sections.{max_interfaces}
-use Rattle.capture_texts.specs.declared.byte_order.ByteOrder.{ByteOrder}
-use Rattle.capture_texts.specs.declared.byte_order.ByteOrder.TheVariants.{BigEndian}
+use Rattle.capture_numbers.specs.declared.byte_order.ByteOrder.{ByteOrder}
+use Rattle.capture_numbers.specs.declared.byte_order.ByteOrder.TheVariants.{BigEndian}
 use Rattle.capture_file.specs.declared.pcapng.block.BlockHeader.{BlockHeader}
 use Rattle.capture_file.specs.declared.pcapng.errors.BlockError.{BlockError}
 use Rattle.capture_file.specs.declared.pcapng.interface_description.InterfaceDescription.{InterfaceDescription}

@@ -1,7 +1,7 @@
 -- The blocks of a pcapng file in memory, one after the other (draft-ietf-opsawg-pcapng, section 3.1).
 use Rattle.std.specs.Prelude.{◌≡◌, ◌≢◌, ℕ, ◌-◌, List, [], ◌∷◌, length, Option, Some, None, Result, Ok, Err}
 use Rattle.capture_file.specs.Pcapng.{ReadsBlock, block_refusal}
-use Rattle.capture_texts.specs.declared.byte_order.ByteOrder.{ByteOrder}
+use Rattle.capture_numbers.specs.declared.byte_order.ByteOrder.{ByteOrder}
 use Rattle.capture_file.specs.declared.pcapng.block.Block.{Block}
 use Rattle.capture_file.specs.declared.pcapng.block.PlacedBlockError.{PlacedBlockError}
 

@@ -2,10 +2,10 @@
 use Rattle.std.specs.Prelude.{ℕ, ◌-◌, ◌^◌, ◌==◌, not, nat_lt, if◌then◌else◌, ℤ, pos, List, [], ◌∷◌, drop, length, slice_index, Option, Some, None}
 use Rattle.std.specs.Int.{cast_signed, w64}
 use Rattle.net_base.specs.Refusals.{first_of, refused_if}
-use Rattle.capture_texts.specs.Blocks.{interface_description_len, section_header_len}
-use Rattle.capture_texts.specs.Numbers.{long_at, number_at, short_at}
-use Rattle.capture_texts.specs.Options.{option_value}
-use Rattle.capture_texts.specs.declared.byte_order.ByteOrder.{ByteOrder}
+use Rattle.capture_numbers.specs.Blocks.{interface_description_len, section_header_len}
+use Rattle.capture_numbers.specs.Numbers.{long_at, number_at, short_at}
+use Rattle.capture_numbers.specs.Options.{option_value}
+use Rattle.capture_numbers.specs.declared.byte_order.ByteOrder.{ByteOrder}
 use Rattle.capture_file.specs.declared.pcapng.errors.BodyError.{BodyError}
 use Rattle.capture_file.specs.declared.pcapng.errors.BodyError.TheVariants.{CutOff, Version}
 use Rattle.capture_file.specs.declared.pcapng.interface_description.InterfaceDescription.{InterfaceDescription}

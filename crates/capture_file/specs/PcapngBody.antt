@@ -1,7 +1,7 @@
 -- The body of a block of a pcapng file. The type of the block determines its content (draft-ietf-opsawg-pcapng, section 4 and appendix A).
 use Rattle.std.specs.Prelude.{◌≡◌, ◌≢◌, ◌⊎◌, ℕ, ◌==◌, if◌then◌else◌, List, length, Option, None}
-use Rattle.capture_texts.specs.Blocks.{enhanced_packet_type, interface_description_type, obsolete_packet_type, section_header_type, simple_packet_type}
-use Rattle.capture_texts.specs.Numbers.{number_at, short_at}
+use Rattle.capture_numbers.specs.Blocks.{enhanced_packet_type, interface_description_type, obsolete_packet_type, section_header_type, simple_packet_type}
+use Rattle.capture_numbers.specs.Numbers.{number_at, short_at}
 use Rattle.capture_file.specs.PcapngBodies.{interface_description, interface_refusal, section_header, section_header_refusal}
 use Rattle.capture_file.specs.PcapngPackets.{IsSimplePacket, IsTimedPacket, simple_refusal, timed_refusal}
 use Rattle.capture_file.specs.declared.pcapng.block_body.BlockBody.{BlockBody}

@@ -2,10 +2,10 @@
 use Rattle.std.specs.Prelude.{◌≡◌, ℕ, ◌+◌, ◌*◌, ◌^◌, ◌==◌, nat_le, if◌then◌else◌, min, List, [], ◌∷◌, slice_get, slice_range, Option, Some, None}
 use Rattle.std.specs.Option.{option_map}
 use Rattle.net_base.specs.Refusals.{first_of, refused_if}
-use Rattle.capture_texts.specs.Blocks.{simple_captured_at, timed_captured_at, timed_captured_len_at}
-use Rattle.capture_texts.specs.Numbers.{number_at}
+use Rattle.capture_numbers.specs.Blocks.{simple_captured_at, timed_captured_at, timed_captured_len_at}
+use Rattle.capture_numbers.specs.Numbers.{number_at}
 use Rattle.capture_file.specs.PcapngBodies.{below}
-use Rattle.capture_texts.specs.declared.byte_order.ByteOrder.{ByteOrder}
+use Rattle.capture_numbers.specs.declared.byte_order.ByteOrder.{ByteOrder}
 use Rattle.capture_file.specs.declared.pcapng.errors.BodyError.{BodyError}
 use Rattle.capture_file.specs.declared.pcapng.errors.BodyError.TheVariants.{Interface}
 use Rattle.capture_file.specs.declared.pcapng.interface_description.InterfaceDescription.{InterfaceDescription}

@@ -1,9 +1,9 @@
 -- Reading the next block of a pcapng file from a stream. The statements compare the bytes that are left before and after the read.
 use Rattle.std.specs.Prelude.{◌≡◌, ◌≢◌, ℕ, ◌%◌, ◌<◌, ◌≤◌, List, [], ◌++◌, length, take, Option, Some, None}
 use Rattle.std.specs.Io.KnownBytes.{Consumes, IsAtEnd}
-use Rattle.capture_texts.specs.Blocks.{min_block_len}
+use Rattle.capture_numbers.specs.Blocks.{min_block_len}
 use Rattle.capture_file.specs.Pcapng.{IsBlock, block_header, block_header_refusal, block_refusal}
-use Rattle.capture_texts.specs.declared.byte_order.ByteOrder.{ByteOrder}
+use Rattle.capture_numbers.specs.declared.byte_order.ByteOrder.{ByteOrder}
 use Rattle.capture_file.specs.declared.pcapng.block.BlockHeader.{BlockHeader}
 use Rattle.capture_file.specs.declared.pcapng.errors.BlockError.TheVariants.{CutOff}
 use Rattle.capture_file.specs.declared.pcapng.read.NextBlock.{NextBlock}

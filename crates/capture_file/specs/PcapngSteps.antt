@@ -2,7 +2,7 @@
 use Rattle.std.specs.Prelude.{◌≡◌, ℕ, zero, suc, ◌+◌, ◌-◌, ◌^◌, ◌==◌, Bool, ◌||◌, if◌then◌else◌, min, List, length, slice_range, Option, Some, None, Result, Ok, Err}
 use Rattle.capture_file.specs.BlockTexts.{noted}
 use Rattle.capture_file.specs.Packets.{ReadsRecordPacket, long_block}
-use Rattle.capture_texts.specs.Blocks.{body_at, enhanced_packet_type, interface_description_type, obsolete_packet_type, section_header_type, simple_packet_type, trailer_len}
+use Rattle.capture_numbers.specs.Blocks.{body_at, enhanced_packet_type, interface_description_type, obsolete_packet_type, section_header_type, simple_packet_type, trailer_len}
 use Rattle.capture_file.specs.PcapngReading.{FailsInBlock, ReadsNextBlock}
 use Rattle.capture_file.specs.Sections.{TakesBlock}
 use Rattle.capture_file.specs.declared.pcapng.errors.BlockError.{BlockError}

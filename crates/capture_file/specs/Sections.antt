@@ -1,6 +1,6 @@
 -- A section of a pcapng file while its blocks are read: its byte order and its interfaces (draft-ietf-opsawg-pcapng, section 4.1).
 use Rattle.std.specs.Prelude.{◌≡◌, ◌+◌, ◌<◌, ◌≤◌, ℕ, List, [], ◌∷◌, ◌++◌, length, slice_get, Option, Some, None, Result, Ok, Err}
-use Rattle.capture_texts.specs.Blocks.{body_at}
+use Rattle.capture_numbers.specs.Blocks.{body_at}
 use Rattle.capture_file.specs.Packets.{packet_of_block, packet_start}
 use Rattle.capture_file.specs.PcapngBody.{IsBody, body_refusal}
 use Rattle.capture_file.specs.declared.pcapng.block_body.BlockBody.{BlockBody}

@@ -2,6 +2,7 @@
 //!
 //! A capture is a file in the classic format of libpcap (draft-ietf-opsawg-pcap), or in the newer format pcapng (draft-ietf-opsawg-pcapng).
 //! `reader` reads the packets of both formats, `classic` the records of a classic capture, and `pcapng` the blocks of a pcapng file.
+//! `FileTexts` keeps the names, descriptions and comments of a section (pcapng, sections 3.5, 4.1 and 4.2), up to `MAX_TEXT_LEN` bytes of each.
 //!
 //! ```
 //! let mut capture = CaptureReader::read_header(&mut input, buffer.as_mut_slice())??;
@@ -17,9 +18,13 @@
 #![tactic(auto)]
 
 pub mod classic;
+mod file_texts;
+mod kept_text;
 mod packet_time;
 pub mod pcapng;
 pub mod reader;
 
-pub use capture_texts::{ByteOrder, LinkType};
+pub use capture_numbers::{ByteOrder, LinkType};
+pub use file_texts::{FileTexts, InterfaceTexts, MAX_INTERFACES_WITH_TEXTS};
+pub use kept_text::{KeptText, MAX_TEXT_LEN};
 pub use packet_time::{NANOSECONDS_PER_SECOND, PacketTime, nanoseconds_of};

@@ -27,7 +27,7 @@ mod time_resolution;
 pub(crate) use block::is_section_header;
 pub use block::{Block, BlockHeader, Blocks, MIN_BLOCK_LEN, PlacedBlockError};
 pub use block_body::{BlockBody, PacketBlock, SectionHeader};
-pub use capture_texts::block::SECTION_HEADER;
+pub use capture_numbers::block::SECTION_HEADER;
 pub use errors::{BlockError, BodyError};
 pub use interface_description::InterfaceDescription;
 pub(crate) use read::read_rest;

@@ -3,9 +3,9 @@ use Rattle.std.specs.Prelude.{ℕ, ◌==◌, if◌then◌else◌, List, [], ◌�
 use Rattle.capture_words.specs.ShownText.{shown_kept}
 use Rattle.capture_words.specs.TextsText.{is_absent}
 use Rattle.capture_json.specs.Members.{Member, whole_number}
-use Rattle.capture_texts.specs.declared.file_texts.FileTexts.{FileTexts}
-use Rattle.capture_texts.specs.declared.file_texts.InterfaceTexts.{InterfaceTexts}
-use Rattle.capture_texts.specs.declared.kept_text.KeptText.{KeptText}
+use Rattle.capture_file.specs.declared.file_texts.FileTexts.{FileTexts}
+use Rattle.capture_file.specs.declared.file_texts.InterfaceTexts.{InterfaceTexts}
+use Rattle.capture_file.specs.declared.kept_text.KeptText.{KeptText}
 use Rattle.serde_json.specs.Data.{string}
 
 -- a member with this name and this text, if the text is present

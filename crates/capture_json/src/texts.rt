@@ -6,7 +6,7 @@ ghost use Rattle.capture_json.specs.Tokens.{tokens_in, with_members};
 
 use crate::Line;
 use crate::text::put_written;
-use capture_texts::{FileTexts, InterfaceTexts, KeptText};
+use capture_file::{FileTexts, InterfaceTexts, KeptText};
 use capture_words::write_shown;
 use std::alloc::AllocError;
 use std::io;

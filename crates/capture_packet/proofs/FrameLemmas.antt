@@ -1,7 +1,7 @@
 -- The packet in a frame.
 use Rattle.std.proofs.Common.{◌≡◌, ℕ, Bool, List, inl, subst}
-use Rattle.capture_texts.specs.declared.byte_order.ByteOrder.{ByteOrder}
-use Rattle.capture_texts.specs.declared.link_type.LinkType.{LinkType}
+use Rattle.capture_numbers.specs.declared.byte_order.ByteOrder.{ByteOrder}
+use Rattle.capture_numbers.specs.declared.link_type.LinkType.{LinkType}
 use Rattle.capture_packet.specs.Link.{HasLinkHeader, IsFoundAfter}
 use Rattle.capture_packet.specs.declared.link.Frame.TheVariants.{Ip}
 use Rattle.capture_packet.specs.declared.link.NetworkBytes.{NetworkBytes}

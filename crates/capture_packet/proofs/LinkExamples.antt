@@ -1,8 +1,8 @@
 -- Worked examples of link headers: a frame of each link type, and stacks of MPLS labels. A wrong definition fails here before any code.
 use Rattle.std.proofs.Common.{◌≡◌, ◌<◌, ◌≤◌, ℕ, zero, suc, false, List, [], ◌∷◌, ◌++◌, Option, Some, None, Ok, arith, inl, inr, length, refl, replicate}
 use Rattle.std.specs.Prelude.{slice_range}
-use Rattle.capture_texts.specs.declared.byte_order.ByteOrder.TheVariants.{BigEndian, LittleEndian}
-use Rattle.capture_texts.specs.declared.link_type.LinkType.TheVariants.{Avs, BsdLoopback, CiscoHdlc, Ethernet, FrameRelay, Ieee80211, InfiniBand, Ipnet, LinuxCooked, LinuxCooked2, Nflog, OpenBsdLoopback, Pflog, Pktap, Ppi, Ppp, PppHdlc, PppOverEthernet, Prism, Radiotap, RawIp}
+use Rattle.capture_numbers.specs.declared.byte_order.ByteOrder.TheVariants.{BigEndian, LittleEndian}
+use Rattle.capture_numbers.specs.declared.link_type.LinkType.TheVariants.{Avs, BsdLoopback, CiscoHdlc, Ethernet, FrameRelay, Ieee80211, InfiniBand, Ipnet, LinuxCooked, LinuxCooked2, Nflog, OpenBsdLoopback, Pflog, Pktap, Ppi, Ppp, PppHdlc, PppOverEthernet, Prism, Radiotap, RawIp}
 use Rattle.capture_packet.specs.Link.{HasEtherHeader, HasLinkHeader, NeedsLinkHeader, after_tags, ether_type_after, is_vlan_tag, tagged_len}
 use Rattle.capture_packet.specs.LinkHeaders.{end_in}
 use Rattle.capture_packet.specs.declared.network_protocol.NetworkProtocol.{NetworkProtocol}

@@ -15,8 +15,8 @@ use Rattle.ip_part.specs.declared.transport.TransportInIp.{TransportInIp}
 use Rattle.transport_part.specs.declared.checksum_verdict.ChecksumVerdict.TheVariants.{Right}
 use Rattle.transport_part.specs.declared.transport_slice.TransportSlice.TheVariants as slices
 use Rattle.word_sum.specs.Checksum.{folded}
-use Rattle.capture_texts.specs.declared.byte_order.ByteOrder.TheVariants.{LittleEndian}
-use Rattle.capture_texts.specs.declared.link_type.LinkType.TheVariants.{RawIp}
+use Rattle.capture_numbers.specs.declared.byte_order.ByteOrder.TheVariants.{LittleEndian}
+use Rattle.capture_numbers.specs.declared.link_type.LinkType.TheVariants.{RawIp}
 use Rattle.capture_packet.specs.declared.link.Frame.TheVariants.{Ip as InFrame}
 use Rattle.capture_packet.specs.Frames.{IsIpPacket, IsRead}
 use Rattle.capture_packet.specs.Packets.{in_no_tunnel}

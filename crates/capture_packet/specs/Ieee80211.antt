@@ -1,10 +1,10 @@
 -- IEEE 802.11 frames, and the radiotap header that a capture may contain before them.
 use Rattle.std.specs.Prelude.{ℕ, ◌+◌, ◌==◌, ◌&&◌, Bool, not, nat_le, if◌then◌else◌, bit_and, List, slice_index, Some, None, Result, Ok}
 use Rattle.net_base.specs.Bytes.{be_number, flag}
-use Rattle.capture_texts.specs.Numbers.{short_at}
+use Rattle.capture_numbers.specs.Numbers.{short_at}
 use Rattle.capture_packet.specs.LinkHeaders.{with_bytes}
 use Rattle.capture_packet.specs.Llc.{llc_at}
-use Rattle.capture_texts.specs.declared.byte_order.ByteOrder.TheVariants.{LittleEndian}
+use Rattle.capture_numbers.specs.declared.byte_order.ByteOrder.TheVariants.{LittleEndian}
 use Rattle.capture_packet.specs.declared.link.LinkHeaderCutOff.{LinkHeaderCutOff}
 use Rattle.capture_packet.specs.declared.link.header.FirstHeader.{FirstHeader}
 use Rattle.capture_packet.specs.declared.link.header.FirstHeader.TheVariants.{Whole}

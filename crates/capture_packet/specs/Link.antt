@@ -14,10 +14,10 @@ use Rattle.capture_packet.specs.Metadata.{after_avs, after_ppi, after_prism, aft
 use Rattle.capture_packet.specs.Mpls.{stack_at}
 use Rattle.capture_packet.specs.Nflog.{log_header}
 use Rattle.capture_packet.specs.Ppp.{ppp_header, pppoe_frame, session_at}
-use Rattle.capture_texts.specs.declared.byte_order.ByteOrder.{ByteOrder}
-use Rattle.capture_texts.specs.declared.byte_order.ByteOrder.TheVariants.{BigEndian}
-use Rattle.capture_texts.specs.declared.link_type.LinkType.{LinkType}
-use Rattle.capture_texts.specs.declared.link_type.LinkType.TheVariants.{Avs, BsdLoopback, CiscoHdlc, Ethernet, FrameRelay, Ieee80211, InfiniBand, Ipnet, LinuxCooked, LinuxCooked2, Nflog, OpenBsdLoopback, Pflog, Pktap, Ppi, Ppp, PppHdlc, PppOverEthernet, Prism, Radiotap, RawIp}
+use Rattle.capture_numbers.specs.declared.byte_order.ByteOrder.{ByteOrder}
+use Rattle.capture_numbers.specs.declared.byte_order.ByteOrder.TheVariants.{BigEndian}
+use Rattle.capture_numbers.specs.declared.link_type.LinkType.{LinkType}
+use Rattle.capture_numbers.specs.declared.link_type.LinkType.TheVariants.{Avs, BsdLoopback, CiscoHdlc, Ethernet, FrameRelay, Ieee80211, InfiniBand, Ipnet, LinuxCooked, LinuxCooked2, Nflog, OpenBsdLoopback, Pflog, Pktap, Ppi, Ppp, PppHdlc, PppOverEthernet, Prism, Radiotap, RawIp}
 use Rattle.capture_packet.specs.declared.link.Frame.{Frame}
 use Rattle.capture_packet.specs.declared.link.Frame.TheVariants.{Ip, Other}
 use Rattle.capture_packet.specs.declared.link.NetworkBytes.{NetworkBytes}

@@ -2,15 +2,15 @@
 -- tcpdump.org describes these headers.
 use Rattle.std.specs.Prelude.{ℕ, ◌+◌, ◌*◌, ◌/◌, ◌==◌, ◌||◌, ◌&&◌, Bool, nat_le, nat_lt, if◌then◌else◌, List, slice_index, Option, Some, None, Result, Ok}
 use Rattle.net_base.specs.Bytes.{be_number}
-use Rattle.capture_texts.specs.LinkTypes.{avs_number, link_type_with, pflog_number, pktap_number, ppi_number, prism_number}
-use Rattle.capture_texts.specs.Numbers.{number_at, short_at}
+use Rattle.capture_numbers.specs.LinkTypes.{avs_number, link_type_with, pflog_number, pktap_number, ppi_number, prism_number}
+use Rattle.capture_numbers.specs.Numbers.{number_at, short_at}
 use Rattle.capture_packet.specs.AddressFamilies.{family_at, is_ip_family}
 use Rattle.capture_packet.specs.EtherHeaders.{ethernet_at}
 use Rattle.capture_packet.specs.Ieee80211.{frame_at}
 use Rattle.capture_packet.specs.LinkHeaders.{unread, with_bytes}
-use Rattle.capture_texts.specs.declared.byte_order.ByteOrder.TheVariants.{LittleEndian}
-use Rattle.capture_texts.specs.declared.link_type.LinkType.{LinkType}
-use Rattle.capture_texts.specs.declared.link_type.LinkType.TheVariants.{BsdLoopback, Ethernet, Ieee80211, RawIp}
+use Rattle.capture_numbers.specs.declared.byte_order.ByteOrder.TheVariants.{LittleEndian}
+use Rattle.capture_numbers.specs.declared.link_type.LinkType.{LinkType}
+use Rattle.capture_numbers.specs.declared.link_type.LinkType.TheVariants.{BsdLoopback, Ethernet, Ieee80211, RawIp}
 use Rattle.capture_packet.specs.declared.link.LinkHeaderCutOff.{LinkHeaderCutOff}
 use Rattle.capture_packet.specs.declared.link.header.FirstHeader.{FirstHeader}
 use Rattle.capture_packet.specs.declared.link.header.FirstHeader.TheVariants.{Whole}

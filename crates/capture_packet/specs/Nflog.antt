@@ -1,11 +1,11 @@
 -- Packets that the packet filter of Linux logged (LINKTYPE_NFLOG, in the registry of link types of tcpdump.org).
 use Rattle.std.specs.Prelude.{ℕ, zero, suc, ◌+◌, ◌≤◌, ◌==◌, ◌||◌, Bool, nat_le, nat_lt, if◌then◌else◌, List, length, slice_index, Option, Some, None, Result, Ok, Err}
-use Rattle.capture_texts.specs.LinkTypes.{nflog_number}
-use Rattle.capture_texts.specs.Numbers.{short_at}
+use Rattle.capture_numbers.specs.LinkTypes.{nflog_number}
+use Rattle.capture_numbers.specs.Numbers.{short_at}
 use Rattle.capture_packet.specs.LinkHeaders.{Fits, unread, with_bytes}
 use Rattle.capture_packet.specs.Metadata.{family_protocol, padded}
-use Rattle.capture_texts.specs.declared.byte_order.ByteOrder.{ByteOrder}
-use Rattle.capture_texts.specs.declared.byte_order.ByteOrder.TheVariants.{BigEndian, LittleEndian}
+use Rattle.capture_numbers.specs.declared.byte_order.ByteOrder.{ByteOrder}
+use Rattle.capture_numbers.specs.declared.byte_order.ByteOrder.TheVariants.{BigEndian, LittleEndian}
 use Rattle.capture_packet.specs.declared.link.LinkHeaderCutOff.{LinkHeaderCutOff}
 use Rattle.capture_packet.specs.declared.link.header.FirstHeader.{FirstHeader}
 use Rattle.capture_packet.specs.declared.link.header.FirstHeader.TheVariants.{Whole}

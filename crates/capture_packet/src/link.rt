@@ -38,7 +38,7 @@ use crate::link::metadata::{
 use crate::link::mpls::stack_at;
 use crate::link::nflog::log_header;
 use crate::link::ppp::{ppp_header, pppoe_frame, session_at};
-use capture_texts::{ByteOrder, LinkType};
+use capture_numbers::{ByteOrder, LinkType};
 
 /// The content of a frame after its link header.
 #[derive(Debug, PartialEq, Eq, Drop)]

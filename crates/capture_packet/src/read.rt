@@ -19,7 +19,7 @@ use crate::{
     network_packet,
 };
 use arrayvec::ArrayVec;
-use capture_texts::{ByteOrder, LinkType};
+use capture_numbers::{ByteOrder, LinkType};
 use ip_part::{IpError, TransportInIp, fixed_header, transport_in_ip, transport_in_ip_lax};
 use transport_part::Untested;
 

@@ -12,7 +12,7 @@ use Rattle.capture_packet.specs.Verdicts.{untested}
 use Rattle.capture_summary.specs.Protocols.{content_protocol}
 use Rattle.capture_summary.specs.Kinds.{verdict_kind, verdict_refusal_kind}
 use Rattle.capture_summary.specs.SummaryTables.{CountsOne, SummaryTables}
-use Rattle.capture_texts.specs.declared.link_type.LinkType.{LinkType}
+use Rattle.capture_numbers.specs.declared.link_type.LinkType.{LinkType}
 use Rattle.capture_packet.specs.declared.content.Content.TheVariants.{NotIp, Unread}
 use Rattle.capture_packet.specs.declared.network_protocol.NetworkProtocol.TheVariants as protocols
 use Rattle.capture_packet.specs.declared.packet.Packet.{Packet}

@@ -41,8 +41,8 @@ use Rattle.capture_summary.specs.FlowTable.{table_counted}
 use Rattle.capture_summary.specs.Kinds.{link_kind, link_place, verdict_kind, verdict_place}
 use Rattle.capture_summary.specs.SummaryTables.{SummaryTables, empty_tables}
 use Rattle.capture_summary.specs.Tables.{counted_at, packet_counted_at}
-use Rattle.capture_texts.specs.Texts.{interface_added, no_texts, section_begun}
-use Rattle.capture_texts.specs.declared.byte_order.ByteOrder.TheVariants.{BigEndian, LittleEndian}
+use Rattle.capture_file.specs.Texts.{interface_added, no_texts, section_begun}
+use Rattle.capture_numbers.specs.declared.byte_order.ByteOrder.TheVariants.{BigEndian, LittleEndian}
 use Rattle.capture_words.specs.declared.times.Times.TheVariants as times
 use Rattle.ip_part.specs.Options.{options_within}
 use Rattle.transport_part.specs.declared.checksum_verdict.Untested.TheVariants.{OtherProtocol}

@@ -6,7 +6,7 @@ use Rattle.capture_copy.proofs.RecordLemmas.{is_record}
 use Rattle.capture_file.proofs.RecordLemmas.{number_at_front, record_header_front}
 use Rattle.capture_file.specs.CapturePackets.{FilePacket, kept, record_packet, too_long}
 use Rattle.capture_file.specs.Classic.{record_header}
-use Rattle.capture_texts.specs.Numbers.{number_at}
+use Rattle.capture_numbers.specs.Numbers.{number_at}
 use Rattle.capture_file.specs.Packets.{long_record, packet_of_record}
 use Rattle.capture_file.specs.declared.classic.capture_header.CaptureHeader.{CaptureHeader}
 use Rattle.capture_packet.specs.Frames.{max_packet_len}

@@ -1,7 +1,7 @@
 -- The copy of a block, in which the length of a section is not specified.
 use Rattle.std.proofs.Common.{◌≡◌, ◌≤◌, ◌<◌, ◌++◌, ◌∙◌, ℕ, Bool, true, false, if◌then◌else◌, List, ap, arith, drop, drop-drop, length, refl, replicate, slice_index, sym, take}
 use Rattle.std.proofs.lemmas.Bool.Decides.{nat_tests}
-use Rattle.capture_texts.specs.declared.byte_order.ByteOrder.{ByteOrder}
+use Rattle.capture_numbers.specs.declared.byte_order.ByteOrder.{ByteOrder}
 use Rattle.capture_file.specs.Pcapng.{IsBlock, block_header, is_section_header, order_of}
 use Rattle.capture_file.specs.PcapngSteps.{is_description}
 use Rattle.capture_file.proofs.PacketsOfBlocksLemmas.{both_orders, section_number}

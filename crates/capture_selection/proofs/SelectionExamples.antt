@@ -1,8 +1,8 @@
 -- A worked example of a selection, from the bytes of a capture to the bytes that are written, so that a wrong definition fails before any
 -- code does.
 use Rattle.std.proofs.Common.{◌≡◌, ◌++◌, ℕ, zero, suc, List, [], ◌∷◌, Option, None, Some, Ok, arith, inl, inr, refl, replicate}
-use Rattle.capture_texts.specs.declared.byte_order.ByteOrder.TheVariants.{LittleEndian}
-use Rattle.capture_texts.specs.declared.link_type.LinkType.TheVariants.{RawIp}
+use Rattle.capture_numbers.specs.declared.byte_order.ByteOrder.TheVariants.{LittleEndian}
+use Rattle.capture_numbers.specs.declared.link_type.LinkType.TheVariants.{RawIp}
 use Rattle.capture_file.specs.declared.classic.capture_header.CaptureHeader.{CaptureHeader}
 use Rattle.capture_file.specs.declared.classic.record_header.Resolution.TheVariants.{Microseconds}
 use Rattle.capture_packet.proofs.PacketExamples.{frame, is_read, is_rejected, packet, rejected}

@@ -5,8 +5,8 @@ use Rattle.capture_file.specs.CapturePackets.{FilePacket, packet_in}
 use Rattle.capture_file.specs.Pcapng.{block_header, block_refusal, is_section_header}
 use Rattle.capture_file.specs.PcapngReading.{IsNextBlock}
 use Rattle.capture_file.specs.PcapngSteps.{IsStep, is_description}
-use Rattle.capture_texts.specs.Blocks.{body_at, section_header_len}
-use Rattle.capture_texts.specs.declared.byte_order.ByteOrder.TheVariants.{BigEndian}
+use Rattle.capture_numbers.specs.Blocks.{body_at, section_header_len}
+use Rattle.capture_numbers.specs.declared.byte_order.ByteOrder.TheVariants.{BigEndian}
 use Rattle.capture_file.specs.declared.pcapng.errors.BlockError.{BlockError}
 use Rattle.capture_file.specs.declared.pcapng.errors.BlockError.TheVariants.{CutOff}
 use Rattle.capture_file.specs.declared.pcapng.read.NextBlock.{NextBlock}

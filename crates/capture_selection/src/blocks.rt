@@ -19,12 +19,11 @@ use crate::place::Place;
 use crate::transfer::{pass_long, read_after, read_into, write_part};
 use crate::{Counts, Outcome, SelectionError};
 use capture_copy::{Copier, is_pcapng};
-use capture_file::ByteOrder;
 use capture_file::pcapng::{Block, BlockError, BlockHeader, MIN_BLOCK_LEN, SECTION_HEADER};
 use capture_file::reader::{PacketError, PcapngReader, PlacedPacketError, Section};
+use capture_file::{ByteOrder, FileTexts};
 use capture_packet::MAX_PACKET_LEN;
 use capture_request::{CaptureError, Parts, Reached, packet_without_room};
-use capture_texts::FileTexts;
 use std::io::{Read, Write};
 
 /// The length of the field at the end of a block that repeats its total length, in bytes (section 3.1).

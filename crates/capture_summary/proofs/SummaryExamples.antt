@@ -9,7 +9,7 @@ use Rattle.capture_file.specs.declared.packet_time.PacketTime.{PacketTime}
 use Rattle.capture_file.specs.declared.pcapng.time_resolution.TimeResolution.TheVariants.{PowerOfTen}
 use Rattle.capture_packet.proofs.PacketExamples.{packet}
 use Rattle.capture_summary.specs.declared.protocol.Protocol.TheVariants as protocols
-use Rattle.capture_texts.specs.declared.link_type.LinkType.TheVariants.{Ethernet}
+use Rattle.capture_numbers.specs.declared.link_type.LinkType.TheVariants.{Ethernet}
 use Rattle.capture_summary.specs.Choice.{HasAny, HasNone, HasPort, IsChosen, every_packet}
 use Rattle.capture_summary.specs.declared.choice.ChosenProtocol.TheVariants as chosen
 use Rattle.capture_summary.specs.declared.choice.PortRange.{PortRange}

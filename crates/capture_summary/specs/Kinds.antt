@@ -9,8 +9,8 @@ use Rattle.net_base.specs.declared.err.tcp.header_slice_error.HeaderSliceError.T
 use Rattle.transport_part.specs.declared.checksum_verdict.ChecksumVerdict.TheVariants as checksums
 use Rattle.transport_part.specs.declared.checksum_verdict.Untested.{Untested}
 use Rattle.transport_part.specs.declared.checksum_verdict.Untested.TheVariants as reasons
-use Rattle.capture_texts.specs.declared.link_type.LinkType.{LinkType}
-use Rattle.capture_texts.specs.declared.link_type.LinkType.TheVariants as link_types
+use Rattle.capture_numbers.specs.declared.link_type.LinkType.{LinkType}
+use Rattle.capture_numbers.specs.declared.link_type.LinkType.TheVariants as link_types
 use Rattle.capture_packet.specs.Verdicts.{refusal_of}
 use Rattle.capture_packet.specs.declared.refusal.Refusal.{Refusal}
 use Rattle.capture_packet.specs.declared.refusal.Refusal.TheVariants as refusals

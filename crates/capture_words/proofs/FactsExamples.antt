@@ -4,8 +4,8 @@ use Rattle.std.proofs.Common.{◌≡◌, ◌++◌, [], ◌∷◌, Err, codes, po
 use Rattle.std.specs.Char.{encode_utf8}
 use Rattle.std.specs.Fmt.{char_count, digits, padded_integral}
 use Rattle.std.specs.Str.{chars, is_utf8}
-use Rattle.capture_texts.proofs.TextsExamples.{file_texts}
-use Rattle.capture_texts.specs.declared.byte_order.ByteOrder.TheVariants.{BigEndian}
+use Rattle.capture_file.proofs.TextsExamples.{file_texts}
+use Rattle.capture_numbers.specs.declared.byte_order.ByteOrder.TheVariants.{BigEndian}
 use Rattle.capture_file.specs.declared.classic.record_header.Resolution.TheVariants.{Microseconds}
 use Rattle.capture_file.specs.declared.pcapng.interface_description.InterfaceDescription.{InterfaceDescription}
 use Rattle.capture_file.specs.declared.pcapng.time_resolution.TimeResolution.TheVariants.{PowerOfTen}

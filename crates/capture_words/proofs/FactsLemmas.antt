@@ -6,7 +6,7 @@ use Rattle.std.specs.Io.KnownBytes.{Appends}
 use Rattle.std.specs.Prelude.{codes}
 use Rattle.capture_words.specs.FactsText.{described_text, interfaces_text}
 use Rattle.capture_file.specs.declared.pcapng.interface_description.InterfaceDescription.{InterfaceDescription}
-use Rattle.capture_texts.specs.declared.file_texts.InterfaceTexts.{InterfaceTexts}
+use Rattle.capture_file.specs.declared.file_texts.InterfaceTexts.{InterfaceTexts}
 
 -- the lines of interfaces and of an interface after them
 interfaces-push : (texts : List InterfaceTexts) (first now : ℕ) (interfaces : List InterfaceDescription) (interface : InterfaceDescription)

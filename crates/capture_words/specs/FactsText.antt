@@ -1,8 +1,8 @@
 -- The facts of a capture, as text (draft-ietf-opsawg-pcap, section 4; draft-ietf-opsawg-pcapng, sections 4.1 and 4.2).
 use Rattle.std.specs.Prelude.{ℕ, ◌+◌, List, [], ◌∷◌, ◌++◌, length, codes, decimal, slice_get, Option, Some, None}
 use Rattle.capture_file.specs.Packets.{power_of_ten}
-use Rattle.capture_texts.specs.declared.byte_order.ByteOrder.{ByteOrder}
-use Rattle.capture_texts.specs.declared.byte_order.ByteOrder.TheVariants.{BigEndian, LittleEndian}
+use Rattle.capture_numbers.specs.declared.byte_order.ByteOrder.{ByteOrder}
+use Rattle.capture_numbers.specs.declared.byte_order.ByteOrder.TheVariants.{BigEndian, LittleEndian}
 use Rattle.capture_file.specs.declared.classic.capture_header.CaptureHeader.{CaptureHeader}
 use Rattle.capture_file.specs.declared.pcapng.interface_description.InterfaceDescription.{InterfaceDescription}
 use Rattle.capture_file.specs.declared.pcapng.time_resolution.TimeResolution.{TimeResolution}
@@ -11,8 +11,8 @@ use Rattle.capture_file.specs.declared.reader.capture_reader.CaptureReader.{Capt
 use Rattle.capture_file.specs.declared.reader.capture_reader.CaptureReader.TheVariants.{Classic, Pcapng}
 use Rattle.capture_file.specs.declared.reader.pcapng_reader.PcapngReader.{PcapngReader}
 use Rattle.capture_words.specs.TextsText.{interface_lines, texts_text}
-use Rattle.capture_texts.specs.declared.file_texts.FileTexts.{FileTexts}
-use Rattle.capture_texts.specs.declared.file_texts.InterfaceTexts.{InterfaceTexts}
+use Rattle.capture_file.specs.declared.file_texts.FileTexts.{FileTexts}
+use Rattle.capture_file.specs.declared.file_texts.InterfaceTexts.{InterfaceTexts}
 
 -- the word for a byte order
 abbrev pub byte_order_word : ByteOrder → List ℕ

@@ -5,7 +5,7 @@ use Rattle.std.specs.Int.{is_in_range}
 use Rattle.std.specs.List.{flat_map}
 use Rattle.std.specs.Str.{chars, is_utf8}
 use Rattle.capture_words.specs.Numbers.{hex_padded}
-use Rattle.capture_texts.specs.declared.kept_text.KeptText.{KeptText}
+use Rattle.capture_file.specs.declared.kept_text.KeptText.{KeptText}
 
 -- The form in which a character is shown. A control character is shown by its number, so that no text can end a line or control a terminal.
 abbrev pub shown_char : ℕ → List ℕ

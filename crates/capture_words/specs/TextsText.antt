@@ -1,9 +1,9 @@
 -- The texts of a pcapng file, each in a line (draft-ietf-opsawg-pcapng, sections 3.5, 4.1 and 4.2).
 use Rattle.std.specs.Prelude.{ℕ, ◌==◌, Bool, if◌then◌else◌, List, [], ◌++◌, length, codes, decimal, Option, Some, None}
 use Rattle.capture_words.specs.ShownText.{shown_kept}
-use Rattle.capture_texts.specs.declared.file_texts.FileTexts.{FileTexts}
-use Rattle.capture_texts.specs.declared.file_texts.InterfaceTexts.{InterfaceTexts}
-use Rattle.capture_texts.specs.declared.kept_text.KeptText.{KeptText}
+use Rattle.capture_file.specs.declared.file_texts.FileTexts.{FileTexts}
+use Rattle.capture_file.specs.declared.file_texts.InterfaceTexts.{InterfaceTexts}
+use Rattle.capture_file.specs.declared.kept_text.KeptText.{KeptText}
 
 -- the text is absent: it has no byte
 abbrev pub is_absent : KeptText → Bool

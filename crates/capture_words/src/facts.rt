@@ -6,10 +6,10 @@ ghost use Rattle.capture_words.specs.FactsText as specs;
 
 use crate::texts::{write_interface_texts, write_texts};
 use crate::{byte_order_word, time_resolution, write_resolution};
+use capture_file::InterfaceTexts;
 use capture_file::classic::CaptureHeader;
 use capture_file::pcapng::{InterfaceDescription, TimeResolution};
 use capture_file::reader::{CaptureReader, PcapngReader};
-use capture_texts::InterfaceTexts;
 use std::io;
 use std::io::Write;
 

@@ -6,7 +6,7 @@ ghost use Rattle.std.specs.Io.KnownBytes.{Appends};
 ghost use Rattle.std.specs.List.{flat_map};
 ghost use Rattle.capture_words.specs.ShownText as specs;
 
-use capture_texts::KeptText;
+use capture_file::KeptText;
 use std::io::Write;
 use std::{fmt, io, str};
 

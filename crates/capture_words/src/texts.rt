@@ -5,7 +5,7 @@ ghost use Rattle.std.specs.Io.KnownBytes.{Appends};
 ghost use Rattle.capture_words.specs.TextsText as specs;
 
 use crate::write_shown;
-use capture_texts::{FileTexts, InterfaceTexts, KeptText};
+use capture_file::{FileTexts, InterfaceTexts, KeptText};
 use std::io;
 use std::io::Write;
 

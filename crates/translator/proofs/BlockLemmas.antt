@@ -12,7 +12,7 @@ use Rattle.capture_file.specs.Pcapng.{IsBlock, block_header, block_header_refusa
 use Rattle.capture_file.specs.PcapngReading.{AreFirst, IsNextBlock}
 use Rattle.capture_file.specs.PcapngSteps.{offset_after}
 use Rattle.capture_file.specs.Sections.{TakesBlock, TakesBody, TakesUnless}
-use Rattle.capture_texts.specs.declared.byte_order.ByteOrder.{ByteOrder}
+use Rattle.capture_numbers.specs.declared.byte_order.ByteOrder.{ByteOrder}
 use Rattle.capture_file.specs.declared.pcapng.block.BlockHeader.{BlockHeader}
 use Rattle.capture_file.specs.declared.pcapng.block_body.BlockBody.{BlockBody}
 use Rattle.capture_file.specs.declared.pcapng.block_body.BlockBody.TheVariants as bodies

@@ -9,8 +9,8 @@ use Rattle.std.specs.Cmp.Lexicographic.{pointwise}
 use Rattle.std.specs.List.{slice_range}
 use Rattle.std.specs.Option.{option_eq}
 use borrow.Rule.Slice.PartMut.{Post-is, put_mid}
-use Rattle.capture_texts.specs.declared.byte_order.ByteOrder.{ByteOrder}
-use Rattle.capture_texts.specs.declared.link_type.LinkType.{LinkType}
+use Rattle.capture_numbers.specs.declared.byte_order.ByteOrder.{ByteOrder}
+use Rattle.capture_numbers.specs.declared.link_type.LinkType.{LinkType}
 use Rattle.capture_packet.specs.Contents.{ports_at, ports_in}
 use Rattle.etherparse_transport.specs.Ipv4Translations.{ipv4_translated}
 use Rattle.etherparse_transport.specs.Ipv6Translations.{ipv6_translated}

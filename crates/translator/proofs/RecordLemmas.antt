@@ -5,8 +5,8 @@ use Rattle.std.proofs.lemmas.List.{drop_at, take_at}
 use Rattle.std.specs.Io.KnownBytes.{Appends, Consumes, IsAtEnd}
 use Rattle.capture_file.proofs.RecordLemmas.{number_at_front, record_header_front, record_len_front}
 use Rattle.capture_file.specs.Classic.{record_header, record_len}
-use Rattle.capture_texts.specs.Numbers.{number_at}
-use Rattle.capture_texts.specs.declared.byte_order.ByteOrder.{ByteOrder}
+use Rattle.capture_numbers.specs.Numbers.{number_at}
+use Rattle.capture_numbers.specs.declared.byte_order.ByteOrder.{ByteOrder}
 use Rattle.capture_file.specs.declared.classic.capture_header.CaptureHeader.{CaptureHeader}
 use Rattle.capture_file.specs.declared.classic.record_header.RecordHeader.{RecordHeader}
 use Rattle.capture_file.specs.declared.reader.capture_reader.ClassicReader.{ClassicReader}

@@ -6,10 +6,10 @@ use Rattle.capture_file.specs.Packets.{IsWithin}
 use Rattle.capture_file.specs.Pcapng.{IsBlock, block_header, block_header_refusal, block_len, block_refusal}
 use Rattle.capture_file.specs.PcapngSteps.{offset_after}
 use Rattle.capture_file.specs.Sections.{TakesBlock}
-use Rattle.capture_texts.specs.Blocks.{body_at, trailer_len}
-use Rattle.capture_texts.specs.Numbers.{number_at}
-use Rattle.capture_texts.specs.declared.byte_order.ByteOrder.{ByteOrder}
-use Rattle.capture_texts.specs.declared.byte_order.ByteOrder.TheVariants.{BigEndian}
+use Rattle.capture_numbers.specs.Blocks.{body_at, trailer_len}
+use Rattle.capture_numbers.specs.Numbers.{number_at}
+use Rattle.capture_numbers.specs.declared.byte_order.ByteOrder.{ByteOrder}
+use Rattle.capture_numbers.specs.declared.byte_order.ByteOrder.TheVariants.{BigEndian}
 use Rattle.capture_file.specs.declared.pcapng.block.BlockHeader.{BlockHeader}
 use Rattle.capture_file.specs.declared.pcapng.errors.BlockError.{BlockError}
 use Rattle.capture_file.specs.declared.pcapng.errors.BlockError.TheVariants as block_errors

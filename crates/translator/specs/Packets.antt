@@ -1,7 +1,7 @@
 -- The translation of a packet by the table.
 use Rattle.std.specs.Prelude.{◌≡◌, ◌≤◌, ◌++◌, ◌⊎◌, ℕ, ◌==◌, Bool, true, false, if◌then◌else◌, List, drop, length, slice_range, take, Option, Some, None, Result, Ok, Err}
-use Rattle.capture_texts.specs.declared.byte_order.ByteOrder.{ByteOrder}
-use Rattle.capture_texts.specs.declared.link_type.LinkType.{LinkType}
+use Rattle.capture_numbers.specs.declared.byte_order.ByteOrder.{ByteOrder}
+use Rattle.capture_numbers.specs.declared.link_type.LinkType.{LinkType}
 use Rattle.capture_packet.specs.Link.{HasLinkHeader, NeedsLinkHeader}
 use Rattle.capture_packet.specs.LinkHeaders.{end_in}
 use Rattle.capture_packet.specs.declared.network_protocol.NetworkProtocol.{NetworkProtocol}

@@ -3,7 +3,7 @@
 ghost use Rattle.std.specs.Prelude.{◌≡◌, ℕ, IfOk, IfSome, List, length};
 ghost use Rattle.capture_file.specs.Classic.{AreBeforeCut, IsReading};
 ghost use Rattle.capture_file.specs.Laws.{AreUnique, Exist, RemainAtCut};
-ghost use Rattle.capture_texts.specs.declared.byte_order.ByteOrder.{ByteOrder};
+ghost use Rattle.capture_numbers.specs.declared.byte_order.ByteOrder.{ByteOrder};
 
 use crate::ByteOrder;
 use crate::classic::{NextRecord, read_record};

@@ -4,12 +4,12 @@ ghost use Rattle.std.specs.Iterator.{UpTo, at_most};
 ghost use Rattle.std.specs.Iterator.Runs.{EachRunFrom};
 ghost use Rattle.std.specs.Iterator.SizeHint.{IsWithinCount};
 ghost use Rattle.capture_file.specs.PcapngBlocks.{AreItems, GivesBlock, UnreadFile};
-ghost use Rattle.capture_texts.specs.declared.byte_order.ByteOrder.TheVariants.{BigEndian};
+ghost use Rattle.capture_numbers.specs.declared.byte_order.ByteOrder.TheVariants.{BigEndian};
 ghost use Rattle.capture_file.specs.Pcapng as specs;
 
 use crate::ByteOrder;
 use crate::pcapng::BlockError;
-use capture_texts::block::{BODY_AT, LAST_LEN, SECTION_HEADER, SECTION_HEADER_LEN};
+use capture_numbers::block::{BODY_AT, LAST_LEN, SECTION_HEADER, SECTION_HEADER_LEN};
 use std::marker::Model;
 use thiserror::Error;
 

@@ -3,12 +3,12 @@ ghost use Rattle.net_base.specs.Refusals.{RefusesExactly};
 ghost use Rattle.capture_file.specs.PcapngBody.{IsBody, body_refusal};
 ghost use Rattle.capture_file.specs.Sections.{IsBodyWithin, IsInterfaceThere};
 ghost use Rattle.capture_file.specs.PcapngBodies.{section_header, section_header_refusal};
-ghost use Rattle.capture_texts.specs.Numbers.{number_at, short_at};
+ghost use Rattle.capture_numbers.specs.Numbers.{number_at, short_at};
 ghost use Rattle.capture_file.specs.PcapngPackets.{IsSimplePacket, IsTimedPacket, captured_refusal, simple_refusal, timed_refusal};
 
 use crate::ByteOrder;
 use crate::pcapng::{Block, BodyError, InterfaceDescription};
-use capture_texts::block::{
+use capture_numbers::block::{
     ENHANCED_PACKET, INTERFACE_DESCRIPTION, OBSOLETE_PACKET, SECTION_HEADER, SECTION_HEADER_LEN,
     SIMPLE_CAPTURED_AT, SIMPLE_PACKET, TIMED_CAPTURED_AT, TIMED_CAPTURED_LEN_AT,
 };

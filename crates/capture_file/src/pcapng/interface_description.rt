@@ -4,8 +4,8 @@ ghost use Rattle.capture_file.specs.PcapngBodies.{interface_description, interfa
 
 use crate::ByteOrder;
 use crate::pcapng::{BodyError, TimeResolution};
-use capture_texts::block::INTERFACE_DESCRIPTION_LEN;
-use capture_texts::option_value;
+use capture_numbers::block::INTERFACE_DESCRIPTION_LEN;
+use capture_numbers::option_value;
 
 /// The code of the option `if_tsresol`, whose value has one byte (draft-ietf-opsawg-pcapng, section 4.2).
 const IF_TSRESOL: u16 = 9;

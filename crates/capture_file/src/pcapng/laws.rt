@@ -4,7 +4,7 @@ ghost use Rattle.std.specs.Prelude.{◌≡◌, ◌++◌, ℕ, List, None, take};
 ghost use Rattle.capture_file.specs.Classic.{AreBeforeCut};
 ghost use Rattle.capture_file.specs.Laws.{AreUnique, Exist, RemainAtCut};
 ghost use Rattle.capture_file.specs.Pcapng.{IsBlock, IsBlockReading, block_len, block_refusal};
-ghost use Rattle.capture_texts.specs.declared.byte_order.ByteOrder.{ByteOrder};
+ghost use Rattle.capture_numbers.specs.declared.byte_order.ByteOrder.{ByteOrder};
 
 /// Bytes that `Block::from_slice` accepts begin with a block. If bytes begin with a block, `Block::from_slice` accepts them, whatever
 /// follows the block.

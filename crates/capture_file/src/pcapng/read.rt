@@ -3,7 +3,7 @@ ghost use Rattle.capture_file.specs.PcapngReading.{AreFirst, BeginsBlock, FailsA
 
 use crate::ByteOrder;
 use crate::pcapng::{Block, BlockError, BlockHeader, MIN_BLOCK_LEN};
-use capture_texts::block::LAST_LEN;
+use capture_numbers::block::LAST_LEN;
 use std::io::{self, Read};
 use streams::{fill, fill_after, skip};
 

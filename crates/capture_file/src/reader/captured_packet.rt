@@ -4,7 +4,7 @@ ghost use Rattle.capture_file.specs.Packets.{packet_of_block, packet_of_record};
 use crate::classic::{CaptureHeader, RecordHeader};
 use crate::pcapng::{BlockHeader, InterfaceDescription, PacketBlock};
 use crate::{ByteOrder, LinkType, PacketTime};
-use capture_texts::block::{BODY_AT, SIMPLE_CAPTURED_AT, SIMPLE_PACKET, TIMED_CAPTURED_AT};
+use capture_numbers::block::{BODY_AT, SIMPLE_CAPTURED_AT, SIMPLE_PACKET, TIMED_CAPTURED_AT};
 
 /// The place of the captured bytes in a simple packet block, in bytes from the start of the block (draft-ietf-opsawg-pcapng, section 4.4).
 const SIMPLE_START: usize = BODY_AT + SIMPLE_CAPTURED_AT;

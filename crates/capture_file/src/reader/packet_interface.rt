@@ -2,8 +2,8 @@ ghost use Rattle.std.specs.Prelude.{◌≡◌};
 ghost use Rattle.capture_file.specs.Interfaces.{interface_in, interface_of, name_in};
 
 use crate::reader::{CaptureReader, CapturedPacket, PcapngReader};
+use crate::{InterfaceTexts, KeptText};
 use arrayvec::ArrayVec;
-use capture_texts::{InterfaceTexts, KeptText};
 
 /// The interface on which a packet was captured, in a section of a pcapng file that describes several interfaces.
 #[derive(Clone, Debug, Drop)]

@@ -5,15 +5,14 @@ ghost use Rattle.capture_file.specs.PcapngReading.{AreFirst, FailsInBlock};
 ghost use Rattle.capture_file.specs.PcapngSteps.{FailsToPass, ReadsBlockPacket, ReadsStep, next_by_too_long};
 ghost use Rattle.capture_file.specs.Sections.{TakesBlock};
 
-use crate::ByteOrder;
 use crate::pcapng::{
     Block, BlockBody, BlockError, BlockHeader, InterfaceDescription, MIN_BLOCK_LEN, NextBlock,
     SectionHeader, read_block, read_rest,
 };
 use crate::reader::{CapturedPacket, NextPacket, PacketError, PlacedPacketError, TooLongPacket};
+use crate::{ByteOrder, FileTexts};
 use arrayvec::ArrayVec;
-use capture_texts::FileTexts;
-use capture_texts::block::{
+use capture_numbers::block::{
     BODY_AT, ENHANCED_PACKET, INTERFACE_DESCRIPTION, LAST_LEN, OBSOLETE_PACKET, SECTION_HEADER,
     SIMPLE_PACKET,
 };

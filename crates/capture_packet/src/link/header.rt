@@ -1,12 +1,12 @@
 ghost use Rattle.std.specs.Prelude.{◌≡◌, ◌+◌, ◌≤◌, ◌<◌, MatchResult, length};
 ghost use Rattle.net_base.specs.Bytes.{be_number};
-ghost use Rattle.capture_texts.specs.Numbers as specs;
-ghost use Rattle.capture_texts.specs.declared.byte_order.ByteOrder.TheVariants.{LittleEndian};
+ghost use Rattle.capture_numbers.specs.Numbers as specs;
+ghost use Rattle.capture_numbers.specs.declared.byte_order.ByteOrder.TheVariants.{LittleEndian};
 ghost use Rattle.capture_packet.specs.LinkHeaders.{cut_off, unread};
 
 use crate::NetworkProtocol;
 use crate::link::LinkHeaderCutOff;
-use capture_texts::ByteOrder;
+use capture_numbers::ByteOrder;
 
 /// A whole link header.
 #[derive(Clone, Copy)]

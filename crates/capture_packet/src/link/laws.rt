@@ -1,8 +1,8 @@
 //! Laws of link headers. Each law is the contract of a function that does nothing, so that the law is checked together with the calls.
 ghost use Rattle.std.specs.Prelude.{◌≡◌, ℕ, List, Option};
 ghost use Rattle.capture_packet.specs.Link.{HasLinkHeader, NeedsLinkHeader};
-ghost use Rattle.capture_texts.specs.declared.byte_order.ByteOrder.{ByteOrder};
-ghost use Rattle.capture_texts.specs.declared.link_type.LinkType.{LinkType};
+ghost use Rattle.capture_numbers.specs.declared.byte_order.ByteOrder.{ByteOrder};
+ghost use Rattle.capture_numbers.specs.declared.link_type.LinkType.{LinkType};
 ghost use Rattle.capture_packet.specs.declared.network_protocol.NetworkProtocol.{NetworkProtocol};
 
 /// A frame has at most one link header. If the frame ends within its link header, it has no whole link header. The required length of the

@@ -8,8 +8,8 @@ use crate::NetworkProtocol;
 use crate::link::header::{FirstHeader, LinkHeader, expect_len, little_endian_short_at, number_at};
 use crate::link::ieee80211::frame_at;
 use crate::link::{LinkHeaderCutOff, ethernet_at, family_at, is_ip_family};
-use capture_texts::link_number::{AVS, PFLOG, PKTAP, PPI, PRISM};
-use capture_texts::{ByteOrder, LinkType};
+use capture_numbers::link_number::{AVS, PFLOG, PKTAP, PPI, PRISM};
+use capture_numbers::{ByteOrder, LinkType};
 
 /// The length of the first fields of a LINKTYPE_PFLOG header, in bytes: the length of the header, and the address family.
 const FILTER_FIELDS_LEN: usize = 2;

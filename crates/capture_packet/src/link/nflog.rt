@@ -1,7 +1,7 @@
 //! Packets that the packet filter of Linux logged (LINKTYPE_NFLOG).
 
 ghost use Rattle.std.specs.Prelude.{◌≡◌, ◌+◌, ◌≤◌, ◌<◌, IfErr, IfOk, length};
-ghost use Rattle.capture_texts.specs.Numbers as numbers;
+ghost use Rattle.capture_numbers.specs.Numbers as numbers;
 ghost use Rattle.capture_packet.specs.LinkHeaders.{Fits};
 ghost use Rattle.capture_packet.specs.Nflog as specs;
 ghost use Rattle.capture_packet.specs.Nflog.{IsWithin};
@@ -9,8 +9,8 @@ ghost use Rattle.capture_packet.specs.Nflog.{IsWithin};
 use crate::link::LinkHeaderCutOff;
 use crate::link::header::{FirstHeader, LinkHeader, expect_len, little_endian_short_at, short_at};
 use crate::link::metadata::{family_protocol, padded};
-use capture_texts::ByteOrder;
-use capture_texts::link_number::NFLOG;
+use capture_numbers::ByteOrder;
+use capture_numbers::link_number::NFLOG;
 
 /// The place of the first attribute, after the address family, the version and the number of the group.
 const ATTRIBUTES_AT: usize = 4;

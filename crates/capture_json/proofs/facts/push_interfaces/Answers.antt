@@ -1,7 +1,7 @@
 use Rattle.std.proofs.Common.{◌≡◌, ◌<◌, ◌+◌, ◌∙◌, ℕ, List, [], ◌∷◌, ◌++◌, ap, arith, get_or, length, length-take-le, rules, sym, take}
 use Rattle.std.proofs.lemmas.List.{take_more}
 use Rattle.capture_file.specs.declared.pcapng.interface_description.InterfaceDescription.{InterfaceDescription}
-use Rattle.capture_texts.specs.declared.file_texts.InterfaceTexts.{InterfaceTexts}
+use Rattle.capture_file.specs.declared.file_texts.InterfaceTexts.{InterfaceTexts}
 use Rattle.json.specs.Token.{Token}
 use Rattle.capture_json.specs.JsonFacts.{interface_data, interfaces_data}
 use Rattle.capture_json.specs.Tokens.{push, with_items}

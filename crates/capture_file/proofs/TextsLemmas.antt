@@ -1,6 +1,6 @@
 -- The start of a character.
 use Rattle.std.proofs.Common.{◌≡◌, ◌∙◌, ℕ, zero, suc, true, false, List, slice_index, ap, cond, refl, sym}
-use Rattle.capture_texts.specs.Texts.{char_start, is_continuation}
+use Rattle.capture_file.specs.Texts.{char_start, is_continuation}
 
 back_one : (text : List ℕ) (before : ℕ) → is_continuation (slice_index text (suc before)) ≡ true
     → char_start text (suc before) ≡ char_start text before

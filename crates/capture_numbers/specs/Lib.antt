@@ -2,4 +2,3 @@ pub mod Blocks
 pub mod LinkTypes
 pub mod Numbers
 pub mod Options
-pub mod Texts

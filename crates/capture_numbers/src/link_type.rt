@@ -1,5 +1,5 @@
 ghost use Rattle.std.specs.Prelude.{◌≡◌};
-ghost use Rattle.capture_texts.specs.LinkTypes.{link_type_with};
+ghost use Rattle.capture_numbers.specs.LinkTypes.{link_type_with};
 
 use crate::link_number;
 

@@ -2,9 +2,9 @@ use Rattle.std.proofs.Common.{◌≡◌, ◌+◌, ◌-◌, ◌∙◌, Some, fals
 use Rattle.std.proofs.lemmas.List.{take_rest}
 use Rattle.std.specs.Option.{option_map}
 use Rattle.ip_part.proofs.OptionsLemmas.{found_at, none_at, sought_next}
-use Rattle.capture_texts.specs.Numbers.{short_at}
-use Rattle.capture_texts.specs.Options.{is_option, pcapng_option, value_in}
-use Rattle.capture_texts.proofs.options.option_value.Goals as goal
+use Rattle.capture_numbers.specs.Numbers.{short_at}
+use Rattle.capture_numbers.specs.Options.{is_option, pcapng_option, value_in}
+use Rattle.capture_numbers.proofs.options.option_value.Goals as goal
 
 -- the option is found
 pub returns-then-value_len-unwrap_or-clause-value : goal.returns-then-value_len-unwrap_or-clause-value

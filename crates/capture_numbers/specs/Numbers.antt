@@ -1,8 +1,8 @@
 -- The numbers in a capture, in its byte order.
 use Rattle.std.specs.Prelude.{ℕ, zero, suc, ◌+◌, ◌*◌, ◌^◌, List, slice_index}
 use Rattle.net_base.specs.Bytes.{be_number}
-use Rattle.capture_texts.specs.declared.byte_order.ByteOrder.{ByteOrder}
-use Rattle.capture_texts.specs.declared.byte_order.ByteOrder.TheVariants.{BigEndian, LittleEndian}
+use Rattle.capture_numbers.specs.declared.byte_order.ByteOrder.{ByteOrder}
+use Rattle.capture_numbers.specs.declared.byte_order.ByteOrder.TheVariants.{BigEndian, LittleEndian}
 
 -- the little-endian number in the `count` bytes from place `from` on
 abbrev pub le_number : List ℕ → ℕ → ℕ → ℕ

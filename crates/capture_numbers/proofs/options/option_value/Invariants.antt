@@ -1,7 +1,7 @@
 use Rattle.std.proofs.Common.{length}
 use Rattle.ip_part.proofs.OptionsLemmas.{IsSought}
-use Rattle.capture_texts.specs.Options as specs
-use Rattle.capture_texts.proofs.options.option_value.Given as goal
+use Rattle.capture_numbers.specs.Options as specs
+use Rattle.capture_numbers.proofs.options.option_value.Given as goal
 
 abbrev pub invariant-loop-option : goal.invariant-loop-option
 invariant-loop-option l = IsSought (specs.is_option l.fn.order l.fn.code l.fn.len) (specs.pcapng_option l.fn.order) l.options l.rest

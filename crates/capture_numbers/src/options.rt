@@ -1,6 +1,6 @@
 ghost use Rattle.std.specs.Prelude.{◌≡◌, ◌+◌, ◌≤◌, IfSome, MatchOption, None, Some, length};
-ghost use Rattle.capture_texts.specs.Numbers.{short_at};
-ghost use Rattle.capture_texts.specs.Options as specs;
+ghost use Rattle.capture_numbers.specs.Numbers.{short_at};
+ghost use Rattle.capture_numbers.specs.Options as specs;
 
 use crate::ByteOrder;
 

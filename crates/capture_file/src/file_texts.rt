@@ -1,13 +1,13 @@
 ghost use Rattle.std.specs.Prelude.{◌≡◌, drop};
-ghost use Rattle.capture_texts.specs.Texts as specs;
+ghost use Rattle.capture_file.specs.Texts as specs;
 
-use crate::block::{
+use crate::{ByteOrder, KeptText};
+use arrayvec::ArrayVec;
+use capture_numbers::block::{
     ENHANCED_PACKET, INTERFACE_DESCRIPTION, INTERFACE_DESCRIPTION_LEN, SECTION_HEADER,
     SECTION_HEADER_LEN, TIMED_CAPTURED_AT, TIMED_CAPTURED_LEN_AT,
 };
-use crate::options::option_value;
-use crate::{ByteOrder, KeptText};
-use arrayvec::ArrayVec;
+use capture_numbers::option_value;
 
 /// The maximum number of interfaces whose texts are kept, in each section.
 pub const MAX_INTERFACES_WITH_TEXTS: usize = 32;

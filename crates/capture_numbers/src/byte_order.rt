@@ -1,5 +1,5 @@
 ghost use Rattle.std.specs.Prelude.{◌≡◌, ◌+◌, ◌≤◌, length};
-ghost use Rattle.capture_texts.specs.Numbers.{long_at, number_at, short_at};
+ghost use Rattle.capture_numbers.specs.Numbers.{long_at, number_at, short_at};
 
 /// The byte order of the numbers in a capture. It is the byte order of the machine that wrote the capture.
 #[derive(Clone, Copy, Debug, PartialEq, Eq)]

@@ -1,6 +1,6 @@
 use Rattle.std.proofs.Common.{◌∙◌, ◌-◌, arith, rules, sym}
-use Rattle.capture_texts.proofs.TextsLemmas.{at_first, at_start, one_back}
-use Rattle.capture_texts.proofs.kept_text.char_start.Goals as goal
+use Rattle.capture_file.proofs.TextsLemmas.{at_first, at_start, one_back}
+use Rattle.capture_file.proofs.kept_text.char_start.Goals as goal
 
 -- the invariant holds one byte before
 pub loop-start-preserved : goal.loop-start-preserved

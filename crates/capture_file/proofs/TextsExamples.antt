@@ -1,14 +1,14 @@
 -- Worked examples of numbers, link types, options and texts of captures, so that a wrong definition fails before any code does.
 use Rattle.std.proofs.Common.{◌≡◌, ℕ, true, false, List, [], ◌∷◌, ◌++◌, None, Some, codes, refl, replicate}
 use Rattle.ip_part.specs.Options.{options_within}
-use Rattle.capture_texts.specs.LinkTypes.{link_type_with}
-use Rattle.capture_texts.specs.Numbers.{long_at, number_at, short_at}
-use Rattle.capture_texts.specs.Options.{option_value}
-use Rattle.capture_texts.specs.Texts.{char_start, interface_texts, kept_text, no_texts, texts_after}
-use Rattle.capture_texts.specs.declared.byte_order.ByteOrder.TheVariants.{BigEndian, LittleEndian}
-use Rattle.capture_texts.specs.declared.file_texts.FileTexts.{FileTexts}
-use Rattle.capture_texts.specs.declared.kept_text.KeptText.{KeptText}
-use Rattle.capture_texts.specs.declared.link_type.LinkType.TheVariants.{LinuxCooked2, RawIp}
+use Rattle.capture_numbers.specs.LinkTypes.{link_type_with}
+use Rattle.capture_numbers.specs.Numbers.{long_at, number_at, short_at}
+use Rattle.capture_numbers.specs.Options.{option_value}
+use Rattle.capture_file.specs.Texts.{char_start, interface_texts, kept_text, no_texts, texts_after}
+use Rattle.capture_numbers.specs.declared.byte_order.ByteOrder.TheVariants.{BigEndian, LittleEndian}
+use Rattle.capture_file.specs.declared.file_texts.FileTexts.{FileTexts}
+use Rattle.capture_file.specs.declared.kept_text.KeptText.{KeptText}
+use Rattle.capture_numbers.specs.declared.link_type.LinkType.TheVariants.{LinuxCooked2, RawIp}
 
 -- ---- numbers and link types
 

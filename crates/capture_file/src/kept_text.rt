@@ -1,5 +1,5 @@
 ghost use Rattle.std.specs.Prelude.{◌≡◌, ◌<◌, ◌≤◌, length};
-ghost use Rattle.capture_texts.specs.Texts as specs;
+ghost use Rattle.capture_file.specs.Texts as specs;
 
 use arrayvec::ArrayVec;
 

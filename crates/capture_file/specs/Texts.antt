@@ -1,12 +1,12 @@
 -- The texts of a pcapng file: names, descriptions and comments (draft-ietf-opsawg-pcapng, sections 3.5, 4.1 and 4.2).
 use Rattle.std.specs.Prelude.{ℕ, zero, suc, ◌+◌, ◌*◌, ◌/◌, ◌-◌, ◌^◌, ◌==◌, Bool, false, not, nat_le, nat_lt, if◌then◌else◌, min, List, [], ◌∷◌, ◌++◌, length, take, drop, slice_index, None, unwrap_or}
-use Rattle.capture_texts.specs.Blocks.{enhanced_packet_type, interface_description_len, interface_description_type, section_header_len, section_header_type, timed_captured_at, timed_captured_len_at}
-use Rattle.capture_texts.specs.Numbers.{number_at}
-use Rattle.capture_texts.specs.Options.{option_value}
-use Rattle.capture_texts.specs.declared.byte_order.ByteOrder.{ByteOrder}
-use Rattle.capture_texts.specs.declared.file_texts.FileTexts.{FileTexts}
-use Rattle.capture_texts.specs.declared.file_texts.InterfaceTexts.{InterfaceTexts}
-use Rattle.capture_texts.specs.declared.kept_text.KeptText.{KeptText}
+use Rattle.capture_numbers.specs.Blocks.{enhanced_packet_type, interface_description_len, interface_description_type, section_header_len, section_header_type, timed_captured_at, timed_captured_len_at}
+use Rattle.capture_numbers.specs.Numbers.{number_at}
+use Rattle.capture_numbers.specs.Options.{option_value}
+use Rattle.capture_numbers.specs.declared.byte_order.ByteOrder.{ByteOrder}
+use Rattle.capture_file.specs.declared.file_texts.FileTexts.{FileTexts}
+use Rattle.capture_file.specs.declared.file_texts.InterfaceTexts.{InterfaceTexts}
+use Rattle.capture_file.specs.declared.kept_text.KeptText.{KeptText}
 
 -- ---- what is kept of a text
 

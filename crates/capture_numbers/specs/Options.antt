@@ -3,8 +3,8 @@ use Rattle.std.specs.Prelude.{ℕ, ◌+◌, ◌*◌, ◌/◌, ◌==◌, Bool, �
 use Rattle.std.specs.List.{find}
 use Rattle.std.specs.Option.{option_map}
 use Rattle.ip_part.specs.Options.{options_of}
-use Rattle.capture_texts.specs.Numbers.{short_at}
-use Rattle.capture_texts.specs.declared.byte_order.ByteOrder.{ByteOrder}
+use Rattle.capture_numbers.specs.Numbers.{short_at}
+use Rattle.capture_numbers.specs.declared.byte_order.ByteOrder.{ByteOrder}
 
 -- the length of an option with a value of this length: four bytes before the value, and the value padded to a multiple of four bytes
 abbrev pub option_len : ℕ → ℕ

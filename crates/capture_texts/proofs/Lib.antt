@@ -1,2 +1,0 @@
-pub mod TextsExamples
-pub mod TextsLemmas
