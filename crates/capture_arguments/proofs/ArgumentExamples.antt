@@ -1,4 +1,5 @@
--- A worked example of a command line, from its words to the options that they request, so that a wrong definition fails before any code does.
+-- A worked example of a command line, from its words to the options that they request, so that a wrong definition fails before any code
+-- does.
 use Rattle.std.proofs.Common.{Global, Vec, ◌≡◌, ◌≢◌, ◌∙◌, ◌++◌, ℕ, Bool, true, false, not, List, [], ◌∷◌, None, Some, ap, ap₂, arith, codes, if◌then◌else◌, inl, inr, length, length-take, map, refl, replicate, slice_index, subst, sym, take, unwrap_or}
 use Rattle.std.specs.Borrow.{Bor}
 use Rattle.std.specs.List.{flat_map}
@@ -38,7 +39,8 @@ use Rattle.capture_arguments.specs.declared.arguments.Options.{Options}
 
 words : List Text
 words =
-    codes "capture_report" ∷ codes "-vv" ∷ codes "--json" ∷ codes "--json" ∷ codes "--port" ∷ codes "53,80-90" ∷ codes "--protocol" ∷ codes "TCP" ∷ codes "-c" ∷ codes "5"
+    codes "capture_report" ∷ codes "-vv" ∷ codes "--json" ∷ codes "--json" ∷ codes "--port" ∷ codes "53,80-90" ∷ codes "--protocol"
+    ∷ codes "TCP" ∷ codes "-c" ∷ codes "5"
     ∷ codes "a.pcap" ∷ []
 
 -- a reference to a value
@@ -180,12 +182,16 @@ other_name letters same = letters (ap (λ text. slice_index text 0) same)
 is_tcp : ReadsProtocol (codes "TCP") (One Tcp)
 unfolding protocol_rows
 is_tcp =
-    inr (other_name (λ letter. absurd (omega (arith, letter))), inr (other_name (λ letter. absurd (omega (arith, letter))), inl (refl, refl)))
+    inr (
+      other_name (λ letter. absurd (omega (arith, letter))),
+      inr (other_name (λ letter. absurd (omega (arith, letter))), inl (refl, refl)),
+    )
 
 are_options : IsOptionsOf matches options
 are_options = record {
   compatible = ap (λ found. conflict_in (rows_of found)) are_found;
-  lines = λ summary wrong has_summary has_wrong. ap₂ lines_by (flag_is (codes "summary") false summary refl has_summary) (flag_is (codes "wrong") false wrong refl has_wrong);
+  lines = λ summary wrong has_summary has_wrong.
+      ap₂ lines_by (flag_is (codes "summary") false summary refl has_summary) (flag_is (codes "wrong") false wrong refl has_wrong);
   times = λ absolute has. ap times_by (flag_is (codes "absolute") false absolute refl has);
   verbose = λ flag has. flag_is (codes "verbose") true flag refl has;
   summary = λ packets has. ap not (flag_is (codes "packets") false packets refl has);
@@ -199,14 +205,17 @@ are_options = record {
       destinations = values (codes "destination");
       other_hosts = values (codes "not-host");
     };
-    ports = subst (λ texts. AreRead ReadsRange (flat_map list_items texts) options.parts.choice.ports) (sym (values (codes "port"))) are_ports;
+    ports = subst (λ texts. AreRead ReadsRange (flat_map list_items texts) options.parts.choice.ports)
+        (sym (values (codes "port"))) are_ports;
     other_ports = ap (flat_map list_items) (values (codes "not-port"));
-    protocols = subst (λ names. AreRead ReadsProtocol names options.parts.choice.protocols) (sym (values (codes "protocol"))) (λ none. absurd (cc none), (is_tcp, tt));
+    protocols = subst (λ names. AreRead ReadsProtocol names options.parts.choice.protocols) (sym (values (codes "protocol")))
+        (λ none. absurd (cc none), (is_tcp, tt));
   };
   limit = (
     λ none. absurd (cc (sym (ap (λ found. one_text found (codes "count")) are_found) ∙ none)),
     λ text given has number. ap Some (
-        ap (λ one. digits_value 10 (without_leading_plus (unwrap_or one []))) (sym (ap (λ found. one_text found (codes "count")) are_found) ∙ has)
+        ap (λ one. digits_value 10 (without_leading_plus (unwrap_or one [])))
+        (sym (ap (λ found. one_text found (codes "count")) are_found) ∙ has)
         ∙ number.1
         ),
   );

@@ -28,7 +28,8 @@ reads-one Reads (first ∷ texts) text (Some old ∷ places) value reads below o
     (reads.0, reads-one Reads texts text places value reads.1 (omega arith) one)
 
 -- the places after another step of a loop
-pub reads-step : {X Y : Type 0} (Reads : List ℕ → X → Type 0) (names : List Y) (named : Y → List ℕ) (place : ℕ) (d : Y) (places : List (Option X))
+pub reads-step : {X Y : Type 0} (Reads : List ℕ → X → Type 0) (names : List Y) (named : Y → List ℕ) (place : ℕ) (d : Y)
+    (places : List (Option X))
     (value : X) → place < length names → place < length places → ReadsPlaces Reads (map named (take place names)) places
     → Reads (named (get_or names place d)) value → ReadsPlaces Reads (map named (take (place + 1) names)) (set places place (Some value))
 reads-step Reads names named place d places value below room reads one =
@@ -45,7 +46,8 @@ split_map named place names =
     ap (map named) (sym (take-append-drop place names)) ∙ map-append named (take place names) (drop place names)
 
 -- the text for the next place is wrong, and the texts before it have values
-pub first-wrong : {X Y : Type 0} (Reads : List ℕ → X → Type 0) (IsWrong : List ℕ → Type 0) (names : List Y) (named : Y → List ℕ) (place : ℕ) (d : Y)
+pub first-wrong : {X Y : Type 0} (Reads : List ℕ → X → Type 0) (IsWrong : List ℕ → Type 0) (names : List Y) (named : Y → List ℕ) (place : ℕ)
+    (d : Y)
     (values : List (Option X)) → place < length names → ReadsPlaces Reads (map named (take place names)) values
     → IsWrong (named (get_or names place d)) → IsFirstWrong Reads IsWrong (map named names) (named (get_or names place d))
 first-wrong Reads IsWrong names named place d values below reads wrong = record {
@@ -88,7 +90,8 @@ range_by text bounds range is by =
 -- the first item of a list, as `split_once` returns it
 pub cut_by : (list : List ℕ) (cut : Option (Bor (List ℕ) × Bor (List ℕ)))
     → MatchOption cut (position_or_len is_comma list ≡ length list)
-    (λ two. (position_or_len is_comma list < length list) × (two.0.now ≡ before_first is_comma list) × (two.1.now ≡ after_first is_comma list))
+    (λ two. (position_or_len is_comma list < length list) × (two.0.now ≡ before_first is_comma list)
+    × (two.1.now ≡ after_first is_comma list))
     → MatchOption cut (list_items list ≡ list ∷ []) (λ two. list_items list ≡ two.0.now ∷ list_items two.1.now)
 cut_by list None whole = one_item is_comma list whole
 cut_by list (Some two) split = rw (split.1, split.2) (slice_split_first is_comma list 0 split.0)
@@ -96,7 +99,8 @@ cut_by list (Some two) split = rw (split.1, split.2) (slice_split_first is_comma
 -- the list after the first item is shorter
 pub cut_shorter : (list : List ℕ) (cut : Option (Bor (List ℕ) × Bor (List ℕ)))
     → MatchOption cut (position_or_len is_comma list ≡ length list)
-    (λ two. (position_or_len is_comma list < length list) × (two.0.now ≡ before_first is_comma list) × (two.1.now ≡ after_first is_comma list))
+    (λ two. (position_or_len is_comma list < length list) × (two.0.now ≡ before_first is_comma list)
+    × (two.1.now ≡ after_first is_comma list))
     → IfSome cut (λ two. length two.1.now < length list)
 cut_shorter list None whole = tt
 cut_shorter list (Some two) split = rw split.2 (omega (arith, split.0, length-drop (position_or_len is_comma list + 1) list))
@@ -108,13 +112,15 @@ abbrev pub row_of : Bor (List ℕ) × ChosenProtocol → List ℕ × ChosenProto
 row_of row = (row.0.now, row.1)
 
 -- the first row has the name
-pub first_named : (rows : List (Bor (List ℕ) × ChosenProtocol)) (d : Bor (List ℕ) × ChosenProtocol) (name : List ℕ) (found : Option ChosenProtocol)
+pub first_named : (rows : List (Bor (List ℕ) × ChosenProtocol)) (d : Bor (List ℕ) × ChosenProtocol) (name : List ℕ)
+    (found : Option ChosenProtocol)
     → 1 ≤ length rows → IsSameName (get_or rows 0 d).0.now name → found ≡ Some (get_or rows 0 d).1 → Names (map row_of rows) name found
 first_named [] d name found some same is = absurd (omega (arith, some))
 first_named (row ∷ rows) d name found some same is = inl (same, is)
 
 -- the first row has another name
-pub next_named : (rows : List (Bor (List ℕ) × ChosenProtocol)) (d : Bor (List ℕ) × ChosenProtocol) (name : List ℕ) (found : Option ChosenProtocol)
+pub next_named : (rows : List (Bor (List ℕ) × ChosenProtocol)) (d : Bor (List ℕ) × ChosenProtocol) (name : List ℕ)
+    (found : Option ChosenProtocol)
     → 1 ≤ length rows → (IsSameName (get_or rows 0 d).0.now name → ⊥) → Names (map row_of (drop 1 rows)) name found
     → Names (map row_of rows) name found
 next_named [] d name found some other others = absurd (omega (arith, some))

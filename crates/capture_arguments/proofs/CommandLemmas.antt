@@ -50,19 +50,23 @@ decided false = inr refl
 shown_memory : (RanOut : Type 0) (Explains : App → ErrorKind → Text → Error → Type 0) (words : List Text) (found shown : Error)
     → IsShownFor RanOut Explains words found shown → kind_of found ≡ OutOfMemory → shown ≡ found
 shown_memory RanOut Explains words found shown is_shown is_memory =
-    subst (λ kind. MatchOption (named_word kind words) (shown ≡ found) (λ word. IsExplainedUnless RanOut Explains UnknownArgument (unknown_text word) shown))
+    subst (λ kind. MatchOption (named_word kind words) (shown ≡ found)
+    (λ word. IsExplainedUnless RanOut Explains UnknownArgument (unknown_text word) shown))
     is_memory is_shown
 
 -- clap refuses the words, unless an allocation failed
-pub no_match : (RanOut : Type 0) (Refuses : App → List Text → Error → Type 0) (Explains : App → ErrorKind → Text → Error → Type 0) (app : App)
+pub no_match : (RanOut : Type 0) (Refuses : App → List Text → Error → Type 0) (Explains : App → ErrorKind → Text → Error → Type 0)
+    (app : App)
     (words : List Text) (found shown : Error) → IsCommandLine app → (takes app words ≡ true → kind_of found ≡ OutOfMemory)
-    → (kind_of found ≡ OutOfMemory → RanOut) → (is_simple_and_free app ≡ true → HasKind (faults_of app words) found) → Refuses app words found
+    → (kind_of found ≡ OutOfMemory → RanOut) → (is_simple_and_free app ≡ true → HasKind (faults_of app words) found)
+    → Refuses app words found
     → IsShownFor RanOut Explains words found shown → AreRejectedBy RanOut Refuses Explains words shown
 no_match RanOut Refuses Explains app words found shown is_line passes ran_out kinds refused is_shown =
     let about_memory : kind_of found ≡ OutOfMemory → AreRejectedBy RanOut Refuses Explains words shown =
     λ is. inl (ap kind_of (shown_memory RanOut Explains words found shown is_shown is) ∙ is, ran_out is) in
     ⊎_elim (λ taken. about_memory (passes taken)) (λ rejected.
-    ⊎_elim about_memory (λ among. inr (inl (app, found, is_line, rejected, among, refused, is_shown))) (kinds (is_free_command_line app is_line)))
+    ⊎_elim about_memory (λ among. inr (inl (app, found, is_line, rejected, among, refused, is_shown)))
+    (kinds (is_free_command_line app is_line)))
     (decided (takes app words))
 
 -- the words are rejected for a fault that clap does not find, or since an allocation failed

@@ -11,7 +11,8 @@ use Rattle.clap.proofs.WalkLemmas.{find_row}
 use Rattle.capture_arguments.specs.Conflicts.{is_from_words, is_given}
 
 same_source : (entry : Option Entry)
-    → option_and_then (λ (row : Row). row.source) (option_map row_of entry) ≡ option_and_then (λ (found : MatchedArg). found.source) (option_map (λ e. e.1) entry)
+    → option_and_then (λ (row : Row). row.source) (option_map row_of entry)
+    ≡ option_and_then (λ (found : MatchedArg). found.source) (option_map (λ e. e.1) entry)
 same_source None = refl
 same_source (Some entry) = refl
 

@@ -35,7 +35,8 @@ AreNoWordsBy holds exceeds RanOut kind =
     ((kind ≡ OutOfMemory) × RanOut) ⊎ ((kind ≡ ArgumentListTooLong) × AreTooLong holds exceeds)
 
 -- the next argument is too long
-pub next_too_long : (holds : ℕ → List ℕ → Type 0) (exceeds : ℕ → ℕ → Type 0) (RanOut : Type 0) (kind : ErrorKind) (arguments : List (List ℕ))
+pub next_too_long : (holds : ℕ → List ℕ → Type 0) (exceeds : ℕ → ℕ → Type 0) (RanOut : Type 0) (kind : ErrorKind)
+    (arguments : List (List ℕ))
     (place room : ℕ) → AreArguments holds 0 arguments → place ≡ length arguments → room ≡ max_argument_len → exceeds place room
     → kind ≡ ArgumentListTooLong → AreNoWordsBy holds exceeds RanOut kind
 next_too_long holds exceeds RanOut kind arguments place room are is_place is_room over is_kind = inr (

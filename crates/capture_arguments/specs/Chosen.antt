@@ -173,8 +173,10 @@ abbrev pub AreNoAddresses : ArgMatches → ChoiceError → Type 0
 AreNoAddresses matches error =
     AreNoHosts (codes "host") (values_of matches (codes "host")) error
     ⊎ (AreFew ReadsHost (values_of matches (codes "host")) × (AreNoHosts (codes "source") (values_of matches (codes "source")) error
-    ⊎ (AreFew ReadsHost (values_of matches (codes "source")) × (AreNoHosts (codes "destination") (values_of matches (codes "destination")) error
-    ⊎ (AreFew ReadsHost (values_of matches (codes "destination")) × AreNoHosts (codes "not-host") (values_of matches (codes "not-host")) error)))))
+    ⊎ (AreFew ReadsHost (values_of matches (codes "source"))
+    × (AreNoHosts (codes "destination") (values_of matches (codes "destination")) error
+    ⊎ (AreFew ReadsHost (values_of matches (codes "destination"))
+    × AreNoHosts (codes "not-host") (values_of matches (codes "not-host")) error)))))
 
 -- Why these matches contain no valid choice of packets. The error is about the first option whose values are not accepted. The options for
 -- hosts are tested first, then the options for ports, and then the option for protocols.
@@ -196,7 +198,9 @@ abbrev pub choice_text : ChoiceError → List ℕ
 choice_text (Host name text error) =
     codes "invalid value '" ++ (text.now ++ of_option name.now (codes " <ADDRESS>': " ++ network_error_text error))
 choice_text (Port name text) =
-    codes "invalid value '" ++ (text.now ++ of_option name.now (codes " <N>': not a number from 0 to 65535, and no range such as 8000-8100"))
+    codes "invalid value '" ++ (text.now
+    ++ of_option name.now (codes " <N>': not a number from 0 to 65535, and no range such as 8000-8100"))
 choice_text (Protocol text) =
-    codes "invalid value '" ++ (text.now ++ codes "' for '--protocol <NAME>': not the name of a protocol in the table `protocol` of the summary")
+    codes "invalid value '" ++ (text.now
+    ++ codes "' for '--protocol <NAME>': not the name of a protocol in the table `protocol` of the summary")
 choice_text (TooMany name) = codes "'--" ++ (name.now ++ (codes "' is given more than " ++ (decimal 16 ++ codes " values")))

@@ -10,8 +10,10 @@ use Rattle.clap.specs.declared.parser.matches.ValueSource.TheVariants.{CommandLi
 -- the names of options that can't be used together, in pairs; the pairs are tested in this order
 abbrev pub exclusive_pairs : List (Text × Text)
 exclusive_pairs =
-    (codes "summary", codes "packets") ∷ (codes "wrong", codes "summary") ∷ (codes "absolute", codes "summary") ∷ (codes "top", codes "packets")
-    ∷ (codes "write", codes "summary") ∷ (codes "write", codes "packets") ∷ (codes "write", codes "absolute") ∷ (codes "write", codes "check")
+    (codes "summary", codes "packets") ∷ (codes "wrong", codes "summary") ∷ (codes "absolute", codes "summary")
+    ∷ (codes "top", codes "packets")
+    ∷ (codes "write", codes "summary") ∷ (codes "write", codes "packets") ∷ (codes "write", codes "absolute")
+    ∷ (codes "write", codes "check")
     ∷ (codes "write", codes "json") ∷ (codes "write", codes "top") ∷ []
 
 -- a value comes from the command line, and is not a default

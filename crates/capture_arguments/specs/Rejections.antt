@@ -86,7 +86,8 @@ AreNoMatch RanOut Refuses Explains words error =
     × Refuses app words found × IsShownFor RanOut Explains words found error
 
 -- the error is about memory, or clap refuses these words, or the error has the kind and the message of the first fault in them
-abbrev pub AreRejectedBy : Type 0 → (App → List Text → Error → Type 0) → (App → ErrorKind → Text → Error → Type 0) → List Text → Error → Type 0
+abbrev pub AreRejectedBy : Type 0 → (App → List Text → Error → Type 0) → (App → ErrorKind → Text → Error → Type 0) → List Text → Error
+    → Type 0
 AreRejectedBy RanOut Refuses Explains words error =
     IsAboutMemory RanOut error
     ⊎ (AreNoMatch RanOut Refuses Explains words error

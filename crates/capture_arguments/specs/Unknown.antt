@@ -8,7 +8,8 @@ abbrev pub long_options : List (List ℕ)
 long_options =
     codes "--summary" ∷ codes "--packets" ∷ codes "--wrong" ∷ codes "--verbose" ∷ codes "--absolute" ∷ codes "--check" ∷ codes "--json"
     ∷ codes "--top" ∷ codes "--host" ∷ codes "--source" ∷ codes "--destination" ∷ codes "--not-host" ∷ codes "--port" ∷ codes "--not-port"
-    ∷ codes "--protocol" ∷ codes "--count" ∷ codes "--write" ∷ codes "--line-buffered" ∷ codes "--numeric" ∷ codes "--read" ∷ codes "--help" ∷ codes "--version" ∷ []
+    ∷ codes "--protocol" ∷ codes "--count" ∷ codes "--write" ∷ codes "--line-buffered" ∷ codes "--numeric" ∷ codes "--read" ∷ codes "--help"
+    ∷ codes "--version" ∷ []
 
 -- the letters of the options that have no value
 abbrev pub flag_letters : List ℕ

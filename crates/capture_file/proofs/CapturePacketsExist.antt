@@ -155,8 +155,14 @@ passes_first : (room count : ℕ) (before reader after : PcapngReader) (left mid
     → PassesBlocks room (suc count) before left still_left after
 passes_first room zero before reader after left middle still_left passed has_room step passes = grind (arith, nat_tests)
 passes_first room (suc count) before reader after left middle still_left passed has_room step passes =
-    let (last, last_left, buffer, last_room, others, last_step) = passes in
-    (last, last_left, buffer, last_room, passes_first room count before reader last left middle last_left passed has_room step others, last_step)
+    let (last, last_left, buffer, last_room, others, last_step) = passes in (
+      last,
+      last_left,
+      buffer,
+      last_room,
+      passes_first room count before reader last left middle last_left passed has_room step others,
+      last_step,
+    )
 
 -- the blocks up to the next packet, after a block without a next item
 step_before : (room : ℕ) (before reader : PcapngReader) (after : CaptureReader) (left middle still_left : Option (List ℕ))
@@ -203,7 +209,8 @@ pass_on room before after all rest buffer (packet ∷ packets) next has_room ste
       buffer = one.buffer;
       has_room = one.has_room;
       next = one.next;
-      reads = step_before room before after mid (Some all) (Some rest) middle buffer one.buffer one.next has_room one.has_room step one.reads;
+      reads = step_before room before after mid (Some all)
+          (Some rest) middle buffer one.buffer one.next has_room one.has_room step one.reads;
       gives = one.gives;
     } in
     (left, last, (mid, middle, before_one, others), ends)

@@ -71,7 +71,11 @@ left_up_to : (room count : ℕ) (before after : PcapngReader) (all : List ℕ) (
 left_up_to room zero before after all left buffer next reads = left_of all left reads.reads.bytes reads.reads.consumed
 left_up_to room (suc count) before after all left buffer next reads =
     let (reader, rest, passed, has_room, step, others) = reads in
-    grind (arith, left_up_to room count reader after rest left buffer next others, left_of all (Some rest) step.reads.bytes step.reads.consumed)
+    grind (
+      arith,
+      left_up_to room count reader after rest left buffer next others,
+      left_of all (Some rest) step.reads.bytes step.reads.consumed,
+    )
 
 -- a next item is a packet or an end
 pub says_something : (packet : Option FilePacket) (next : NextPacket) → said_by packet next ≡ nothing → ⊥

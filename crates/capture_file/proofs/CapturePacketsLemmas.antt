@@ -134,7 +134,8 @@ pub has_packets : (room : ℕ) (reader after : CaptureReader) (left middle : Opt
     → IfSome left (λ bytes. HasPackets room reader bytes packets next)
 has_packets room (Classic reader) after left middle packets next read ends =
     let by_records = classic_packets room reader left middle after packets read in
-    classic_ends room reader by_records.last left middle by_records.records packets next by_records.same by_records.read by_records.are_packets
+    classic_ends room reader by_records.last left middle by_records.records packets next by_records.same by_records.read
+    by_records.are_packets
     (subst (λ r. EndsWith room r middle next) by_records.is_last ends)
 has_packets room (Pcapng reader) after None middle packets next read ends = tt
 has_packets room (Pcapng reader) after (Some all) middle packets next read ends = (middle, after, read, ends)

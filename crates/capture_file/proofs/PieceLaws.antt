@@ -70,9 +70,11 @@ module _ (form : Form) where
       → (a ≡ b) × (x ≡ y)
   unique state [] [] x y p q same = (refl, same)
   unique state [] (b ∷ b_more) x y p q same =
-      absurd (form.no_piece state b (concat b_more ++ y) (form.first_of state b b_more y q).0 (subst (form.Are state []) (same ∙ append_assoc b (concat b_more) y) p))
+      absurd (form.no_piece state b (concat b_more ++ y) (form.first_of state b b_more y q).0
+      (subst (form.Are state []) (same ∙ append_assoc b (concat b_more) y) p))
   unique state (a ∷ a_more) [] x y p q same =
-      absurd (form.no_piece state a (concat a_more ++ x) (form.first_of state a a_more x p).0 (subst (form.Are state []) (sym same ∙ append_assoc a (concat a_more) x) q))
+      absurd (form.no_piece state a (concat a_more ++ x) (form.first_of state a a_more x p).0
+      (subst (form.Are state []) (sym same ∙ append_assoc a (concat a_more) x) q))
   unique state (a ∷ a_more) (b ∷ b_more) x y p q same =
       let (is, others) = form.first_of state a a_more x p in
       let (is_too, others_too) = form.first_of state b b_more y q in

@@ -109,7 +109,8 @@ module _ (room : ℕ) (left other_left : Option (List ℕ)) (after other : Pcapn
       let (reader, rest, passed, has_room, step, others) = reads in
       let compared = compared_steps before all [] (Some rest) other_left reader other passed other_buffer None (Some other_next)
       (has_room ∙ sym other_is_room) step other_reads in
-      absurd (⊎_elim (λ same. says_something (packet_in other_buffer other_next) other_next (sym same.says)) (λ ends. cc (ends.ends refl)) compared)
+      absurd (⊎_elim (λ same. says_something (packet_in other_buffer other_next) other_next (sym same.says))
+      (λ ends. cc (ends.ends refl)) compared)
   one_up_to (suc count) (suc other_count) before all reads other_reads =
       let (reader, rest, passed, has_room, step, others) = reads in
       let (other_reader, other_rest, other_passed, other_has_room, other_step, other_others) = other_reads in
@@ -173,7 +174,8 @@ pcapng_ends room before all next ends other =
     let (count, up) = up_to before reader all ends.still_left ends.buffer next reads in
     let (other_count, other_up) = up_to before other_reader all other.still_left other.buffer next other_reads in
     let same : reader ≡ other_reader =
-    one_up_to room ends.still_left other.still_left reader other_reader ends.buffer other.buffer next next ends.has_room other.has_room count
+    one_up_to room ends.still_left other.still_left reader other_reader ends.buffer other.buffer next next ends.has_room other.has_room
+    count
     other_count before all
     (subst (λ l. ReadsUpTo room count before l ends.still_left reader ends.buffer next) (sym (append-nil all))
     (subst (λ n. ReadsUpTo n count before all ends.still_left reader ends.buffer next) ends.has_room up))
@@ -214,5 +216,6 @@ leaves_one_reader room (Pcapng reader) bytes = record {
       state.after_is ∙ sym state.other_is;
   ends = λ packets next left other_left after other read other_read.
       let state = after_pcapng room reader bytes left other_left after other packets read other_read in
-      same_ends room state.reader state.rest next after other left other_left state.after_is state.other_is state.left_is state.other_left_is;
+      same_ends room state.reader state.rest next after other left other_left state.after_is state.other_is state.left_is
+      state.other_left_is;
 }

@@ -189,14 +189,19 @@ one_whole before header buffer other after other_after next other_next shortest 
     let body : List ℕ = slice_range buffer 8 end in
     let inside : end - 8 ≤ header.total_len - 8 = omega arith in
     let bodies : body ≡ slice_range other 8 end =
-    cc (in_front header.total_len 8 end buffer inside, ap (λ bytes. slice_range bytes 8 end) same, in_front header.total_len 8 end other inside) in
+    cc (
+      in_front header.total_len 8 end buffer inside,
+      ap (λ bytes. slice_range bytes 8 end) same,
+      in_front header.total_len 8 end other inside,
+    ) in
     let (sections, givens) =
     one_taken before.section header body after.section other_after.section step.1.0 other_step.1.0 step.1.1
     (subst (λ bytes. TakesBlock before.section header bytes other_after.section other_step.1.0) (sym bodies) other_step.1.1) in
     let said = said_whole before.offset header buffer other step.1.0
     (λ packet is.
     let takes = subst (TakesBlock before.section header body after.section) is step.1.1 in
-    omega (arith, packet_within before.section header body after.section packet takes, shortest, length-take (end - 8) (drop 8 buffer))) same in
+    omega (arith, packet_within before.section header body after.section packet takes, shortest, length-take (end - 8) (drop 8 buffer)))
+    same in
     let items : next ≡ other_next = step.1.2 ∙ ap (next_by_taken before.offset) givens ∙ sym other_step.1.2 in
     let same_texts : after.texts ≡ other_after.texts =
     texts ∙ ap (λ n. noted (Whole header) buffer n before.texts) items
@@ -321,7 +326,11 @@ module _ (before : PcapngReader) (first more : List ℕ) (left first_left : Opti
   same_refusal (TooLong header) error some refused reads step = grind (arith, read_accepted)
   same_refusal End error some refused reads step = absurd (some (no_byte before.section.byte_order (first ++ more) left buffer reads))
   same_refusal (Refused other) error some refused reads step =
-      grind (arith, refusal_of_all before.section.byte_order (first ++ more) left buffer other reads, said_refused before.offset buffer other)
+      grind (
+        arith,
+        refusal_of_all before.section.byte_order (first ++ more) left buffer other reads,
+        said_refused before.offset buffer other,
+      )
 
   -- a block in the whole file and a block in its beginning, compared
   compared_blocks : (block first_block : NextBlock) → length buffer ≡ length first_buffer → ReadsWhole block → ReadsFirst first_block
@@ -397,4 +406,5 @@ module _ (before : PcapngReader) (first more : List ℕ) (left first_left : Opti
   pub one_step : more ≡ [] → length buffer ≡ length first_buffer → ReadsStep before (Some (first ++ more)) left after buffer next
       → ReadsStep before (Some first) first_left first_after first_buffer first_next → after ≡ first_after
   one_step no_more room step first_step =
-      one_after step.block first_step.block no_more room step.reads first_step.reads step.is_step first_step.is_step step.texts first_step.texts
+      one_after step.block first_step.block no_more room step.reads first_step.reads step.is_step first_step.is_step step.texts
+      first_step.texts

@@ -55,8 +55,10 @@ abbrev pub packet_in_body : BlockHeader → List InterfaceDescription → List �
 packet_in_body header interfaces body =
     let order = header.byte_order in
     let type = header.block_type in
-    if type == enhanced_packet_type then option_map (timed_packet header body (number_at order body 0)) (slice_get interfaces (number_at order body 0))
-    else if type == obsolete_packet_type then option_map (timed_packet header body (short_at order body 0)) (slice_get interfaces (short_at order body 0))
+    if type == enhanced_packet_type then option_map (timed_packet header body (number_at order body 0)) (slice_get interfaces
+    (number_at order body 0))
+    else if type == obsolete_packet_type then option_map (timed_packet header body (short_at order body 0)) (slice_get interfaces
+    (short_at order body 0))
     else if type == simple_packet_type then option_map (simple_packet header body) (slice_get interfaces 0)
     else None
 

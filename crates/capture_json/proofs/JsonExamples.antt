@@ -46,7 +46,8 @@ arp_object : compact_text (object_of (arp_members (Some (Addresses 1 (record {
 unfolding char_count digits escape_byte padded_integral
 arp_object = refl
 
-fragment_object : compact_text (object_of (fragment_members (Some (record { identification = Ipv4 0x1A2B; offset = 1480; more_fragments = true }))))
+fragment_object : compact_text
+    (object_of (fragment_members (Some (record { identification = Ipv4 0x1A2B; offset = 1480; more_fragments = true }))))
     ≡ codes "{\"fragment\":{\"identification\":6699,\"offset\":1480,\"more_fragments\":true}}"
 unfolding digits escape_byte
 fragment_object = refl
@@ -55,7 +56,8 @@ fragment_object = refl
 
 -- the options of packet 8 in the stored run of `capture_report`: a byte without an operation, and a window scale whose length byte is 254
 option_members : AreOptionMembers (1 ∷ 3 ∷ 254 ∷ 0 ∷ [])
-    ((codes "options", array_of (kind_object 1 ∷ [])) ∷ (codes "options_fault", string (codes "option 3 with length 254 above the 3 bytes left")) ∷ [])
+    ((codes "options", array_of (kind_object 1 ∷ []))
+    ∷ (codes "options_fault", string (codes "option 3 with length 254 above the 3 bytes left")) ∷ [])
 unfolding digits
 option_members = (
   kind_object 1 ∷ [],

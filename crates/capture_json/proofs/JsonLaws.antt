@@ -22,7 +22,8 @@ one_header : (header : List ℕ) (members others : List Member)
     → AreTcpHeaderMembers header members → AreTcpHeaderMembers header others → members ≡ others
 one_header header = one_of _ (tcp_header_members header) (one_options (options_of header))
 
-one_segment : (segment : List ℕ) (members others : List Member) → AreTcpMembers segment members → AreTcpMembers segment others → members ≡ others
+one_segment : (segment : List ℕ) (members others : List Member) → AreTcpMembers segment members → AreTcpMembers segment others
+    → members ≡ others
 one_segment segment members others are also = one_of _ _ (one_header segment) members others are also
 
 one_read : (transport : TransportSlice) (members others : List Member)

@@ -43,7 +43,8 @@ items_more xs items i d before between after below is_first is_second =
     (flat_map_more items [] (take i xs) (get_or xs i d) ∙ ap (flat_map items) (sym (take_more xs i d below)))
 
 -- the names of flags and of another flag
-pub names_more : {X : Type 0} (flags : List X) (named : X → NamedFlag) (i : ℕ) (d : X) (before between after : List Token) → i < length flags
+pub names_more : {X : Type 0} (flags : List X) (named : X → NamedFlag) (i : ℕ) (d : X) (before between after : List Token)
+    → i < length flags
     → between ≡ with_items (map string (names_of_set named (take i flags))) before
     → after ≡ with_items (map string (name_if_set (named (get_or flags i d)))) between
     → after ≡ with_items (map string (names_of_set named (take (i + 1) flags))) before

@@ -14,7 +14,8 @@ use Rattle.capture_json.specs.JsonOptions.{AreOptionFields, AreOptionMembers, Ar
 use Rattle.capture_json.specs.Members.{Member, array_of}
 
 -- bytes that consist of one element consist of only this element
-one_element : (bytes : List ℕ) (element other : TcpOptionElement) → BeginsWith bytes element [] → BeginsWith bytes other [] → element ≡ other
+one_element : (bytes : List ℕ) (element other : TcpOptionElement) → BeginsWith bytes element [] → BeginsWith bytes other []
+    → element ≡ other
 one_element bytes element other begins again =
     ap (first_or element) (one_reading bytes (Ok element ∷ []) (Ok other ∷ []) ([], begins, inl refl) ([], again, inl refl))
   where
@@ -35,7 +36,8 @@ same_fields_by option fields others None first second =
     first.2 ∙ ap element_fields (one_element (raw_spelling option) first.0 second.0 first.1 second.1) ∙ sym second.2
 same_fields_by option fields others (Some error) first second = first ∙ sym second
 
-one_fields : (option : RawOption) (fields others : List Member) → AreOptionFields option fields → AreOptionFields option others → fields ≡ others
+one_fields : (option : RawOption) (fields others : List Member) → AreOptionFields option fields → AreOptionFields option others
+    → fields ≡ others
 one_fields option fields others = same_fields_by option fields others (element_refusal option)
 
 -- the object of an option is unique
@@ -75,7 +77,8 @@ same_objects bytes (Ok option ∷ items) [] others fault another is also = absur
 same_objects bytes (Ok option ∷ items) (value ∷ values) [] fault another is also = absurd also
 same_objects bytes (Ok option ∷ items) (value ∷ values) (other ∷ others) fault another is also =
     let rest : also.0 ≡ is.0 = append_cancel_left (raw_spelling option) also.0 is.0 (sym also.1.spelled ∙ is.1.spelled) in
-    let more = same_objects is.0 items values others fault another is.3 (subst (λ left. AreItemObjects left items others another) rest also.3) in
+    let more = same_objects is.0 items values others fault another is.3
+    (subst (λ left. AreItemObjects left items others another) rest also.3) in
     (cons_same value other values others (one_object option value other is.2 also.2) more.0, more.1)
 same_objects bytes (Err error ∷ items) [] [] fault another is also = (refl, is ∙ sym also)
 same_objects bytes (Err error ∷ items) [] (other ∷ others) fault another is also = absurd also
@@ -87,10 +90,12 @@ one_option_list bytes values others fault another are also =
     let first = items_in bytes values fault are in
     let second = items_in bytes others another also in
     let same = one_raw_reading bytes second.0 first.0 second.1 first.1 in
-    same_objects bytes first.0 values others fault another first.2 (subst (λ items. AreItemObjects bytes items others another) same second.2)
+    same_objects bytes first.0 values others fault another first.2
+    (subst (λ items. AreItemObjects bytes items others another) same second.2)
 
 -- the array of the options is unique, and so is the fault
-pub one_options : (bytes : List ℕ) (members others : List Member) → AreOptionMembers bytes members → AreOptionMembers bytes others → members ≡ others
+pub one_options : (bytes : List ℕ) (members others : List Member) → AreOptionMembers bytes members → AreOptionMembers bytes others
+    → members ≡ others
 one_options bytes members others is also =
     let same = one_option_list bytes is.0 also.0 is.1 also.1 is.2 also.2 in
     is.3 ∙ ap (λ values. (codes "options", array_of values) ∷ fault_members is.1) same.0

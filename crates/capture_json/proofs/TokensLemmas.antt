@@ -100,7 +100,8 @@ mapped member named [] = refl
 mapped member named (row ∷ rows) = ap (λ more. member (named row) ∷ more) (mapped member named rows)
 
 -- an object was begun, filled with the members, and ended
-pub table_put : {X Z : Type 0} (name : List ℕ) (member : Z → Member) (named : X → Z) (rows : List X) (before begun filled after : List Token)
+pub table_put : {X Z : Type 0} (name : List ℕ) (member : Z → Member) (named : X → Z) (rows : List X)
+    (before begun filled after : List Token)
     → begun ≡ object_begun name before → filled ≡ with_members (map (λ row. member (named row)) rows) begun → after ≡ object_ended filled
     → after ≡ put name (object_of (map member (map named rows))) before
 table_put name member named rows before begun filled after is_begun is_filled is_ended =
@@ -135,13 +136,15 @@ later_object members = ap (λ text. 44 ∷ text) (print-outline (object_of membe
 
 -- a comma precedes each row after a row
 later_rows : {X : Type 0} (members : X → List Member) (rows : List X)
-    → print_from true (flat_map (λ row. value_tokens (object_of (members row))) rows) ≡ flat_map (later_row (λ row. object_of (members row))) rows
+    → print_from true (flat_map (λ row. value_tokens (object_of (members row))) rows)
+    ≡ flat_map (later_row (λ row. object_of (members row))) rows
 unfolding print_from
 later_rows members [] = refl
 later_rows members (first ∷ more) =
     let rest = flat_map (λ row. value_tokens (object_of (members row))) more in
     print_from-append true (value_tokens (object_of (members first))) rest
-    ∙ ap (λ text. text ++ print_from (fold (λ _ one. ends one) true (value_tokens (object_of (members first)))) rest) (later_object (members first))
+    ∙ ap (λ text. text ++ print_from (fold (λ _ one. ends one) true (value_tokens (object_of (members first)))) rest)
+    (later_object (members first))
     ∙ ap (λ text. 44 ∷ compact_text (object_of (members first)) ++ text)
     (ap (λ later. print_from later rest) (ends_object true (members first)) ∙ later_rows members more)
 
@@ -228,7 +231,8 @@ text_by_rows {X} name members first more rows tokens =
     ∙ ap (λ all. start ++ (rows_text value rows ++ (print all ++ feed))) (sym (closed more (token.end_array ∷ []))))
 
 -- the text of a line in which two arrays are written row by row
-pub line_by_two_rows : {X Y : Type 0} (name next : List ℕ) (members : X → List Member) (next_members : Y → List Member) (first more : List Member)
+pub line_by_two_rows : {X Y : Type 0} (name next : List ℕ) (members : X → List Member) (next_members : Y → List Member)
+    (first more : List Member)
     (rows : List X) (others : List Y)
     → print (array_begun name (with_members first (token.begin_object ∷ [])))
     ++ (rows_text (λ row. object_of (members row)) rows

@@ -69,7 +69,8 @@ AreOptionObjects bytes [] None = bytes ≡ []
 AreOptionObjects bytes [] (Some error) = raw_fault bytes ≡ Some error
 AreOptionObjects bytes (value ∷ values) fault =
     ((0 < length bytes) × (slice_index bytes 0 ≡ 0) × (value ≡ kind_object 0) × (values ≡ []) × (fault ≡ None))
-    ⊎ ((option : RawOption) × (rest : List ℕ) × BeginsWithRaw bytes option rest × IsOptionObject option value × AreOptionObjects rest values fault)
+    ⊎ ((option : RawOption) × (rest : List ℕ) × BeginsWithRaw bytes option rest × IsOptionObject option value
+    × AreOptionObjects rest values fault)
 
 -- ---- members
 

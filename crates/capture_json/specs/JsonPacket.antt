@@ -326,7 +326,8 @@ type_member kind = (codes "type", string kind)
 
 -- These are the members of a packet: its type, its number, its time, its interface, the length of its frame, its tunnels, its content, its
 -- ARP packet, the fields of its fragment, its hop limit, and its verdict.
-abbrev pub ArePacketMembers : Times → ℕ → Option PacketInterface → Option PacketTime → Option PacketTime → Option FrameLen → Packet → List Member → Type 0
+abbrev pub ArePacketMembers : Times → ℕ → Option PacketInterface → Option PacketTime → Option PacketTime → Option FrameLen → Packet
+    → List Member → Type 0
 ArePacketMembers times number interface first time len packet members =
     (what : List Member) × AreContentMembers packet.content what
     × (members ≡ type_member (codes "packet") ∷ (codes "number", whole_number number) ∷ (time_members times first time
@@ -343,7 +344,8 @@ abbrev pub file_members : List ℕ → List Member
 file_members name = type_member (codes "file") ∷ (codes "file", string name) ∷ []
 
 -- this is the line of a packet
-abbrev pub IsJsonLine : Times → ℕ → Option PacketInterface → Option PacketTime → Option PacketTime → Option FrameLen → Packet → List ℕ → Type 0
+abbrev pub IsJsonLine : Times → ℕ → Option PacketInterface → Option PacketTime → Option PacketTime → Option FrameLen → Packet → List ℕ
+    → Type 0
 IsJsonLine times number interface first time len packet line =
     (members : List Member) × ArePacketMembers times number interface first time len packet members × (line ≡ json_line members)
 

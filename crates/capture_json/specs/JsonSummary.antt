@@ -126,7 +126,8 @@ abbrev pub totals_members : SummaryTables → List Member
 totals_members tables =
     (codes "packets", whole_number tables.packets) ∷ (codes "bytes", whole_number tables.bytes)
     ∷ (average_members (average_len tables.packets tables.bytes)
-    ++ (codes "conversations", whole_number (length tables.flows.rows)) ∷ span_members (record { packets = tables.packets; bytes = tables.bytes }) tables.span)
+    ++ (codes "conversations", whole_number (length tables.flows.rows))
+    ∷ span_members (record { packets = tables.packets; bytes = tables.bytes }) tables.span)
 
 -- the tables of link types, protocols, checksums and refusals
 abbrev pub rows_members : SummaryTables → List Member

@@ -42,7 +42,8 @@ unfolding nested_in headers_to_transport options_within ipv4_packet inner in_tun
 in_gre_with_key = refl
 
 -- a GRE packet in a packet
-gre_in_ipv4 : innermost false (ipv4_packet 65 0 4 (ipv4_packet 45 0 47 (0 ∷ 0 ∷ 8 ∷ 0 ∷ inner))) ≡ in_tunnels (outer_of 4 ∷ outer_of 47 ∷ [])
+gre_in_ipv4 : innermost false (ipv4_packet 65 0 4 (ipv4_packet 45 0 47 (0 ∷ 0 ∷ 8 ∷ 0 ∷ inner)))
+    ≡ in_tunnels (outer_of 4 ∷ outer_of 47 ∷ [])
 unfolding nested_in headers_to_transport options_within ipv4_packet inner in_tunnels outer_of
 gre_in_ipv4 = refl
 
@@ -52,7 +53,8 @@ unfolding nested_in headers_to_transport options_within ipv4_packet inner
 in_fragment = refl
 
 -- GRE of version 1 (RFC 2637), whose packet is not read
-in_gre_of_version_1 : innermost false (ipv4_packet 45 0 47 (0 ∷ 1 ∷ 8 ∷ 0 ∷ inner)) ≡ alone false (ipv4_packet 45 0 47 (0 ∷ 1 ∷ 8 ∷ 0 ∷ inner))
+in_gre_of_version_1 : innermost false (ipv4_packet 45 0 47 (0 ∷ 1 ∷ 8 ∷ 0 ∷ inner))
+    ≡ alone false (ipv4_packet 45 0 47 (0 ∷ 1 ∷ 8 ∷ 0 ∷ inner))
 unfolding nested_in headers_to_transport options_within ipv4_packet inner
 in_gre_of_version_1 = refl
 

@@ -36,7 +36,8 @@ opened_is is_cut packet found accepted carries stated =
     ap (λ refusal. opened_unless refusal is_cut packet) accepted
     ∙ ap (opened_after is_cut packet) (ap (λ missing. headers_of missing packet) (sym stated) ∙ carries.read)
     ∙ same_opened _ (outer_of found) _ found.is_fragment _ (is_transport_cut_off is_cut found) _ found.payload.now
-    (ap₂ (λ between number. record { addresses = between; protocol = number }) (sym carries.addresses) (ap (λ number. number.0) (sym carries.protocol)))
+    (ap₂ (λ between number. record { addresses = between; protocol = number }) (sym carries.addresses)
+    (ap (λ number. number.0) (sym carries.protocol)))
     (sym carries.is_fragment)
     (ap₂ (λ is_cut_off missing. is_cut_off || (is_cut && missing))
     (ap (λ missing. is_cut_off missing packet) (sym stated) ∙ sym carries.is_cut_off) (sym stated))
@@ -61,7 +62,8 @@ open_is is_cut packet inner found accepted carries stated some =
 -- ---- tunnels in tunnels
 
 -- a packet that contains no other packet, or that is in as many tunnels as are read
-pub stops : (left : ℕ) (is_cut : Bool) (packet : List ℕ) → (0 < left → opened is_cut packet ≡ None) → nested_in left is_cut packet ≡ alone is_cut packet
+pub stops : (left : ℕ) (is_cut : Bool) (packet : List ℕ) → (0 < left → opened is_cut packet ≡ None)
+    → nested_in left is_cut packet ≡ alone is_cut packet
 unfolding nested_in
 stops zero is_cut packet closed = refl
 stops (suc more) is_cut packet closed =
@@ -88,7 +90,8 @@ around outers nested = record { outers = outers ++ nested.outers; bytes = nested
 around_more : (outers : List Outer) (outer : Outer) (nested : Nested)
     → around outers (in_tunnel outer nested) ≡ around (outers ++ outer ∷ []) nested
 around_more outers outer nested =
-    ap (λ outers. record { outers = outers; bytes = nested.bytes; is_cut = nested.is_cut }) (sym (append_assoc outers (outer ∷ []) nested.outers))
+    ap (λ outers. record { outers = outers; bytes = nested.bytes; is_cut = nested.is_cut })
+    (sym (append_assoc outers (outer ∷ []) nested.outers))
 
 -- the tunnels that were opened, and the next tunnel
 pub continues : (whole : Nested) (before after : List Tunnel) (next : Tunnel) (is_cut : Bool) (packet : List ℕ) (tunnel : Opened)
@@ -99,7 +102,8 @@ continues whole before after next is_cut packet tunnel room after_is outer_is is
     let left : max_tunnels - length before ≡ suc (max_tunnels - length after) =
     omega (arith, ap length after_is, length-append before (next ∷ [])) in
     let outers : map by_value before ++ tunnel.outer ∷ [] ≡ map by_value after =
-    ap (λ outer. map by_value before ++ outer ∷ []) outer_is ∙ sym (map-append by_value before (next ∷ [])) ∙ ap (map by_value) (sym after_is) in
+    ap (λ outer. map by_value before ++ outer ∷ []) outer_is ∙ sym (map-append by_value before (next ∷ []))
+    ∙ ap (map by_value) (sym after_is) in
     so_far
     ∙ ap (λ left. around (map by_value before) (nested_in left is_cut packet)) left
     ∙ ap (around (map by_value before)) (one_more (max_tunnels - length after) is_cut packet tunnel is)

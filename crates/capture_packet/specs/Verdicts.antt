@@ -80,7 +80,8 @@ JudgesRead found verdict =
 -- verdict is `OtherProtocol`, even for a fragment, for a packet that is cut off, and for a packet that states no length.
 abbrev pub JudgesAccepted : TransportInIp → Verdict → Type 0
 JudgesAccepted found verdict =
-    MatchOption (proto_over (by_value found.addresses) found.protocol.0) (verdict ≡ untested OtherProtocol) (λ proto. JudgesRead found verdict)
+    MatchOption (proto_over (by_value found.addresses) found.protocol.0) (verdict ≡ untested OtherProtocol)
+    (λ proto. JudgesRead found verdict)
 
 -- Only the first bytes of a transport are present. Either the IP header counts more bytes than are present. Or the IP header states no
 -- length, so that the packet ends with its frame, and the capture cut the frame.

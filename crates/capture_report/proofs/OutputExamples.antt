@@ -12,7 +12,8 @@ abbrev line : List ℕ
 line = codes "capture_report: 2 packets read, 1 written\n"
 
 -- one of two packets is written, and the exit status is 0
-written : (others : Parts) → WritesSelection (options others) None (Some (header ++ udp_record ++ other_record)) (Some []) (Some []) (Some (header ++ udp_record)) (Some []) (Some line)
+written : (others : Parts) → WritesSelection (options others) None (Some (header ++ udp_record ++ other_record)) (Some []) (Some [])
+    (Some (header ++ udp_record)) (Some []) (Some line)
     (Ok 0)
 unfolding digits
 written others = record {

@@ -21,12 +21,14 @@ AreFollowedBy line AreLines all = (lines : List (List ℕ)) × AreLines lines ×
 
 -- the lines after another line was written
 one_more : (a b c : Option (List ℕ)) (First Second Both : Type 0) (AreLines : List (List ℕ) → Type 0) (line : List ℕ) → (Both → First)
-    → (Both → Second) → WritesSome a b First AreLines → WritesLines b c Second (line ∷ []) → WritesSome a c Both (AreFollowedBy line AreLines)
+    → (Both → Second) → WritesSome a b First AreLines → WritesLines b c Second (line ∷ [])
+    → WritesSome a c Both (AreFollowedBy line AreLines)
 one_more a b c First Second Both AreLines line to_first to_second (lines, are, first) second =
     (lines ++ line ∷ [], (lines, are, refl), writes-more a b c First Second Both lines (line ∷ []) to_first to_second first second)
 
 -- the lines after another line was written, which is equal to this line
-pub writes_more : (a b c : Option (List ℕ)) (First Second Both : Type 0) (AreLines : List (List ℕ) → Type 0) (line : List ℕ) → (Both → First)
+pub writes_more : (a b c : Option (List ℕ)) (First Second Both : Type 0) (AreLines : List (List ℕ) → Type 0) (line : List ℕ)
+    → (Both → First)
     → (Both → Second) → WritesSome a b First AreLines → WritesSome b c Second (IsOneLine (λ one. one ≡ line))
     → WritesSome a c Both (AreFollowedBy line AreLines)
 writes_more a b c First Second Both AreLines line to_first to_second first (more, (one, is, single), second) =

@@ -34,7 +34,8 @@ IsIdOf Identifies IdentifiesOpen (Standard stdin) id = Identifies (codes "/dev/s
 IsIdOf Identifies IdentifiesOpen (File file) id = IdentifiesOpen file id
 
 -- this is the result of comparing the numbers of the file from which an input is read with the numbers of the file with this name
-abbrev pub ComparesFiles : {F : Type 0} → (List ℕ → Option FileId → Type 0) → (F → Option FileId → Type 0) → Input F → List ℕ → Bool → Type 0
+abbrev pub ComparesFiles : {F : Type 0} → (List ℕ → Option FileId → Type 0) → (F → Option FileId → Type 0) → Input F → List ℕ → Bool
+    → Type 0
 ComparesFiles Identifies IdentifiesOpen input name result =
     (own : Option FileId) × (other : Option FileId) × IsIdOf Identifies IdentifiesOpen input own × Identifies name other
     × (result ≡ is_same_file own other)

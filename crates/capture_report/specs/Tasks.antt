@@ -10,11 +10,13 @@ abbrev pub writing_task : Option (Bor (List ℕ)) → Bool → Task
 writing_task (Some name) by_line = Write name
 writing_task None by_line = if by_line then ReportByLine else Report
 
--- What the options request. Nothing is read if no capture is named and standard input is a terminal. Each line of a report is written as soon
+-- What the options request. Nothing is read if no capture is named and standard input is a terminal. Each line of a report is written as
+-- soon
 -- as it is complete if this is requested, or if standard output is a terminal.
 abbrev pub task_of : Options → Bool → Bool → Task
 task_of options input_is_terminal output_is_terminal =
-    if (length options.files.items == 0) && input_is_terminal then Refuse else writing_task options.write (options.line_buffered || output_is_terminal)
+    if (length options.files.items == 0) && input_is_terminal then Refuse
+    else writing_task options.write (options.line_buffered || output_is_terminal)
 
 -- the first of these names, if there is one
 abbrev pub first_name : List (Bor (List ℕ)) → Option (Bor (List ℕ))

@@ -6,8 +6,10 @@ use Rattle.std.specs.Str.{bytes_eq}
 -- the words with which a filter of tcpdump can begin (pcap-filter(7))
 abbrev pub filter_words : List (List ℕ)
 filter_words =
-    codes "tcp" ∷ codes "udp" ∷ codes "icmp" ∷ codes "icmp6" ∷ codes "ip" ∷ codes "ip6" ∷ codes "arp" ∷ codes "ether" ∷ codes "host" ∷ codes "net"
-    ∷ codes "port" ∷ codes "portrange" ∷ codes "src" ∷ codes "dst" ∷ codes "not" ∷ codes "proto" ∷ codes "vlan" ∷ codes "less" ∷ codes "greater"
+    codes "tcp" ∷ codes "udp" ∷ codes "icmp" ∷ codes "icmp6" ∷ codes "ip" ∷ codes "ip6" ∷ codes "arp" ∷ codes "ether" ∷ codes "host"
+    ∷ codes "net"
+    ∷ codes "port" ∷ codes "portrange" ∷ codes "src" ∷ codes "dst" ∷ codes "not" ∷ codes "proto" ∷ codes "vlan" ∷ codes "less"
+    ∷ codes "greater"
     ∷ codes "sctp" ∷ []
 
 -- the code of a space

@@ -37,7 +37,8 @@ use Rattle.capture_summary.specs.declared.flow.Flow.{Flow}
 pub record CountsRead (packet : Packet) (info : CaptureInfo) (before after : SummaryTables) : Type 0 where
   pub flow : Option Flow
   pub is_flow : IsFlowOf packet.content flow
-  pub counts : CountsOne before (content_protocol packet.content) (verdict_kind packet.verdict) (verdict_refusal_kind packet.verdict) flow info after
+  pub counts : CountsOne before (content_protocol packet.content) (verdict_kind packet.verdict)
+      (verdict_refusal_kind packet.verdict) flow info after
 
 -- the packet was counted if it is chosen, and nothing was counted otherwise
 abbrev pub CountsChosen : Choice → Packet → CaptureInfo → SummaryTables → SummaryTables → Type 0
@@ -165,8 +166,10 @@ HasEnded count number before left still_left after ended = EndsAtItem number bef
 
 -- If the result is `None`, the next packet was read, and was counted if it is chosen. Otherwise no packet could be read, nothing was
 -- counted, and the result is the reason. `number` is the number of the next packet.
-abbrev pub ReportsNext : Choice → ℕ → CaptureReader → Option (List ℕ) → Option (List ℕ) → CaptureReader → SummaryTables → SummaryTables → Option (Result Reached CaptureError) → Type 0
-ReportsNext choice number reader left still_left still_reader before after None = ReportsOne choice reader left still_left still_reader before after
+abbrev pub ReportsNext : Choice → ℕ → CaptureReader → Option (List ℕ) → Option (List ℕ) → CaptureReader → SummaryTables → SummaryTables
+    → Option (Result Reached CaptureError) → Type 0
+ReportsNext choice number reader left still_left still_reader before after None =
+    ReportsOne choice reader left still_left still_reader before after
 ReportsNext choice number reader left still_left still_reader before after (Some ended) =
     (after ≡ before) × EndsAtItem number reader left still_left still_reader ended
 
@@ -178,7 +181,8 @@ EndsAfter reader packets ended bytes =
 -- These packets of a capture were read, and then the report of the capture ended with this result. `first` is the reader before these
 -- packets, and `last` is the reader at the end. `counted` is the number of packets that were counted in the captures before this capture.
 -- The bytes of the capture begin with these packets. If the bytes were read to their end, they contain no other packet.
-pub record ReadsUntil (first : CaptureReader) (left still_left : Option (List ℕ)) (packets : List FilePacket) (counted : ℕ) (last : CaptureReader)
+pub record ReadsUntil (first : CaptureReader) (left still_left : Option (List ℕ)) (packets : List FilePacket) (counted : ℕ)
+    (last : CaptureReader)
     (ended : Result Reached CaptureError) : Type 0 where
   pub middle : Option (List ℕ)
   pub before : CaptureReader

@@ -64,7 +64,8 @@ within_more None number now more most = tt
 within_more (Some limit) number now more most = grind (arith, more, most)
 
 -- the limit holds after a packet was counted
-pub within_step : (parts : Parts) (packet : FilePacket) (before after : SummaryTables) → is_full parts.limit (limited parts.lines before) ≡ false
+pub within_step : (parts : Parts) (packet : FilePacket) (before after : SummaryTables)
+    → is_full parts.limit (limited parts.lines before) ≡ false
     → CountsCaptured parts.choice packet before after → IsWithin parts.limit (limited parts.lines after)
 within_step parts packet before after more counted =
     within_more parts.limit (limited parts.lines before) (limited parts.lines after) more

@@ -13,7 +13,8 @@ use Rattle.capture_words.specs.Written.{AppendsOne}
 use Rattle.capture_request.specs.declared.parts.Parts.{Parts}
 
 -- the texts of some packets, followed by the text of one more packet, are the texts of all these packets
-pub text-push : (parts : Parts) (number now : ℕ) (first : Option PacketTime) (a b c : CaptureReader) (left middle still_left : Option (List ℕ))
+pub text-push : (parts : Parts) (number now : ℕ) (first : Option PacketTime) (a b c : CaptureReader)
+    (left middle still_left : Option (List ℕ))
     (packets : List FilePacket) (packet : FilePacket) (text line : List ℕ)
     → ReadsTexts parts number first a left middle b packets text → now ≡ number + length packets
     → ReadsOne max_packet_len b middle still_left c packet → IsPacketText parts now c (first_time first packets) packet line

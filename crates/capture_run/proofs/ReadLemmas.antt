@@ -31,7 +31,8 @@ reads_end before after left still_left buffer read next room is reads none = (
 )
 
 -- the report ended at the next item
-pub ended_at_item : (count number : ℕ) (before after : CaptureReader) (left still_left : Option (List ℕ)) (ended : Result Reached CaptureError)
+pub ended_at_item : (count number : ℕ) (before after : CaptureReader) (left still_left : Option (List ℕ))
+    (ended : Result Reached CaptureError)
     → EndsAtItem number before left still_left after ended → HasEnded count number before left still_left after ended
 ended_at_item count number before after left still_left (Ok End) ends = ends
 ended_at_item count number before after left still_left (Err (RecordCutOff its_number offset required len)) ends = ends
@@ -57,7 +58,8 @@ item_of number before after left still_left (Err (Header error)) ends is_end = a
 item_of number before after left still_left (Err (ReadHeader error)) ends is_end = absurd is_end
 
 -- if the input was read to its end, the packets that were read are all packets
-ends_after : (reader : CaptureReader) (left : Option (List ℕ)) (packets : List FilePacket) (next : NextPacket) (ended : Result Reached CaptureError)
+ends_after : (reader : CaptureReader) (left : Option (List ℕ)) (packets : List FilePacket) (next : NextPacket)
+    (ended : Result Reached CaptureError)
     → IfSome left (λ bytes. HasPackets max_packet_len reader bytes packets next) → IsAnsweredBy next (length packets + 1) ended
     → IfSome left (EndsAfter reader packets ended)
 ends_after reader None packets next ended has answered = tt
@@ -66,7 +68,8 @@ ends_after reader (Some bytes) packets next ended has answered = (next, has, ans
 -- if the input was read to its end, the packets that were read are all packets of the input
 pub all_packets : (reader before after : CaptureReader) (left middle still_left : Option (List ℕ)) (packets : List FilePacket)
     (ended : Result Reached CaptureError) → ReadsPackets max_packet_len reader left middle before packets
-    → EndsAtItem (length packets + 1) before middle still_left after ended → IsReadToEnd ended → IfSome left (EndsAfter reader packets ended)
+    → EndsAtItem (length packets + 1) before middle still_left after ended → IsReadToEnd ended
+    → IfSome left (EndsAfter reader packets ended)
 all_packets reader before after left middle still_left packets ended read ends is_end =
     let (next, is_item, answered) = item_of (length packets + 1) before after middle still_left ended ends is_end in
     ends_after reader left packets next ended (has_packets max_packet_len reader before left middle packets next read is_item) answered

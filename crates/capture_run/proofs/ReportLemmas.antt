@@ -34,7 +34,8 @@ counts_at_most choice before (packet ∷ packets) after counted =
     grind (arith, counted.1.counts, counts_at_most choice counted.0 packets after counted.2)
 
 -- in a truncated capture, the packets that end at or before the cut are counted
-pub counts-cut : (choice : Choice) (reader : CaptureReader) (left : Option (List ℕ)) (packets : List FilePacket) (ended : Result Reached CaptureError)
+pub counts-cut : (choice : Choice) (reader : CaptureReader) (left : Option (List ℕ)) (packets : List FilePacket)
+    (ended : Result Reached CaptureError)
     (before after : SummaryTables) → IfSome left (EndsAfter reader packets ended) → CountsEach choice before packets after
     → (whole : List ℕ) (all : List FilePacket) (next : NextPacket) (cut : ℕ) → left ≡ Some (take cut whole)
     → HasPackets max_packet_len reader whole all next

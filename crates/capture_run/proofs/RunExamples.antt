@@ -105,7 +105,13 @@ module _ (first second : List ℕ) (first_room : length (section ++ first) ≡ m
     first_room,
     record {
       block = blocks.Whole (block_header BigEndian section);
-      reads = record { bytes = section; consumed = refl; is_next = (section_is_block, refl, omega (arith, first_room), refl); is_last = tt };
+      reads = record {
+        bytes = section;
+        consumed =
+            refl;
+        is_next = (section_is_block, refl, omega (arith, first_room), refl);
+        is_last = tt;
+      };
       begins = refl;
       is_first = (begun, refl, record { byte_order = refl; interfaces = refl; offset = refl; texts = refl });
     },
@@ -116,7 +122,13 @@ module _ (first second : List ℕ) (first_room : length (section ++ first) ≡ m
   unfolding options_within
   describes = record {
     block = blocks.Whole (block_header LittleEndian interface);
-    reads = record { bytes = interface; consumed = refl; is_next = (interface_is_block, refl, omega (arith, second_room), refl); is_last = tt };
+    reads = record {
+      bytes = interface;
+      consumed =
+          refl;
+      is_next = (interface_is_block, refl, omega (arith, second_room), refl);
+      is_last = tt;
+    };
     is_step = (refl, (Ok None, (bodies.InterfaceDescription ethernet, (refl, refl), (refl, omega arith, refl, refl)), refl));
     texts = refl;
   }
@@ -151,7 +163,8 @@ module _ (first second : List ℕ) (first_room : length (section ++ first) ≡ m
   }
 
   -- the report of the file: no packet is counted, and the reader after the packets knows the interface
-  writes : (parts : Parts) → WritesCapture parts (Some (section ++ interface)) (Some []) (Ok End) empty_tables empty_tables (Pcapng described) []
+  writes : (parts : Parts) → WritesCapture parts (Some (section ++ interface)) (Some []) (Ok End) empty_tables empty_tables
+      (Pcapng described) []
   writes parts = record {
     reader = Pcapng begun;
     after_beginning = Some interface;
@@ -362,7 +375,8 @@ module _ (rest : List ℕ) (room : length (170 ∷ rest) ≡ max_packet_len) whe
   }
 
   -- the report of the capture: the packet is counted and has this line
-  writes_line : (parts : Parts) (line : List ℕ) → parts.choice ≡ every_packet → IsPacketText parts 1 (Classic after_packet) None in_file line
+  writes_line : (parts : Parts) (line : List ℕ) → parts.choice ≡ every_packet
+      → IsPacketText parts 1 (Classic after_packet) None in_file line
       → WritesCapture parts (Some (file_header ++ one_byte)) (Some []) (Ok End) empty_tables counted (Classic after_packet) (line ++ [])
   writes_line parts line every is_line = record {
     reader = Classic at_packet;
@@ -403,7 +417,8 @@ is_line = record {
 abbrev after_capture : Progress
 after_capture = record { summary = counted; status = Success; is_empty = false; capture = Some (Classic after_packet) }
 
-reported : (shown : Option (List ℕ)) → ReportsOpened lines_alone shown (Some (file_header ++ one_byte)) at_start after_capture (line ++ []) []
+reported : (shown : Option (List ℕ)) → ReportsOpened lines_alone shown (Some (file_header ++ one_byte)) at_start after_capture (line
+    ++ []) []
 reported shown =
     let (rest, room) = filled (170 ∷ []) max_packet_len (omega arith) in
     record {
@@ -424,7 +439,17 @@ line_of_packet : IsRun (λ name given. given ≡ Some (Some (file_header ++ one_
 line_of_packet = record {
   after = after_capture;
   captures = line;
-  reports = (after_capture, line, [], [], [], (line, (Some (Some (file_header ++ one_byte)), refl, reported _), refl), (refl, refl, refl), refl, refl);
+  reports = (
+    after_capture,
+    line,
+    [],
+    [],
+    [],
+    (line, (Some (Some (file_header ++ one_byte)), refl, reported _), refl),
+    (refl, refl, refl),
+    refl,
+    refl,
+  );
   whole = refl;
   is_final = refl;
 }

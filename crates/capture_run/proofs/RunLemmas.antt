@@ -43,7 +43,8 @@ reports-push Reads parts count place now (first ∷ names) name before between a
       first_lines,
       other_lines ++ more,
       is_first,
-      reports-push Reads parts count (place + 1) now names name next between after others headed other_lines more are_others (omega (arith, same))
+      reports-push Reads parts count (place + 1) now names name next between after others headed other_lines more are_others
+          (omega (arith, same))
           one,
       simp (whole, append_assoc) refl,
       simp (all_lines, append_assoc) refl,
@@ -70,10 +71,13 @@ left_out Reads parts count place name before a e AreWhole full = record {
 
 -- the report of a capture, with its heading
 pub headed : (Reads : List ℕ → Given → Type 0) (parts : Parts) (count place : ℕ) (name : List ℕ) (before : Progress)
-    (a b c e f : Option (List ℕ)) (result : Result CaptureReports WriteError) → is_full parts.limit (limited parts.lines before.summary) ≡ false
+    (a b c e f : Option (List ℕ)) (result : Result CaptureReports WriteError)
+    → is_full parts.limit (limited parts.lines before.summary) ≡ false
     → Appends a b (heading_of parts count place name)
-    → IfOk result (λ after. WritesReport b c e f (IsNone after.unwritten) (ReportsNamed Reads parts (line_name count name) name before (progress_of after)))
-    → IfOk result (λ after. WritesReport a c e f (IsNone after.unwritten) (ReportsHeaded Reads parts count place name before (progress_of after)))
+    → IfOk result (λ after. WritesReport b c e f (IsNone after.unwritten)
+    (ReportsNamed Reads parts (line_name count name) name before (progress_of after)))
+    → IfOk result (λ after. WritesReport a c e f (IsNone after.unwritten)
+    (ReportsHeaded Reads parts count place name before (progress_of after)))
 headed Reads parts count place name before a b c e f (Err error) more head one = tt
 headed Reads parts count place name before a b c e f (Ok after) more head one = record {
   text = heading_of parts count place name ++ one.text;
@@ -84,8 +88,10 @@ headed Reads parts count place name before a b c e f (Ok after) more head one = 
 }
 
 -- the report of one more capture was written after the reports of the captures before it
-pub one-more : {X : Type 0} (Reads : List ℕ → Given → Type 0) (parts others : Parts) (count : ℕ) (xs : List X) (named : X → List ℕ) (i : ℕ) (d : X)
-    (before between after : Progress) (a b c e f h : Option (List ℕ)) (Between After : Type 0) → i < length xs → others ≡ parts → (After → Between)
+pub one-more : {X : Type 0} (Reads : List ℕ → Given → Type 0) (parts others : Parts) (count : ℕ) (xs : List X) (named : X → List ℕ) (i : ℕ)
+    (d : X)
+    (before between after : Progress) (a b c e f h : Option (List ℕ)) (Between After : Type 0) → i < length xs → others ≡ parts
+    → (After → Between)
     → WritesReport a b e f Between (ReportsEach Reads parts count 0 (map named (take i xs)) before between)
     → WritesReport b c f h After (ReportsHeaded Reads others count i (named (get_or xs i d)) between after)
     → WritesReport a c e h After (ReportsEach Reads parts count 0 (map named (take (i + 1) xs)) before after)
@@ -161,7 +167,8 @@ tells_all Reads parts count names before after a b e f AreWhole each = record {
 -- no capture is named
 pub unnamed : {X : Type 0} (Reads : List ℕ → Given → Type 0) (parts : Parts) (names : List X) (named : X → List ℕ) (before : Progress)
     (a b e f : Option (List ℕ)) (result : Result CaptureReports WriteError) → (length names == 0) ≡ true
-    → IfOk result (λ after. WritesReport a b e f (IsNone after.unwritten) (ReportsHeaded Reads parts 0 0 (codes "-") before (progress_of after)))
+    → IfOk result (λ after. WritesReport a b e f (IsNone after.unwritten)
+    (ReportsHeaded Reads parts 0 0 (codes "-") before (progress_of after)))
     → IfOk result (λ after. WritesReport a b e f (IsNone after.unwritten)
     (ReportsEach Reads parts (length names) 0 (captures_of (map named names)) before (progress_of after)))
 unnamed Reads parts names named before a b e f (Err error) none one = tt
@@ -175,7 +182,8 @@ unnamed Reads parts [] named before a b e f (Ok after) none one = record {
 unnamed Reads parts (name ∷ names) named before a b e f (Ok after) none one = absurd (grind (arith, none))
 
 -- captures are named
-pub all_named : {X : Type 0} (names : List X) (named : X → List ℕ) → (length names == 0) ≡ false → map named names ≡ captures_of (map named names)
+pub all_named : {X : Type 0} (names : List X) (named : X → List ℕ) → (length names == 0) ≡ false
+    → map named names ≡ captures_of (map named names)
 all_named [] named some = absurd (grind (arith, some))
 all_named (name ∷ names) named some = refl
 
@@ -196,7 +204,8 @@ pub run_result : {X : Type 0} (Reads : List ℕ → Given → Type 0) (parts : P
     → WritesRun a c e f (IsRun Reads parts (map named names) status)
 run_result Reads parts names named start reports status a b c e f same tables first empty no_capture kept told each end final =
     let is_start : progress_of start ≡ at_start = at_first start tables first empty no_capture in
-    let all : ReportsEach Reads parts (length (map named names)) 0 (captures_of (map named names)) at_start (progress_of reports) each.text each.lines =
+    let all : ReportsEach Reads parts (length (map named names)) 0 (captures_of (map named names)) at_start
+    (progress_of reports) each.text each.lines =
     rw (same, is_start, sym (length-map names named)) at each.is_report in
     let whole : each.tells.written ≡ concat each.lines = each.tells.whole (rw told refl) in (
       each.text ++ (if reports.is_empty then [] else end_text parts (length names) reports.capture reports.summary),
@@ -218,4 +227,5 @@ pub run_failed : {X : Type 0} (Reads : List ℕ → Given → Type 0) (parts : P
     → start.summary ≡ empty_tables → start.status ≡ Success → start.is_empty ≡ true → start.capture ≡ None
     → TellsFirst Reads start.parts (length names) (captures_of (map named names)) (progress_of start) e f
     → TellsFirst Reads parts (length names) (captures_of (map named names)) at_start e f
-run_failed Reads parts names named start e f same tables first empty no_capture tells = rw (same, at_first start tables first empty no_capture) at tells
+run_failed Reads parts names named start e f same tables first empty no_capture tells =
+    rw (same, at_first start tables first empty no_capture) at tells

@@ -85,11 +85,13 @@ Gives {R} Misses Opens remaining name (Some left) = (input : R) × Opens name in
 -- The capture with this name was opened with the result `given`, and was reported. `text` is the text of its packets. `lines` contains the
 -- line of its error, if there is one. If the capture can't be opened, there is only the line of this error.
 abbrev pub ReportsGiven : Parts → Option (List ℕ) → List ℕ → Given → Progress → Progress → List ℕ → List (List ℕ) → Type 0
-ReportsGiven parts shown name None before after text lines = (after ≡ unopened before) × (text ≡ []) × IsOneLine (IsOpenErrorLine name) lines
+ReportsGiven parts shown name None before after text lines =
+    (after ≡ unopened before) × (text ≡ []) × IsOneLine (IsOpenErrorLine name) lines
 ReportsGiven parts shown name (Some left) before after text lines = ReportsOpened parts shown left before after text lines
 
 -- the capture with this name was opened and reported, or the error of opening it was reported
-abbrev pub ReportsNamed : (List ℕ → Given → Type 0) → Parts → Option (List ℕ) → List ℕ → Progress → Progress → List ℕ → List (List ℕ) → Type 0
+abbrev pub ReportsNamed : (List ℕ → Given → Type 0) → Parts → Option (List ℕ) → List ℕ → Progress → Progress → List ℕ → List (List ℕ)
+    → Type 0
 ReportsNamed Reads parts shown name before after text lines =
     (given : Given) × Reads name given × ReportsGiven parts shown name given before after text lines
 

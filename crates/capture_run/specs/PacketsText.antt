@@ -76,7 +76,8 @@ pub record WritesCapture (parts : Parts) (left still_left : Option (List ℕ)) (
 
 -- The report of a capture: the counts after it, the reader after its packets, and its text. If the beginning of the capture is refused or
 -- can't be read, nothing is counted, there is no reader, and the text is empty.
-abbrev pub IsCaptureReport : Parts → Option (List ℕ) → Option (List ℕ) → Result Reached CaptureError → SummaryTables → SummaryTables → Option CaptureReader → List ℕ → Type 0
+abbrev pub IsCaptureReport : Parts → Option (List ℕ) → Option (List ℕ) → Result Reached CaptureError → SummaryTables → SummaryTables
+    → Option CaptureReader → List ℕ → Type 0
 IsCaptureReport parts left still_left ended before after None text = RejectsBeginning left ended × (after ≡ before) × (text ≡ [])
 IsCaptureReport parts left still_left ended before after (Some last) text = WritesCapture parts left still_left ended before after last text
 

@@ -94,7 +94,8 @@ pub ends_refused : (options : Parts) (result : SelectionError) (state : Blocks) 
     → Appends held now_held front → ((front ≡ []) ⊎ (IsLongBlock state.reader bytes × IsFront front bytes))
     → IsNextBlock state.reader.section.byte_order bytes buffer (blocks.Refused error) → IsLastBlock (blocks.Refused error) still_left
     → IsWriteError result ⊎ StopsBy (blocks_of options) result state left still_left held now_held counts counts
-ends_refused options result state error left still_left held now_held counts bytes front buffer is has_room consumed appended is_front is_next last =
+ends_refused options result state error left still_left held now_held counts bytes front buffer is has_room consumed appended is_front
+    is_next last =
     subst (λ given. IsWriteError given ⊎ StopsBy (blocks_of options) given state left still_left held now_held counts counts) (sym is)
     (inr (record {
       then_left = still_left;
@@ -114,7 +115,8 @@ pub ends_unread : (options : Parts) (result : SelectionError) (state : Blocks) (
     → IsWriteError result ⊎ StopsBy (blocks_of options) result state left still_left held held counts counts
 ends_unread options result state error left middle still_left held counts first buffer room is has_room consumed reads =
     ends_refused options result state error left still_left held held counts (first ++ reads.bytes) [] room is has_room
-    (Consumes-trans left middle still_left first reads.bytes consumed reads.consumed) (Appends-nil held) (inl refl) reads.is_next reads.is_last
+    (Consumes-trans left middle still_left first reads.bytes consumed reads.consumed) (Appends-nil held)
+    (inl refl) reads.is_next reads.is_last
 
 -- ---- blocks for which the buffer has no room
 
@@ -145,13 +147,15 @@ outcome_by options buffer true packet offset header (Some packets.End) outcome i
 outcome_by options buffer true packet offset header None outcome is has = absurd (cc is)
 
 -- a block without room in the buffer is its own copy, unless it is refused
-pub long_copy : (options : Parts) (state after : PcapngReader) (first more buffer : List ℕ) (header : BlockHeader) (outcome : Option Outcome)
+pub long_copy : (options : Parts) (state after : PcapngReader) (first more buffer : List ℕ) (header : BlockHeader)
+    (outcome : Option Outcome)
     → ((place : ℕ) → slice_index first place < 256) → length first ≡ 12 → header ≡ block_header state.section.byte_order first
     → StepsTo options state buffer (blocks.TooLong header) after (Ok outcome) → block_copy (first ++ more) ≡ first ++ more
 long_copy options state after first more buffer header outcome fits has_len is steps =
     other_copy state.section.byte_order first more fits (omega (arith, has_len))
     (subst (λ given. is_description given.block_type ≡ false) is
-    (outcome_by options buffer (is_description header.block_type) (is_packet header.block_type) state.offset header steps.0 outcome steps.1.2 steps.2))
+    (outcome_by options buffer (is_description header.block_type)
+    (is_packet header.block_type) state.offset header steps.0 outcome steps.1.2 steps.2))
 
 -- for a block without room in the buffer nothing is written, or the block is not refused
 pub long_front : (options : Parts) (state after : PcapngReader) (first more buffer written : List ℕ) (header : BlockHeader)
@@ -163,7 +167,8 @@ long_front options state after first more buffer written header (Err error) outc
     inl (subst (λ given. written_by written given ≡ []) (sym excluded) refl)
 long_front options state after first more buffer written header (Ok given) outcome has_len is beyond steps excluded =
     inr (long_block_front state first more header has_len is beyond
-    (outcome_by options buffer (is_description header.block_type) (is_packet header.block_type) state.offset header steps.0 given steps.1.2 steps.2))
+    (outcome_by options buffer (is_description header.block_type)
+    (is_packet header.block_type) state.offset header steps.0 given steps.1.2 steps.2))
 
 -- what is written for two parts of the bytes of a block
 pub written_append : (outcome : Option Outcome) (first middle last : List ℕ)
@@ -174,7 +179,8 @@ written_append (Some Unlisted) first middle last = refl
 written_append (Some Excluded) first middle last = refl
 
 -- nothing is written for the first bytes of a block, or these bytes are written
-pub front_before : (outcome : Option Outcome) (first middle last : List ℕ) (Long : Type 0) → ((written_by (first ++ middle) outcome ≡ []) ⊎ Long)
+pub front_before : (outcome : Option Outcome) (first middle last : List ℕ) (Long : Type 0)
+    → ((written_by (first ++ middle) outcome ≡ []) ⊎ Long)
     → (written_by (first ++ middle) outcome ≡ []) ⊎ (Long × IsFront (written_by (first ++ middle) outcome) (first ++ (middle ++ last)))
 front_before outcome first middle last Long (inl none) = inl none
 front_before None first middle last Long (inr is) = inr (is, (last, grind (arith, append_assoc)))

@@ -21,7 +21,8 @@ never E refuted (inl none) = none
 never E refuted (inr some) = refuted some
 
 -- records from a capture that is the same
-pub passes_from : (options : Parts) (result : Result Reached SelectionError) (before start after : Records) (left still_left held now_held : Option (List ℕ))
+pub passes_from : (options : Parts) (result : Result Reached SelectionError) (before start after : Records)
+    (left still_left held now_held : Option (List ℕ))
     (counts now_counts : Counts)
     → before ≡ start → PassesTo (records_of options) result before after left still_left held now_held counts now_counts
     → PassesTo (records_of options) result start after left still_left held now_held counts now_counts
@@ -29,13 +30,15 @@ passes_from options result before start after left still_left held now_held coun
     subst (λ given. PassesTo (records_of options) result given after left still_left held now_held counts now_counts) same passes
 
 -- records after the header of a capture, up to a result
-pub selects_capture : (options : Parts) (result : Result Reached SelectionError) (left still_left held now_held : Option (List ℕ)) (counts now_counts : Counts)
+pub selects_capture : (options : Parts) (result : Result Reached SelectionError) (left still_left held now_held : Option (List ℕ))
+    (counts now_counts : Counts)
     → SelectsRecords options result left still_left held now_held counts now_counts
     → SelectsCapture options result left still_left held now_held counts now_counts
 selects_capture options (Ok done) left still_left held now_held counts now_counts selects = inl selects
 selects_capture options (Err (Write error)) left still_left held now_held counts now_counts selects = tt
 selects_capture options (Err (Capture (Read number offset error))) left still_left held now_held counts now_counts selects = inl selects
-selects_capture options (Err (Capture (RecordCutOff number offset required len))) left still_left held now_held counts now_counts selects = inl selects
+selects_capture options (Err (Capture (RecordCutOff number offset required len))) left still_left held now_held counts now_counts selects =
+    inl selects
 selects_capture options (Err (Capture (Refused error))) left still_left held now_held counts now_counts selects = inl selects
 selects_capture options (Err (Capture TooManyPackets)) left still_left held now_held counts now_counts selects = inl selects
 selects_capture options (Err (Capture (Header error))) left still_left held now_held counts now_counts selects =
@@ -46,17 +49,20 @@ selects_capture options (Err (Capture (ReadHeader error))) left still_left held 
 no_blocks : (options : Parts) (error : CaptureError) (left still_left held now_held : Option (List ℕ)) (counts now_counts : Counts)
     → ((start after : Blocks) → PassesFile options (Err (Capture error)) start after left still_left held now_held counts now_counts → ⊥)
     → SelectsBlocks options (Err (Capture error)) left still_left held now_held counts now_counts → ⊥
-no_blocks options error left still_left held now_held counts now_counts none (begins, inl (start, after, is_start, passes)) = none start after passes
+no_blocks options error left still_left held now_held counts now_counts none (begins, inl (start, after, is_start, passes)) =
+    none start after passes
 no_blocks options error left still_left held now_held counts now_counts none (begins, inr (full, nothing, is)) = absurd (cc is)
 
 -- blocks of a pcapng file, up to a result
-pub selects_blocks : (options : Parts) (result : Result Reached SelectionError) (left still_left held now_held : Option (List ℕ)) (counts now_counts : Counts)
+pub selects_blocks : (options : Parts) (result : Result Reached SelectionError) (left still_left held now_held : Option (List ℕ))
+    (counts now_counts : Counts)
     → SelectsBlocks options result left still_left held now_held counts now_counts
     → SelectsCapture options result left still_left held now_held counts now_counts
 selects_blocks options (Ok done) left still_left held now_held counts now_counts selects = inr selects
 selects_blocks options (Err (Write error)) left still_left held now_held counts now_counts selects = tt
 selects_blocks options (Err (Capture (Read number offset error))) left still_left held now_held counts now_counts selects = inr selects
-selects_blocks options (Err (Capture (RecordCutOff number offset required len))) left still_left held now_held counts now_counts selects = inr selects
+selects_blocks options (Err (Capture (RecordCutOff number offset required len))) left still_left held now_held counts now_counts selects =
+    inr selects
 selects_blocks options (Err (Capture (Refused error))) left still_left held now_held counts now_counts selects = inr selects
 selects_blocks options (Err (Capture TooManyPackets)) left still_left held now_held counts now_counts selects = inr selects
 selects_blocks options (Err (Capture (Header (Pcapng error)))) left still_left held now_held counts now_counts selects = selects

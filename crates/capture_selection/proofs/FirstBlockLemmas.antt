@@ -35,7 +35,8 @@ min_past offset len past = grind (arith, nat_tests)
 pub begun_past : (offset len after : ℕ) → 12 ≤ len → after ≡ min (offset + len) (2 ^ 64 - 1) → 1 ≤ after
 begun_past offset len after long is = grind (arith, nat_tests, is)
 
-step_past : (before after : PcapngReader) (buffer : List ℕ) (block : NextBlock) (next : Option NextPacket) → IsStep before buffer block after next
+step_past : (before after : PcapngReader) (buffer : List ℕ) (block : NextBlock) (next : Option NextPacket)
+    → IsStep before buffer block after next
     → 1 ≤ before.offset → 1 ≤ after.offset
 step_past before after buffer (blocks.Whole header) next is past =
     subst (λ offset. 1 ≤ offset) (sym is.0) (min_past before.offset header.total_len past)
@@ -53,7 +54,8 @@ parts_past options before after (part ∷ parts) are past =
 
 -- the blocks after the first one
 pub passes_past : (options : Parts) (before after : Blocks) (left still_left held now_held : Option (List ℕ)) (counts now_counts : Counts)
-    → Passes (blocks_of options) before after left still_left held now_held counts now_counts → 1 ≤ before.reader.offset → 1 ≤ after.reader.offset
+    → Passes (blocks_of options) before after left still_left held now_held counts now_counts → 1 ≤ before.reader.offset
+    → 1 ≤ after.reader.offset
 passes_past options before after left still_left held now_held counts now_counts passes past =
     parts_past options before after passes.parts passes.each past
 
@@ -66,7 +68,8 @@ too_long_by true packet offset header error is = cc is
 too_long_by false true offset header error is = absurd (cc is)
 too_long_by false false offset header error is = absurd (cc is)
 
-too_long_offset : (offset : ℕ) (header : BlockHeader) (error : PlacedPacketError) → Some (packets.Refused error) ≡ next_by_too_long offset header
+too_long_offset : (offset : ℕ) (header : BlockHeader) (error : PlacedPacketError)
+    → Some (packets.Refused error) ≡ next_by_too_long offset header
     → error.offset ≡ offset
 too_long_offset offset header error is = too_long_by (is_description header.block_type) (is_packet header.block_type) offset header error is
 
@@ -84,7 +87,8 @@ refused_offset before after buffer (blocks.Refused (TotalLength len)) error is =
 refused_offset before after buffer (blocks.Refused (SectionLength len)) error is = cc is.1
 refused_offset before after buffer (blocks.Refused (LastLength len last)) error is = cc is.1
 
-error_past : (options : Parts) (error : SelectionError) (state : Blocks) (left still_left held now_held : Option (List ℕ)) (counts now_counts : Counts)
+error_past : (options : Parts) (error : SelectionError) (state : Blocks) (left still_left held now_held : Option (List ℕ))
+    (counts now_counts : Counts)
     → 1 ≤ state.reader.offset → StopsBy (blocks_of options) error state left still_left held now_held counts now_counts
     → IsPastFirst {A = Unit {0}} (Err error)
 error_past options (Capture (RecordCutOff number offset required len)) state left still_left held now_held counts now_counts past stops =
@@ -105,12 +109,14 @@ write_error_past (Capture error) failed = absurd failed
 -- an error within a block that is not the first one
 pub stops_past : (options : Parts) (result : Result Reached SelectionError) (error : SelectionError) (state : Blocks)
     (left still_left held now_held : Option (List ℕ)) (counts now_counts : Counts)
-    → 1 ≤ state.reader.offset → (IsWriteError error ⊎ StopsBy (blocks_of options) error state left still_left held now_held counts now_counts)
+    → 1 ≤ state.reader.offset → (IsWriteError error
+    ⊎ StopsBy (blocks_of options) error state left still_left held now_held counts now_counts)
     → result ≡ Err error → IsPastFirst result
 stops_past options result error state left still_left held now_held counts now_counts past (inl failed) fails =
     subst (λ given. IsPastFirst given) (sym fails) (write_error_past error failed)
 stops_past options result error state left still_left held now_held counts now_counts past (inr stops) fails =
-    subst (λ given. IsPastFirst given) (sym fails) (error_past options error state left still_left held now_held counts now_counts past stops)
+    subst (λ given. IsPastFirst given) (sym fails)
+    (error_past options error state left still_left held now_held counts now_counts past stops)
 
 -- a file whose first block is not refused
 pub file_passes : (options : Parts) (result : Result Reached SelectionError) (start after : Blocks)
@@ -119,13 +125,18 @@ pub file_passes : (options : Parts) (result : Result Reached SelectionError) (st
     → PassesFile options result start after left still_left held now_held counts now_counts
 file_passes options (Ok done) start after left still_left held now_held counts now_counts passes past = (passes, past)
 file_passes options (Err (Write error)) start after left still_left held now_held counts now_counts passes past = (passes, past)
-file_passes options (Err (Capture (Header (Classic error)))) start after left still_left held now_held counts now_counts passes past = (passes, past)
-file_passes options (Err (Capture (Header (Pcapng error)))) start after left still_left held now_held counts now_counts (inl failed) past = absurd failed
+file_passes options (Err (Capture (Header (Classic error)))) start after left still_left held now_held counts now_counts passes past =
+    (passes, past)
+file_passes options (Err (Capture (Header (Pcapng error)))) start after left still_left held now_held counts now_counts (inl failed) past =
+    absurd failed
 file_passes options (Err (Capture (Header (Pcapng error)))) start after left still_left held now_held counts now_counts (inr ends) past =
     absurd (header_ends_none (block_selection options) (Pcapng error) start left still_left held now_held counts now_counts ends)
-file_passes options (Err (Capture (ReadHeader error))) start after left still_left held now_held counts now_counts passes past = (passes, past)
-file_passes options (Err (Capture (Read number offset error))) start after left still_left held now_held counts now_counts passes past = (passes, past)
-file_passes options (Err (Capture (RecordCutOff number offset required len))) start after left still_left held now_held counts now_counts passes past =
+file_passes options (Err (Capture (ReadHeader error))) start after left still_left held now_held counts now_counts passes past =
+    (passes, past)
+file_passes options (Err (Capture (Read number offset error))) start after left still_left held now_held counts now_counts passes past =
+    (passes, past)
+file_passes options (Err (Capture (RecordCutOff number offset required len))) start after left still_left held now_held counts now_counts
+    passes past =
     (passes, past)
 file_passes options (Err (Capture (Refused error))) start after left still_left held now_held counts now_counts passes past = (passes, past)
 file_passes options (Err (Capture TooManyPackets)) start after left still_left held now_held counts now_counts passes past = (passes, past)
@@ -138,14 +149,17 @@ first_error : (options : Parts) (error : SelectionError) (start after : Blocks) 
 first_error options (Write error) start after left still_left held now_held counts now_counts (inl failed) = (inl failed, tt)
 first_error options (Write error) start after left still_left held now_held counts now_counts (inr stops) = absurd stops.is_end.2
 first_error options (Capture error) start after left still_left held now_held counts now_counts (inl failed) = absurd failed
-first_error options (Capture (RecordCutOff number offset required len)) start after left still_left held now_held counts now_counts (inr stops) =
+first_error options (Capture (RecordCutOff number offset required len)) start after left still_left held now_held counts now_counts
+    (inr stops) =
     record { given = Capture (RecordCutOff number offset required len); is = refl; stops = stops }
 first_error options (Capture (Refused error)) start after left still_left held now_held counts now_counts (inr stops) =
     record { given = Capture (Refused error); is = refl; stops = stops }
 first_error options (Capture (Header error)) start after left still_left held now_held counts now_counts (inr stops) = absurd stops.is_end.2
-first_error options (Capture (ReadHeader error)) start after left still_left held now_held counts now_counts (inr stops) = absurd stops.is_end.2
+first_error options (Capture (ReadHeader error)) start after left still_left held now_held counts now_counts (inr stops) =
+    absurd stops.is_end.2
 first_error options (Capture (Read number offset error)) start after left still_left held now_held counts now_counts (inr stops) = (
-  passes_to_first_error {A = Unit {0}} (blocks_of options) (Err (Capture (Read number offset error))) _ start after left still_left held now_held
+  passes_to_first_error {A = Unit {0}} (blocks_of options)
+      (Err (Capture (Read number offset error))) _ start after left still_left held now_held
       counts now_counts (inr stops) refl,
   tt,
 )

@@ -70,7 +70,8 @@ leaves_at_read place (Capture TooManyPackets) then_left still_left is = absurd i
 leaves_at_read place (Write error) then_left still_left is = absurd is
 
 -- the result if an error came after the first bytes of a part, for which nothing was written
-pub stops_unwritten : (selection : Selection) (error : SelectionError) (state : selection.State) (left then_left still_left held : Option (List ℕ))
+pub stops_unwritten : (selection : Selection) (error : SelectionError) (state : selection.State)
+    (left then_left still_left held : Option (List ℕ))
     (counts : Counts) (bytes : List ℕ)
     → Consumes left then_left bytes → IsEndBy selection state bytes error → LeavesAt error then_left still_left
     → StopsBy (format_of selection) error state left still_left held held counts counts
@@ -85,7 +86,8 @@ stops_unwritten selection error state left then_left still_left held counts byte
 }
 
 -- the result if reading failed at the place of the next part
-pub any_to_read_error : (selection : Selection) (result : Result Bool SelectionError) (error : SelectionError) (before after : selection.State)
+pub any_to_read_error : (selection : Selection) (result : Result Bool SelectionError) (error : SelectionError)
+    (before after : selection.State)
     (left still_left held : Option (List ℕ)) (counts : Counts)
     → IsReadError (selection.place_of before) error → result ≡ Err error
     → PassesAny (format_of selection) result before after left still_left held held counts counts
@@ -95,12 +97,15 @@ any_to_read_error selection result error before after left still_left held count
     (ends_by_read selection error before [] is) (leaves_at_read (selection.place_of before) error left still_left is))) fails
 
 -- reading failed, after these bytes of a part, for which these bytes were written
-pub next_to_read_error : (selection : Selection) (result : Result (Option Outcome) SelectionError) (error : SelectionError) (before after : selection.State)
+pub next_to_read_error : (selection : Selection) (result : Result (Option Outcome) SelectionError) (error : SelectionError)
+    (before after : selection.State)
     (left then_left still_left held now_held : Option (List ℕ)) (counts : Counts) (bytes front : List ℕ)
     → IsReadError (selection.place_of before) error → Consumes left then_left bytes → Appends held now_held front
     → ((front ≡ []) ⊎ (selection.IsLong before bytes × IsFront front bytes)) → result ≡ Err error
-    → PassesNext (format_of selection) result before after left still_left held now_held counts (counts_after (format_of selection) counts result)
-next_to_read_error selection result error before after left then_left still_left held now_held counts bytes front is consumed appended is_front fails =
+    → PassesNext (format_of selection) result before after left still_left held now_held counts
+    (counts_after (format_of selection) counts result)
+next_to_read_error selection result error before after left then_left still_left held now_held counts bytes front is consumed appended
+    is_front fails =
     given_error (format_of selection) result error before after left still_left held now_held counts
     (next_to_error (format_of selection) result error before after left then_left still_left held now_held counts counts (ended bytes front)
     (refl, is_front, ends_by_read selection error before bytes is) consumed appended refl
@@ -112,7 +117,8 @@ abbrev pub cut_at : Place → ℕ → ℕ → SelectionError
 cut_at place required len = Capture (RecordCutOff place.number place.offset required len)
 
 -- the result if the capture ends within the part that begins with these bytes
-pub ends_cut : (selection : Selection) (error : SelectionError) (required len : ℕ) (state : selection.State) (left still_left held now_held : Option (List ℕ))
+pub ends_cut : (selection : Selection) (error : SelectionError) (required len : ℕ) (state : selection.State)
+    (left still_left held now_held : Option (List ℕ))
     (counts : Counts) (bytes front : List ℕ)
     → error ≡ cut_at (selection.place_of state) required len → Consumes left still_left bytes → Appends held now_held front
     → ((front ≡ []) ⊎ (selection.IsLong state bytes × IsFront front bytes)) → selection.IsCut state bytes required len → IsAtEnd still_left
@@ -130,13 +136,15 @@ ends_cut selection error required len state left still_left held now_held counts
     }))
 
 -- an error in the header of a capture ends no parts
-pub header_ends_none : (selection : Selection) (error : OpenError) (before : selection.State) (left still_left held now_held : Option (List ℕ))
+pub header_ends_none : (selection : Selection) (error : OpenError) (before : selection.State)
+    (left still_left held now_held : Option (List ℕ))
     (counts now_counts : Counts)
     → EndsBy (format_of selection) (Capture (Header error)) before left still_left held now_held counts now_counts → ⊥
 header_ends_none selection error before left still_left held now_held counts now_counts ends =
     ⊎_elim (λ stops. stops.is_end.2) (λ number. cc number.is) ends.stops
 
-pub header_read_ends_none : (selection : Selection) (error : Error) (before : selection.State) (left still_left held now_held : Option (List ℕ))
+pub header_read_ends_none : (selection : Selection) (error : Error) (before : selection.State)
+    (left still_left held now_held : Option (List ℕ))
     (counts now_counts : Counts)
     → EndsBy (format_of selection) (Capture (ReadHeader error)) before left still_left held now_held counts now_counts → ⊥
 header_read_ends_none selection error before left still_left held now_held counts now_counts ends =
@@ -145,8 +153,10 @@ header_read_ends_none selection error before left still_left held now_held count
 -- ---- parts for which the buffer has no room
 
 -- bytes were read, and nothing was written for them
-pub passes_skipped : (place : Place) (outcome : Option Outcome) (result : Result ℕ SelectionError) (first : List ℕ) (left still_left held : Option (List ℕ)) (count : ℕ)
-    → ((bytes : List ℕ) → written_by bytes outcome ≡ []) → IfOk result (λ len. Skips left still_left count len) → IfErr result (IsReadError place)
+pub passes_skipped : (place : Place) (outcome : Option Outcome) (result : Result ℕ SelectionError) (first : List ℕ)
+    (left still_left held : Option (List ℕ)) (count : ℕ)
+    → ((bytes : List ℕ) → written_by bytes outcome ≡ []) → IfOk result (λ len. Skips left still_left count len)
+    → IfErr result (IsReadError place)
     → PassesLong place outcome result first left still_left held held
 passes_skipped place outcome (Ok len) first left still_left held count none skips failed = record {
   bytes = skips.bytes;
@@ -178,8 +188,10 @@ rest_copied outcome first left still_left held then_held now_held len all append
 }
 
 -- the first bytes were written, and then the bytes after them were copied
-pub passes_copied : (place : Place) (outcome : Option Outcome) (result : Result ℕ SelectionError) (first : List ℕ) (left still_left held then_held now_held : Option (List ℕ))
-    → ((bytes : List ℕ) → written_by bytes outcome ≡ bytes) → Appends held then_held first → CopiesUpTo place result left still_left then_held now_held
+pub passes_copied : (place : Place) (outcome : Option Outcome) (result : Result ℕ SelectionError) (first : List ℕ)
+    (left still_left held then_held now_held : Option (List ℕ))
+    → ((bytes : List ℕ) → written_by bytes outcome ≡ bytes) → Appends held then_held first
+    → CopiesUpTo place result left still_left then_held now_held
     → PassesLong place outcome result first left still_left held now_held
 passes_copied place outcome (Ok len) first left still_left held then_held now_held all appended copies =
     rest_copied outcome first left still_left held then_held now_held len all appended copies
@@ -188,7 +200,8 @@ passes_copied place outcome (Err error) first left still_left held then_held now
     inr (is, len, then_left, rest_copied outcome first left then_left held then_held now_held len all appended copies)
 
 -- the result if writing the first bytes failed
-pub passes_long_to_write_error : (place : Place) (outcome : Option Outcome) (result : Result ℕ SelectionError) (error : SelectionError) (first : List ℕ)
+pub passes_long_to_write_error : (place : Place) (outcome : Option Outcome) (result : Result ℕ SelectionError) (error : SelectionError)
+    (first : List ℕ)
     (left still_left held now_held : Option (List ℕ))
     → IsWriteError error → result ≡ Err error → PassesLong place outcome result first left still_left held now_held
 passes_long_to_write_error place outcome result error first left still_left held now_held failed fails =
@@ -204,38 +217,48 @@ front_of (Some Unlisted) bytes Long (inr is) = inl refl
 front_of (Some Excluded) bytes Long (inr is) = inl refl
 
 -- a part for which the buffer has no room, up to an error
-pub next_long_to_error : (selection : Selection) (result : Result (Option Outcome) SelectionError) (error : SelectionError) (state after : selection.State)
+pub next_long_to_error : (selection : Selection) (result : Result (Option Outcome) SelectionError) (error : SelectionError)
+    (state after : selection.State)
     (left middle still_left held now_held : Option (List ℕ)) (counts : Counts) (outcome : Option Outcome) (first : List ℕ)
     → ((bytes : List ℕ) → (written_by (first ++ bytes) outcome ≡ []) ⊎ selection.IsLong state (first ++ bytes)) → Consumes left middle first
     → PassesLong (selection.place_of state) outcome (Err error) first middle still_left held now_held → result ≡ Err error
-    → PassesNext (format_of selection) result state after left still_left held now_held counts (counts_after (format_of selection) counts result)
-next_long_to_error selection result error state after left middle still_left held now_held counts outcome first long consumed (inl failed) fails =
+    → PassesNext (format_of selection) result state after left still_left held now_held counts
+    (counts_after (format_of selection) counts result)
+next_long_to_error selection result error state after left middle still_left held now_held counts outcome first long consumed
+    (inl failed) fails =
     given_error (format_of selection) result error state after left still_left held now_held counts
     (next_to_write_error (format_of selection) result error state after left still_left held now_held counts counts failed fails) fails
-next_long_to_error selection result error state after left middle still_left held now_held counts outcome first long consumed (inr (is, len, then_left, rest)) fails =
+next_long_to_error selection result error state after left middle still_left held now_held counts outcome first long consumed
+    (inr (is, len, then_left, rest)) fails =
     let bytes = first ++ rest.bytes in
     next_to_read_error selection result error state after left then_left still_left held now_held counts bytes (written_by bytes outcome) is
     (Consumes-trans left middle then_left first rest.bytes consumed rest.consumed) rest.appended
     (front_of outcome bytes (selection.IsLong state bytes) (long rest.bytes)) fails
 
 -- the same at a place that is the place of the part
-pub next_long_at : (selection : Selection) (result : Result (Option Outcome) SelectionError) (error : SelectionError) (state after : selection.State)
+pub next_long_at : (selection : Selection) (result : Result (Option Outcome) SelectionError) (error : SelectionError)
+    (state after : selection.State)
     (left middle still_left held now_held : Option (List ℕ)) (counts : Counts) (outcome : Option Outcome) (first : List ℕ) (place : Place)
-    → place ≡ selection.place_of state → ((bytes : List ℕ) → (written_by (first ++ bytes) outcome ≡ []) ⊎ selection.IsLong state (first ++ bytes))
+    → place ≡ selection.place_of state → ((bytes : List ℕ) → (written_by (first ++ bytes) outcome ≡ [])
+    ⊎ selection.IsLong state (first ++ bytes))
     → Consumes left middle first
     → PassesLong place outcome (Err error) first middle still_left held now_held → result ≡ Err error
-    → PassesNext (format_of selection) result state after left still_left held now_held counts (counts_after (format_of selection) counts result)
-next_long_at selection result error state after left middle still_left held now_held counts outcome first place is_place long consumed passes fails =
+    → PassesNext (format_of selection) result state after left still_left held now_held counts
+    (counts_after (format_of selection) counts result)
+next_long_at selection result error state after left middle still_left held now_held counts outcome first place is_place long consumed
+    passes fails =
     next_long_to_error selection result error state after left middle still_left held now_held counts outcome first long consumed
     (subst (λ given. PassesLong given outcome (Err error) first middle still_left held now_held) is_place passes) fails
 
 -- nothing is written if the test fails
-pub nothing_if : (is_written : Bool) (written bytes : List ℕ) → written ≡ (if is_written then bytes else []) → is_written ≡ false → written ≡ []
+pub nothing_if : (is_written : Bool) (written bytes : List ℕ) → written ≡ (if is_written then bytes else []) → is_written ≡ false
+    → written ≡ []
 nothing_if true written bytes is unwritten = absurd (cc unwritten)
 nothing_if false written bytes is unwritten = is
 
 -- a number of packets is within the limit after another packet, if the limit was not reached before
-pub within_one : (limit : Option ℕ) (written now_written : ℕ) → is_full limit written ≡ false → now_written ≤ written + 1 → IsWithin limit now_written
+pub within_one : (limit : Option ℕ) (written now_written : ℕ) → is_full limit written ≡ false → now_written ≤ written + 1
+    → IsWithin limit now_written
 within_one None written now_written below one = tt
 within_one (Some limit) written now_written below one = grind (arith, nat_tests)
 
@@ -247,7 +270,8 @@ same_below : (limit : Option ℕ) (counts now_counts : Counts) → is_full limit
 same_below limit counts now_counts below same = subst (λ given. is_full limit given.written ≡ false) (sym same) below
 
 -- an error in a part before which fewer packets were written than requested
-pub error_below : (selection : Selection) (limit : Option ℕ) (error : SelectionError) (state : selection.State) (left still_left held now_held : Option (List ℕ))
+pub error_below : (selection : Selection) (limit : Option ℕ) (error : SelectionError) (state : selection.State)
+    (left still_left held now_held : Option (List ℕ))
     (counts now_counts : Counts)
     → is_full limit counts.written ≡ false
     → (IsWriteError error ⊎ StopsBy (format_of selection) error state left still_left held now_held counts now_counts)
@@ -256,7 +280,8 @@ error_below selection limit (Write error) state left still_left held now_held co
 error_below selection limit (Capture error) state left still_left held now_held counts now_counts below (inl failed) = absurd failed
 error_below selection limit (Capture (Read number offset error)) state left still_left held now_held counts now_counts below (inr stops) =
     same_below limit counts now_counts below (uncounted selection _ state left still_left held now_held counts now_counts stops)
-error_below selection limit (Capture (RecordCutOff number offset required len)) state left still_left held now_held counts now_counts below (inr stops) =
+error_below selection limit (Capture (RecordCutOff number offset required len)) state left still_left held now_held counts now_counts below
+    (inr stops) =
     same_below limit counts now_counts below (uncounted selection _ state left still_left held now_held counts now_counts stops)
 error_below selection limit (Capture (Refused error)) state left still_left held now_held counts now_counts below (inr stops) =
     same_below limit counts now_counts below (uncounted selection _ state left still_left held now_held counts now_counts stops)
@@ -265,7 +290,8 @@ error_below selection limit (Capture (ReadHeader error)) state left still_left h
 error_below selection limit (Capture TooManyPackets) state left still_left held now_held counts now_counts below (inr stops) = tt
 
 -- the same of a result
-pub ends_below : (selection : Selection) (limit : Option ℕ) (result : Result Reached SelectionError) (error : SelectionError) (state : selection.State)
+pub ends_below : (selection : Selection) (limit : Option ℕ) (result : Result Reached SelectionError) (error : SelectionError)
+    (state : selection.State)
     (left still_left held now_held : Option (List ℕ)) (counts now_counts : Counts)
     → is_full limit counts.written ≡ false
     → (IsWriteError error ⊎ StopsBy (format_of selection) error state left still_left held now_held counts now_counts)
@@ -275,7 +301,8 @@ ends_below selection limit result error state left still_left held now_held coun
     (error_below selection limit error state left still_left held now_held counts now_counts below ends)
 
 -- there is no part after the last of fewer packets than requested
-pub none_below : (selection : Selection) (limit : Option ℕ) (is_any : Bool) (before after : selection.State) (left still_left held now_held : Option (List ℕ))
+pub none_below : (selection : Selection) (limit : Option ℕ) (is_any : Bool) (before after : selection.State)
+    (left still_left held now_held : Option (List ℕ))
     (counts now_counts : Counts)
     → is_full limit counts.written ≡ false
     → PassesAny (format_of selection) (Ok is_any) before after left still_left held now_held counts now_counts → is_any ≡ false

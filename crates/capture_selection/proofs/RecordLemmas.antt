@@ -17,19 +17,27 @@ use Rattle.capture_selection.specs.Records.{IsLongRecord, IsRecordPart}
 use Rattle.capture_selection.specs.declared.outcome.Outcome.{Outcome}
 
 -- the packet of a record with room in the buffer
-pub record_packet_kept : (room : ℕ) (capture : CaptureHeader) (first captured : List ℕ) → length first ≡ 16 → number_at capture.byte_order first 8 ≤ room
+pub record_packet_kept : (room : ℕ) (capture : CaptureHeader) (first captured : List ℕ) → length first ≡ 16
+    → number_at capture.byte_order first 8 ≤ room
     → record_packet room capture (first ++ captured) ≡ kept (packet_of_record capture (record_header capture.byte_order first)) captured
 record_packet_kept room capture first captured has_len within =
-    grind (arith, nat_tests, record_header_front capture.byte_order first captured (omega (arith, has_len)), drop_at first captured 16 has_len)
+    grind (
+      arith,
+      nat_tests,
+      record_header_front capture.byte_order first captured (omega (arith, has_len)),
+      drop_at first captured 16 has_len,
+    )
 
 -- the packet of a record without room in the buffer
-pub record_packet_long : (room : ℕ) (capture : CaptureHeader) (first captured : List ℕ) → length first ≡ 16 → room < number_at capture.byte_order first 8
+pub record_packet_long : (room : ℕ) (capture : CaptureHeader) (first captured : List ℕ) → length first ≡ 16
+    → room < number_at capture.byte_order first 8
     → record_packet room capture (first ++ captured) ≡ too_long (long_record capture (record_header capture.byte_order first))
 record_packet_long room capture first captured has_len beyond =
     grind (arith, nat_tests, record_header_front capture.byte_order first captured (omega (arith, has_len)))
 
 -- a record with this packet
-pub record_part : (options : Parts) (capture : CaptureHeader) (first captured : List ℕ) (file_packet : FilePacket) (outcome : Option Outcome)
+pub record_part : (options : Parts) (capture : CaptureHeader) (first captured : List ℕ) (file_packet : FilePacket)
+    (outcome : Option Outcome)
     → length first ≡ 16 → length captured ≡ number_at capture.byte_order first 8
     → record_packet max_packet_len capture (first ++ captured) ≡ file_packet → HasOutcome options (IsPacketOf file_packet) outcome
     → IsRecordPart options capture (first ++ captured) outcome
@@ -39,7 +47,8 @@ record_part options capture first captured file_packet outcome has_len counted i
 }
 
 -- the captured length is in the header of a record
-pub long_record_front : (capture : CaptureHeader) (first captured : List ℕ) → length first ≡ 16 → max_packet_len < number_at capture.byte_order first 8
+pub long_record_front : (capture : CaptureHeader) (first captured : List ℕ) → length first ≡ 16
+    → max_packet_len < number_at capture.byte_order first 8
     → IsLongRecord capture (first ++ captured)
 long_record_front capture first captured has_len beyond =
     subst (λ n. max_packet_len < n) (sym (number_at_front capture.byte_order first captured 8 (omega (arith, has_len)))) beyond

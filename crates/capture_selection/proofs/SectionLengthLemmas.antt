@@ -20,7 +20,8 @@ section_copy block written is same =
     ∙ sym (ap (λ given. copy_if given block) is)
 
 -- a section header block contains the length of its section
-pub section_len : (section : ByteOrder) (bytes block : List ℕ) → IsBlock section bytes → block ≡ bytes → is_section_header block ≡ true → 24 ≤ length block
+pub section_len : (section : ByteOrder) (bytes block : List ℕ) → IsBlock section bytes → block ≡ bytes → is_section_header block ≡ true
+    → 24 ≤ length block
 section_len section bytes block is same begins =
     let begins_all : is_section_header bytes ≡ true = ap is_section_header (sym same) ∙ begins in
     let fields = is.has_fields in

@@ -81,7 +81,14 @@ lacks_port (inr any) = empty_places (HasPort rejected.content) 15 any
 other_part : (others : Parts) → IsRecordPart (options others) capture other_record (Some Excluded)
 other_part others = record {
   is_record = refl;
-  has_outcome = record { packet = rejected; is_packet = is_rejected; given = Excluded; is_outcome = λ chosen. lacks_port chosen.content.ports; has = refl };
+  has_outcome = record {
+    packet =
+        rejected;
+    is_packet = is_rejected;
+    given = Excluded;
+    is_outcome = λ chosen. lacks_port chosen.content.ports;
+    has = refl;
+  };
 }
 
 -- ---- the selection
@@ -91,7 +98,8 @@ abbrev pub counts : ℕ → ℕ → ℕ → Counts
 counts read chosen written = record { read = read; chosen = chosen; written = written }
 
 -- the header and the record of the UDP packet are written as they were read
-pub selection : (others : Parts) → SelectsCapture (options others) (Ok End) (Some (header ++ udp_record ++ other_record)) (Some []) (Some []) (Some (header ++ udp_record))
+pub selection : (others : Parts) → SelectsCapture (options others) (Ok End) (Some (header ++ udp_record ++ other_record)) (Some []) (Some
+    []) (Some (header ++ udp_record))
     (counts 0 0 0) (counts 2 1 1)
 selection others = inl (record {
   header = capture;

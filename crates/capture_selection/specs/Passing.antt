@@ -107,7 +107,8 @@ format_of selection = record {
   Counts = Counts;
   Error = SelectionError;
   counted = counted;
-  IsPart = λ before part after. selection.IsPart before part.read part.outcome after × (part.written ≡ written_by (selection.copy_of part.read) part.outcome);
+  IsPart = λ before part after. selection.IsPart before part.read part.outcome after
+      × (part.written ≡ written_by (selection.copy_of part.read) part.outcome);
   IsEnd = IsEnd selection;
   LeavesAt = LeavesAt;
   IsWriteError = IsWriteError;
@@ -141,7 +142,9 @@ pub record PassesRest (outcome : Option Outcome) (first : List ℕ) (left still_
 
 -- The result is the number of bytes that were read after the first bytes of a part. If reading failed in the part at this place, an unknown
 -- number of bytes was read and written before. If writing failed, nothing is stated.
-abbrev pub PassesLong : Place → Option Outcome → Result ℕ SelectionError → List ℕ → Option (List ℕ) → Option (List ℕ) → Option (List ℕ) → Option (List ℕ) → Type 0
+abbrev pub PassesLong : Place → Option Outcome → Result ℕ SelectionError → List ℕ → Option (List ℕ) → Option (List ℕ) → Option (List ℕ)
+    → Option (List ℕ) → Type 0
 PassesLong place outcome (Ok len) first left still_left held now_held = PassesRest outcome first left still_left held now_held len
 PassesLong place outcome (Err error) first left still_left held now_held =
-    IsWriteError error ⊎ (IsReadError place error × (len : ℕ) × (then_left : Option (List ℕ)) × PassesRest outcome first left then_left held now_held len)
+    IsWriteError error ⊎ (IsReadError place error × (len : ℕ) × (then_left : Option (List ℕ))
+    × PassesRest outcome first left then_left held now_held len)

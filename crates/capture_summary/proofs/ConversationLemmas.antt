@@ -89,7 +89,8 @@ protocol_alike a b e = (and_parts ((protocol_eq.ghosts).eq a.protocol b.protocol
 turned_alike : (a b : Flow) → is_same_flow a b ≡ true → is_turned a ≡ is_turned b
 turned_alike a b e =
     let parts = straight a b e in
-    ap is_gt (alike same order address_equal.laws-law address_order.total-law address_order.matches_eq-law a.source a.destination b.source b.destination parts.0 parts.1)
+    ap is_gt (alike same order address_equal.laws-law address_order.total-law address_order.matches_eq-law a.source a.destination b.source
+    b.destination parts.0 parts.1)
 
 pub one_conversation_is : (a b : Flow) → is_one_conversation a b ≡ is_same_flow (canonical a) (canonical b)
 one_conversation_is a b = by (is_turned a) (is_turned b) refl refl
@@ -126,7 +127,8 @@ pub one_conversation_itself : (a : Flow) → is_one_conversation a a ≡ true
 one_conversation_itself a = one_conversation_is a a ∙ laws-law.refl (canonical a)
 
 -- a packet goes forward exactly if it goes back after source and destination are exchanged, if the flow has two directions
-pub exchanged_back : (flow packet : Flow) → is_same_flow flow (reversed flow) ≡ false → goes_back flow (reversed packet) ≡ goes_forward flow packet
+pub exchanged_back : (flow packet : Flow) → is_same_flow flow (reversed flow) ≡ false
+    → goes_back flow (reversed packet) ≡ goes_forward flow packet
 exchanged_back flow packet two = by (is_same_flow packet flow) (is_same_flow (reversed packet) flow) refl refl
   where
     by : (s t : Bool) → is_same_flow packet flow ≡ s → is_same_flow (reversed packet) flow ≡ t → (not t && s) ≡ s

@@ -36,7 +36,8 @@ span_push times None = ap span_of (append-nil times)
 span_push times (Some time) = fold_push (λ span each. with_time span (Some each)) None times time
 
 -- the span of the packets of a conversation and of another packet, which belongs to the conversation or not
-span_more : (flow : Flow) (packets : List Seen) (packet : Seen) (passes : Bool) → has_flow (λ each. is_one_conversation each flow) packet.0 ≡ passes
+span_more : (flow : Flow) (packets : List Seen) (packet : Seen) (passes : Bool)
+    → has_flow (λ each. is_one_conversation each flow) packet.0 ≡ passes
     → span_of (times_in flow (packets ++ packet ∷ []))
     ≡ cond passes (with_time (span_of (times_in flow packets)) packet.2) (span_of (times_in flow packets))
 span_more flow packets packet passes is =
@@ -58,7 +59,8 @@ neither true t e = absurd (true≢false e)
 neither false t e = (refl, e)
 
 -- the counts of a row after a packet of another conversation
-row_other : (packets : List Seen) (row : ConversationCount) (flow : Flow) (len : ℕ) (time : Option PacketTime) → is_one_conversation flow row.flow ≡ false
+row_other : (packets : List Seen) (row : ConversationCount) (flow : Flow) (len : ℕ) (time : Option PacketTime)
+    → is_one_conversation flow row.flow ≡ false
     → CountsBothDirections packets row → CountsBothDirections (packets ++ (Some flow, len, time) ∷ []) row
 row_other packets row flow len time apart counts =
     let no = neither (is_same_flow flow row.flow) (is_same_flow (reversed flow) row.flow) apart in
@@ -78,7 +80,8 @@ row_none packets row len time counts = record {
 }
 
 -- the counts of a row after a packet of its conversation
-row_one : (packets : List Seen) (row : ConversationCount) (flow : Flow) (len : ℕ) (time : Option PacketTime) → is_one_conversation flow row.flow ≡ true
+row_one : (packets : List Seen) (row : ConversationCount) (flow : Flow) (len : ℕ) (time : Option PacketTime)
+    → is_one_conversation flow row.flow ≡ true
     → CountsBothDirections packets row → CountsBothDirections (packets ++ (Some flow, len, time) ∷ []) (row_counted flow len time row)
 row_one packets row flow len time one counts = by (is_same_flow flow row.flow) (is_same_flow (reversed flow) row.flow) refl refl one
   where
@@ -90,7 +93,8 @@ row_one packets row flow len time one counts = by (is_same_flow flow row.flow) (
 
     by : (s t : Bool) → is_same_flow flow row.flow ≡ s → is_same_flow (reversed flow) row.flow ≡ t → (s || t) ≡ true
         → CountsBothDirections (packets ++ (Some flow, len, time) ∷ [])
-        (cond s (record row { forward = counted len row.forward; span = with_time row.span time }) (record row { reverse = counted len row.reverse; span = with_time row.span time }))
+        (cond s (record row { forward = counted len row.forward; span = with_time row.span time })
+        (record row { reverse = counted len row.reverse; span = with_time row.span time }))
     by true t p q e = record {
       forward = ap (counted len) counts.forward ∙ sym (count_more (goes_forward row.flow) packets (Some flow, len, time) true p);
       reverse = counts.reverse ∙ sym (count_more (goes_back row.flow) packets (Some flow, len, time) false (back true p));
@@ -98,7 +102,8 @@ row_one packets row flow len time one counts = by (is_same_flow flow row.flow) (
     }
     by false true p q e = record {
       forward = counts.forward ∙ sym (count_more (goes_forward row.flow) packets (Some flow, len, time) false p);
-      reverse = ap (counted len) counts.reverse ∙ sym (count_more (goes_back row.flow) packets (Some flow, len, time) true (back false p ∙ q));
+      reverse = ap (counted len) counts.reverse
+          ∙ sym (count_more (goes_back row.flow) packets (Some flow, len, time) true (back false p ∙ q));
       span = more_span;
     }
     by false false p q e = absurd (true≢false (sym e))
@@ -106,7 +111,8 @@ row_one packets row flow len time one counts = by (is_same_flow flow row.flow) (
 row_flow : (flow : Flow) (len : ℕ) (time : Option PacketTime) (row : ConversationCount) → (row_counted flow len time row).flow ≡ row.flow
 row_flow flow len time row = by (is_same_flow flow row.flow)
   where
-    by : (s : Bool) → (cond s (record row { forward = counted len row.forward; span = with_time row.span time }) (record row { reverse = counted len row.reverse; span = with_time row.span time })).flow ≡ row.flow
+    by : (s : Bool) → (cond s (record row { forward = counted len row.forward; span = with_time row.span time })
+        (record row { reverse = counted len row.reverse; span = with_time row.span time })).flow ≡ row.flow
     by true = refl
     by false = refl
 
@@ -154,7 +160,8 @@ module _ (packets : List Seen) (table : FlowTable) (is : IsTableOf packets table
   found = position-Some (λ each. is_one_conversation flow each.flow) table.rows place (new_row flow) at
 
   -- each other row belongs to another conversation
-  others_apart : (k : ℕ) → k < length table.rows → (k ≡ place → ⊥) → is_one_conversation flow (get_or table.rows k (new_row flow)).flow ≡ false
+  others_apart : (k : ℕ) → k < length table.rows → (k ≡ place → ⊥)
+      → is_one_conversation flow (get_or table.rows k (new_row flow)).flow ≡ false
   others_apart k within other = by (cases_lt k place)
     where
       by : (k < place) ⊎ (place ≤ k) → is_one_conversation flow (get_or table.rows k (new_row flow)).flow ≡ false
@@ -218,7 +225,8 @@ module _ (packets : List Seen) (table : FlowTable) (is : IsTableOf packets table
     (none : place_of flow table.rows ≡ None) where
   counts_all : All (CountsBothDirections (packets ++ (Some flow, len, time) ∷ [])) table.rows
   counts_all k d within =
-      row_other packets (get_or table.rows k d) flow len time (apart_None flow table.rows k d none within) (is.conversations.counts k d within)
+      row_other packets (get_or table.rows k d) flow len time (apart_None flow table.rows k d none within)
+      (is.conversations.counts k d within)
 
   abbrev first : ConversationCount
   first = row_counted flow len time (new_row flow)
@@ -231,12 +239,14 @@ module _ (packets : List Seen) (table : FlowTable) (is : IsTableOf packets table
   cond_None true place e = absurd (true≢false (ap is_some e))
   cond_None false place e = refl
 
-  table_first : length table.rows < max_conversations → IsTableOf (packets ++ (Some flow, len, time) ∷ []) (record table { rows = table.rows ++ first ∷ [] })
+  table_first : length table.rows < max_conversations
+      → IsTableOf (packets ++ (Some flow, len, time) ∷ []) (record table { rows = table.rows ++ first ∷ [] })
   table_first room = record {
     conversations = record {
       counts = All-push (CountsBothDirections (packets ++ (Some flow, len, time) ∷ [])) table.rows first counts_all
           (row_one packets (new_row flow) flow len time (one_conversation_itself flow) (is.absent room flow none));
-      apart = all_pairs_push (λ one later. is_one_conversation one.flow later.flow ≡ false) table.rows first is.conversations.apart (λ k d within.
+      apart = all_pairs_push (λ one later. is_one_conversation one.flow later.flow ≡ false) table.rows first is.conversations.apart
+          (λ k d within.
           ap (is_one_conversation (get_or table.rows k d).flow) (row_flow flow len time (new_row flow))
           ∙ one_conversation_symm (get_or table.rows k d).flow flow
           ∙ apart_None flow table.rows k d none within);
@@ -273,12 +283,14 @@ table_flow : (packets : List Seen) (table : FlowTable) (flow : Flow) (len : ℕ)
 table_flow packets table flow len time is = by (place_of flow table.rows) refl
   where
     by_room : (b : Bool) → nat_lt (length table.rows) max_conversations ≡ b → place_of flow table.rows ≡ None
-        → IsTableOf (packets ++ (Some flow, len, time) ∷ []) (cond b (record table { rows = table.rows ++ row_counted flow len time (new_row flow) ∷ [] })
+        → IsTableOf (packets ++ (Some flow, len, time) ∷ [])
+        (cond b (record table { rows = table.rows ++ row_counted flow len time (new_row flow) ∷ [] })
         (record table { without_room = counted len table.without_room }))
     by_room true room none = table_first packets table is flow len time none (ltb-true _ _ room)
     by_room false full none = table_full packets table is flow len time none (ltb-false _ _ full)
 
-    by : (p : Option ℕ) → place_of flow table.rows ≡ p → IsTableOf (packets ++ (Some flow, len, time) ∷ []) (flow_counted flow len time table p)
+    by : (p : Option ℕ) → place_of flow table.rows ≡ p
+        → IsTableOf (packets ++ (Some flow, len, time) ∷ []) (flow_counted flow len time table p)
     by (Some place) at = table_one packets table is flow len place time at
     by None none = by_room (nat_lt (length table.rows) max_conversations) refl none
 
@@ -291,13 +303,18 @@ tables : (before packets : List Seen) (table : FlowTable) → IsTableOf before t
     → IsTableOf (before ++ packets) (fold (λ so_far packet. table_counted packet.0 packet.1 packet.2 so_far) table packets)
 tables before [] table is = subst (λ all. IsTableOf all table) (sym (append-nil before)) is
 tables before (packet ∷ packets) table is =
-    subst (λ all. IsTableOf all (fold (λ so_far each. table_counted each.0 each.1 each.2 so_far) (table_counted packet.0 packet.1 packet.2 table) packets))
+    subst (λ all. IsTableOf all (fold (λ so_far each. table_counted each.0 each.1 each.2 so_far)
+    (table_counted packet.0 packet.1 packet.2 table) packets))
     (append_assoc before (packet ∷ []) packets)
     (tables (before ++ packet ∷ []) packets (table_counted packet.0 packet.1 packet.2 table) (table_more before table packet is))
 
 of_no_packet : IsTableOf [] empty_table
 of_no_packet = record {
-  conversations = record { counts = λ k d within. absurd (omega (arith, within)); apart = λ i j d before within. absurd (omega (arith, within)) };
+  conversations = record {
+    counts =
+        λ k d within. absurd (omega (arith, within));
+    apart = λ i j d before within. absurd (omega (arith, within));
+  };
   absent = λ room flow none. record { forward = refl; reverse = refl; span = refl };
 }
 

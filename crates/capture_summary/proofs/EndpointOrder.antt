@@ -9,7 +9,8 @@ use Rattle.capture_summary.specs.declared.endpoint_count.EndpointCount.{Endpoint
 order_total : IsTotalOrder endpoint_order
 order_total =
     then_total (on_total (λ (row : EndpointCount). row.count.packets) (back_total nat_cmp_total))
-    (then_total (on_total (λ (row : EndpointCount). row.count.bytes) (back_total nat_cmp_total)) (on_total (λ (row : EndpointCount). row.address) address_laws.total-law))
+    (then_total (on_total (λ (row : EndpointCount). row.count.bytes) (back_total nat_cmp_total))
+    (on_total (λ (row : EndpointCount). row.address) address_laws.total-law))
 
 pub before_weak : IsStrictWeakOrder is_before
 before_weak = ranks_by order_total (λ row. row)

@@ -34,16 +34,19 @@ none_pass : {K X : Type 0} (test : K → Bool) (rows : List (K × X)) → NonePa
 none_pass test [] none = refl
 none_pass test (row ∷ rows) none = cond-false _ _ _ none.0 ∙ none_pass test rows none.1
 
-pub only_row : {K X : Type 0} (same : K → K → Bool) → IsEquivalence same → ((x y : K) → same x y ≡ true → x ≡ y) → (q : K) (rows : List (K × X))
+pub only_row : {K X : Type 0} (same : K → K → Bool) → IsEquivalence same → ((x y : K) → same x y ≡ true → x ≡ y)
+    → (q : K) (rows : List (K × X))
     → IsDistinct same (keys_of rows) → filter (λ row. same q row.0) rows ≡ row_of q (lookup (same q) rows)
 only_row same equal exact q [] apart = refl
-only_row {K} {X} same equal exact q (row ∷ rows) apart = by (same q row.0) refl (only_row same equal exact q rows (IsDistinct-tail same row.0 (keys_of rows) apart))
+only_row {K} {X} same equal exact q (row ∷ rows) apart =
+    by (same q row.0) refl (only_row same equal exact q rows (IsDistinct-tail same row.0 (keys_of rows) apart))
   where
     by : (b : Bool) → same q row.0 ≡ b → filter (λ (each : K × X). same q each.0) rows ≡ row_of q (lookup (same q) rows)
         → cond b (row ∷ filter (λ (each : K × X). same q each.0) rows) (filter (λ (each : K × X). same q each.0) rows)
         ≡ row_of q (cond b (Some row.1) (lookup (same q) rows))
     by true here step =
-        ap₂ (λ key rest. (key, row.1) ∷ rest) (sym (exact q row.0 here)) (none_pass (same q) rows (none_past_head equal q row rows apart here))
+        ap₂ (λ key rest. (key, row.1) ∷ rest) (sym (exact q row.0 here))
+        (none_pass (same q) rows (none_past_head equal q row rows apart here))
     by false not step = step
 
 -- ---- a ranking has the same rows that pass a test
@@ -61,7 +64,8 @@ module _ {Row : Type 0} (precedes : Row → Row → Bool) (test : Row → Bool) 
   none_after : (first : Row) (rows : List Row) → filter test (first ∷ rows) ≡ [] → (test first ≡ false) × (filter test rows ≡ [])
   none_after first rows none = by (test first) refl none
     where
-      by : (b : Bool) → test first ≡ b → cond b (first ∷ filter test rows) (filter test rows) ≡ [] → (test first ≡ false) × (filter test rows ≡ [])
+      by : (b : Bool) → test first ≡ b → cond b (first ∷ filter test rows) (filter test rows) ≡ []
+          → (test first ≡ false) × (filter test rows ≡ [])
       by true here none = cc none
       by false not none = (not, none)
 
@@ -85,8 +89,10 @@ module _ {Row : Type 0} (precedes : Row → Row → Bool) (test : Row → Bool) 
     where
       by : (b : Bool) → test row ≡ b → length (filter test ranking) + length (cond b (row ∷ filter test rows) (filter test rows)) ≤ 1
           → (length (filter test (ranked precedes ranking row)) + length (filter test rows) ≤ 1
-          → filter test (fold (ranked precedes) (ranked precedes ranking row) rows) ≡ filter test (ranked precedes ranking row) ++ filter test rows)
-          → filter test (fold (ranked precedes) (ranked precedes ranking row) rows) ≡ filter test ranking ++ cond b (row ∷ filter test rows) (filter test rows)
+          → filter test (fold (ranked precedes) (ranked precedes ranking row) rows) ≡ filter test (ranked precedes ranking row)
+          ++ filter test rows)
+          → filter test (fold (ranked precedes) (ranked precedes ranking row) rows) ≡ filter test ranking
+          ++ cond b (row ∷ filter test rows) (filter test rows)
       by true here few step =
           let none_ranked : filter test ranking ≡ [] = none_left 0 (filter test ranking) (omega (arith, few)) in
           let none_more : filter test rows ≡ [] = none_left 0 (filter test rows) (omega (arith, few)) in
@@ -107,12 +113,14 @@ filter_endpoints test [] = refl
 filter_endpoints test (row ∷ table) = by (test row.0) (filter_endpoints test table)
   where
     by : (b : Bool) → filter (λ each. test each.address) (map endpoint_row table) ≡ map endpoint_row (filter (λ each. test each.0) table)
-        → cond b (endpoint_row row ∷ filter (λ each. test each.address) (map endpoint_row table)) (filter (λ each. test each.address) (map endpoint_row table))
+        → cond b (endpoint_row row ∷ filter (λ each. test each.address) (map endpoint_row table))
+        (filter (λ each. test each.address) (map endpoint_row table))
         ≡ map endpoint_row (cond b (row ∷ filter (λ each. test each.0) table) (filter (λ each. test each.0) table))
     by true step = ap (λ rest. endpoint_row row ∷ rest) step
     by false step = step
 
-as_endpoint : (address : IpAddr) (rows : List ConversationCount) → map endpoint_row (row_of address (count_if_any rows)) ≡ endpoint_of address rows
+as_endpoint : (address : IpAddr) (rows : List ConversationCount)
+    → map endpoint_row (row_of address (count_if_any rows)) ≡ endpoint_of address rows
 as_endpoint address [] = refl
 as_endpoint address (row ∷ rows) = refl
 
@@ -124,7 +132,8 @@ same_address : (x y : IpAddr) → is_same_address x y ≡ true → x ≡ y
 same_address x y same = search rules
 
 in_table : (address : IpAddr) (rows : List ConversationCount) → IsStrictlySortedBy address_order (keys_of (address_table rows))
-    → filter (λ row. is_same_address address row.address) (map endpoint_row (address_table rows)) ≡ endpoint_of address (filter (has_address address) rows)
+    → filter (λ row. is_same_address address row.address) (map endpoint_row (address_table rows))
+    ≡ endpoint_of address (filter (has_address address) rows)
 in_table address rows ordered =
     filter_endpoints (is_same_address address) (address_table rows)
     ∙ ap (map endpoint_row)

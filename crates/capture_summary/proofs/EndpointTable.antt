@@ -20,7 +20,8 @@ use Rattle.capture_summary.specs.declared.conversation_count.ConversationCount.{
 module _ {K X : Type 0} (order : K → K → Ordering) (total : IsTotalOrder order) where
   -- the value at a key after a value is inserted
   lookup_inserted : (k q : K) (value : X) (entries : List (K × X))
-      → lookup (is_at (order q)) (insert_entry order entries k value) ≡ cond (is_at (order q) k) (Some value) (lookup (is_at (order q)) entries)
+      → lookup (is_at (order q)) (insert_entry order entries k value)
+      ≡ cond (is_at (order q) k) (Some value) (lookup (is_at (order q)) entries)
   lookup_inserted k q value [] = refl
   lookup_inserted k q value (entry ∷ entries) = by (order k entry.0) refl (lookup_inserted k q value entries)
     where
@@ -43,7 +44,8 @@ module _ {K X : Type 0} (order : K → K → Ordering) (total : IsTotalOrder ord
 
       by : (r : Ordering) → order k entry.0 ≡ r
           → lookup at (insert_entry order entries k value) ≡ cond (at k) (Some value) (lookup at entries)
-          → lookup at (match_ordering r ((k, value) ∷ entry ∷ entries) ((entry.0, value) ∷ entries) (entry ∷ insert_entry order entries k value))
+          → lookup at (match_ordering r ((k, value) ∷ entry ∷ entries) ((entry.0, value) ∷ entries)
+          (entry ∷ insert_entry order entries k value))
           ≡ cond (at k) (Some value) (lookup at (entry ∷ entries))
       by Less is step = refl
       by Equal is step =
@@ -53,7 +55,8 @@ module _ {K X : Type 0} (order : K → K → Ordering) (total : IsTotalOrder ord
           ∙ other_place (at k) (at entry.0) (Some value) (Some entry.1) (lookup at entries) (not_at is)
 
   -- equal keys have the same value
-  lookup_alike : (k q : K) (entries : List (K × X)) → order q k ≡ Equal → lookup (is_at (order k)) entries ≡ lookup (is_at (order q)) entries
+  lookup_alike : (k q : K) (entries : List (K × X)) → order q k ≡ Equal
+      → lookup (is_at (order k)) entries ≡ lookup (is_at (order q)) entries
   lookup_alike k q [] same = refl
   lookup_alike k q (entry ∷ entries) same =
       ap₂ (λ b rest. cond b (Some entry.1) rest) (ap is_eq (sym (total.congr q k entry.0 same))) (lookup_alike k q entries same)
@@ -132,7 +135,8 @@ find_conversation : (q : IpAddr) (row : ConversationCount) (table : AddressTable
 find_conversation q row table =
     let source = socket_ip row.flow.source in
     let destination = socket_ip row.flow.destination in
-    ap (λ b. find q (cond b (count_added source (both row) table) (count_added destination (both row) (count_added source (both row) table))))
+    ap (λ b. find q (cond b (count_added source (both row) table)
+    (count_added destination (both row) (count_added source (both row) table))))
     (address_laws.matches_eq-law source destination)
     ∙ find_at_both q source destination (both row) table (is_eq (address_order source destination)) refl
     ∙ ap₂ (λ b c. cond (b || c) (sum_with (both row) (find q table)) (find q table))
@@ -154,7 +158,8 @@ the_same : (packets bytes other_packets other_bytes : ℕ) → packets ≡ other
 the_same packets bytes other_packets other_bytes p b = ap₂ count_with p b
 
 -- limited sums are the limited sum of all
-limited : (most before one more all : ℕ) → all ≡ one + more → min (min (before + min one most) most + min more most) most ≡ min (before + min all most) most
+limited : (most before one more all : ℕ) → all ≡ one + more
+    → min (min (before + min one most) most + min more most) most ≡ min (before + min all most) most
 limited most before one more all is = omega (arith, is)
 
 sum_more : (before : Option Count) (row : ConversationCount) (rows : List ConversationCount)
@@ -165,8 +170,10 @@ sum_more before row [] =
     (sym (sum_by-cons row_packets row [] ∙ omega arith)) (sym (sum_by-cons row_bytes row [] ∙ omega arith)))
 sum_more before row (next ∷ rows) =
     the_same _ _ _ _
-    (limited (2 ^ 64 - 1) (unwrap_or before no_packets).packets (row_packets row) (sum_by row_packets (next ∷ rows)) (sum_by row_packets (row ∷ next ∷ rows)) (sum_by-cons row_packets row (next ∷ rows)))
-    (limited (2 ^ 64 - 1) (unwrap_or before no_packets).bytes (row_bytes row) (sum_by row_bytes (next ∷ rows)) (sum_by row_bytes (row ∷ next ∷ rows)) (sum_by-cons row_bytes row (next ∷ rows)))
+    (limited (2 ^ 64 - 1) (unwrap_or before no_packets).packets (row_packets row) (sum_by row_packets (next ∷ rows))
+    (sum_by row_packets (row ∷ next ∷ rows)) (sum_by-cons row_packets row (next ∷ rows)))
+    (limited (2 ^ 64 - 1) (unwrap_or before no_packets).bytes (row_bytes row) (sum_by row_bytes (next ∷ rows))
+    (sum_by row_bytes (row ∷ next ∷ rows)) (sum_by-cons row_bytes row (next ∷ rows)))
 
 find_all : (q : IpAddr) (rows : List ConversationCount) (table : AddressTable)
     → find q (fold conversation_added table rows) ≡ after_all (find q table) (filter (has_address q) rows)
@@ -188,7 +195,8 @@ count_if_any (row ∷ rows) = Some (count_of_all (row ∷ rows))
 
 sum_with_none : (rows : List ConversationCount) → after_all None rows ≡ count_if_any rows
 sum_with_none [] = refl
-sum_with_none (row ∷ rows) = the_same _ _ _ _ (none_before (2 ^ 64 - 1) (sum_by row_packets (row ∷ rows))) (none_before (2 ^ 64 - 1) (sum_by row_bytes (row ∷ rows)))
+sum_with_none (row ∷ rows) = the_same _ _ _ _ (none_before (2 ^ 64 - 1) (sum_by row_packets (row ∷ rows)))
+    (none_before (2 ^ 64 - 1) (sum_by row_bytes (row ∷ rows)))
   where
     none_before : (most all : ℕ) → min (0 + min all most) most ≡ min all most
     none_before most all = omega arith

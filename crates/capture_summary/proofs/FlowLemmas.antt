@@ -27,5 +27,6 @@ module _ {Row : Type 0} where
   position-set test rows place row other alike = rw (position_or_len-set test rows place row other alike, length-set rows place row)
 
   -- tests with the same answers find the same place
-  pub position-alike : (test same : Row → Bool) → ((row : Row) → test row ≡ same row) → (rows : List Row) → position test rows ≡ position same rows
+  pub position-alike : (test same : Row → Bool) → ((row : Row) → test row ≡ same row) → (rows : List Row)
+      → position test rows ≡ position same rows
   position-alike test same alike rows = ap (λ each. position each rows) (fun_ext alike)

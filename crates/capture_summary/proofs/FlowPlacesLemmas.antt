@@ -14,7 +14,8 @@ use Rattle.capture_summary.specs.declared.conversation_count.ConversationCount.{
 use Rattle.capture_summary.specs.declared.flow.Flow.{Flow}
 
 -- the map after the conversation of a flow is added, with its row at the end
-pub ArePlaces_push : {S : Type 0} (places more : HashMap Flow ℕ S) (rows : List ConversationCount) (row : ConversationCount) (place : ℕ) (first key : Flow)
+pub ArePlaces_push : {S : Type 0} (places more : HashMap Flow ℕ S) (rows : List ConversationCount) (row : ConversationCount) (place : ℕ)
+    (first key : Flow)
     → ArePlaces places rows → row.flow ≡ first → place_of first rows ≡ None → place ≡ length rows → key ≡ canonical first
     → Updates is_same_flow places more key (Some place) → ArePlaces more (rows ++ row ∷ [])
 ArePlaces_push places more rows row place first key are named absent at_end key_is updates flow =
@@ -60,16 +61,20 @@ place_within places rows flow key place are key_is found =
     (sym (found ∙ ap (get is_same_flow places) key_is ∙ are flow))).0
 
 -- a row counts no more packets than the table
-pub row_below : (table : FlowTable) (place limit : ℕ) (row : ConversationCount) → row ≡ get_or table.rows place row → place < length table.rows
+pub row_below : (table : FlowTable) (place limit : ℕ) (row : ConversationCount) → row ≡ get_or table.rows place row
+    → place < length table.rows
     → packets_counted table < limit → row_packets row < limit
 row_below table place limit row at within below =
     let same : row_packets row ≡ row_packets (get_or table.rows place row) = ap row_packets at in
-    let least : row_packets (get_or table.rows place row) ≤ sum_by row_packets table.rows = get_or-le-sum_by row_packets table.rows place row within in
+    let least : row_packets (get_or table.rows place row) ≤ sum_by row_packets table.rows =
+    get_or-le-sum_by row_packets table.rows place row within in
     omega (arith, same, least, below)
 
 -- if a row counts another packet, the table counts another packet
-pub one_in_row : (table : FlowTable) (place : ℕ) (row more : ConversationCount) → row ≡ get_or table.rows place row → place < length table.rows
-    → row_packets more ≡ row_packets row + 1 → packets_counted (record table { rows = set table.rows place more }) ≡ packets_counted table + 1
+pub one_in_row : (table : FlowTable) (place : ℕ) (row more : ConversationCount) → row ≡ get_or table.rows place row
+    → place < length table.rows
+    → row_packets more ≡ row_packets row + 1 → packets_counted (record table { rows = set table.rows place more }) ≡ packets_counted table
+    + 1
 one_in_row table place row more at within one =
     let same : row_packets row ≡ row_packets (get_or table.rows place row) = ap row_packets at in
     let sums = sum_by-set row_packets table.rows place more row within in

@@ -9,7 +9,8 @@ use Rattle.capture_summary.specs.TimeSpans.{HasSpan, earlier, later, span_of, wi
 use Rattle.capture_summary.specs.declared.time_span.TimeSpan.{TimeSpan}
 
 -- one of two times is among the times after the second of them is added
-one_of : (times : List PacketTime) (first time : PacketTime) → Contains times first → (b : Bool) → Contains (times ++ time ∷ []) (cond b time first)
+one_of : (times : List PacketTime) (first time : PacketTime) → Contains times first → (b : Bool)
+    → Contains (times ++ time ∷ []) (cond b time first)
 one_of times first time within true = Contains-append_right times (time ∷ []) time (0, omega arith, refl)
 one_of times first time within false = Contains-append_left times (time ∷ []) first within
 
@@ -40,8 +41,10 @@ span_after times None time none =
     subst (λ each. HasSpan (each ++ time ∷ []) (with_time None (Some time))) (sym none) (record {
       has_earliest = (0, omega arith, refl);
       has_latest = (0, omega arith, refl);
-      least = All-push (λ each. nanoseconds_of time ≤ nanoseconds_of each) [] time (λ k d within. absurd (omega (arith, within))) (omega arith);
-      greatest = All-push (λ each. nanoseconds_of each ≤ nanoseconds_of time) [] time (λ k d within. absurd (omega (arith, within))) (omega arith);
+      least = All-push (λ each. nanoseconds_of time ≤ nanoseconds_of each) [] time (λ k d within. absurd (omega (arith, within)))
+          (omega arith);
+      greatest = All-push (λ each. nanoseconds_of each ≤ nanoseconds_of time) [] time (λ k d within. absurd (omega (arith, within)))
+          (omega arith);
     })
 span_after times (Some span) time is =
     let begin = earlier_least span.earliest time in

@@ -44,7 +44,8 @@ endpoint_of address (row ∷ rows) = record { address = address; count = count_o
 
 -- ---- the order
 
--- The order of two endpoints. The endpoint with more packets precedes the other. If the numbers of packets are equal, the endpoint with more
+-- The order of two endpoints. The endpoint with more packets precedes the other. If the numbers of packets are equal, the endpoint with
+-- more
 -- bytes precedes the other. If these numbers are also equal, the endpoint with the lower address precedes the other.
 abbrev pub endpoint_order : EndpointCount → EndpointCount → Ordering
 endpoint_order row other =
@@ -108,6 +109,7 @@ busiest_endpoints top rows = busiest_in_table top (address_table rows)
 pub record AreBusiestEndpoints (top : ℕ) (rows : List ConversationCount) (endpoints : List EndpointCount) : Type 0 where
   pub left_out : List EndpointCount
   pub each : (address : IpAddr)
-      → filter (λ row. is_same_address address row.address) (endpoints ++ left_out) ≡ endpoint_of address (filter (has_address address) rows)
+      → filter (λ row. is_same_address address row.address) (endpoints ++ left_out)
+      ≡ endpoint_of address (filter (has_address address) rows)
   pub count : length endpoints ≡ min top (length (endpoints ++ left_out))
   pub ranking : IsRanking is_before (endpoints ++ left_out)

@@ -22,7 +22,8 @@ max_conversations = 65536
 abbrev pub place_of : Flow → List ConversationCount → Option ℕ
 place_of flow rows = position (λ row. is_one_conversation flow row.flow) rows
 
--- The table after a packet of this flow, of this length in bytes and of this time. If the conversation has a row, the row counts the packet. Otherwise a new row at the end counts
+-- The table after a packet of this flow, of this length in bytes and of this time. If the conversation has a row, the row counts the
+-- packet. Otherwise a new row at the end counts
 -- the packet. If there is no room for a new row, `without_room` counts the packet.
 abbrev pub flow_counted : Flow → ℕ → Option PacketTime → FlowTable → Option ℕ → FlowTable
 flow_counted flow len time table (Some place) =

@@ -23,7 +23,8 @@ IsIpv4In octets network = IsV4And network.address (λ ip. have_same_start networ
 
 -- the IPv6 address with these octets is in the network
 abbrev pub IsIpv6In : List ℕ → Network → Type 0
-IsIpv6In octets network = IsV6And network.address (λ ip. have_same_start network.host_bits (ipv6_bits ip) (from_be_bytes w128 octets) ≡ true)
+IsIpv6In octets network = IsV6And network.address
+    (λ ip. have_same_start network.host_bits (ipv6_bits ip) (from_be_bytes w128 octets) ≡ true)
 
 -- ---- a network by its prefix
 

@@ -70,7 +70,8 @@ reply_line = (codes "ARP", refl, refl)
 
 -- packet 33 of the stored run of `capture_report`
 fragment_line : IsLine SinceFirst false 33 None (Some (time 1600000000 0)) (Some (time 1600000000 3200)) (Some (whole 74))
-    (record (in_no_tunnel (Ip addresses (record { 0 = 17 }) (Some Udp) (Ports 49152 53 (reference_to (replicate 40 0))) 40) (untested Fragment))
+    (record (in_no_tunnel (Ip addresses (record { 0 = 17 }) (Some Udp) (Ports 49152 53 (reference_to (replicate 40 0))) 40)
+    (untested Fragment))
     { fragment = Some (record { identification = OverIpv4 1; offset = 0; more_fragments = true }) })
     (codes "33 00:00:00.003200 length 74: 192.0.2.1:49152 > 192.0.2.2:53 UDP, payload 40, fragment, identification 0001, offset 0, more"
     ++ codes "; checksum not looked at: a fragment\n")

@@ -16,13 +16,15 @@ use Rattle.capture_text.specs.PacketLine.{HasOneLine, IsContentText, IsTcpText, 
 use Rattle.capture_words.specs.declared.times.Times.{Times}
 use Rattle.capture_words.proofs.TcpTextLaws.{one_header_text, one_of}
 
-one_tcp_text : (addresses : Addresses) (segment text other : List ℕ) → IsTcpText addresses segment text → IsTcpText addresses segment other → text ≡ other
+one_tcp_text : (addresses : Addresses) (segment text other : List ℕ) → IsTcpText addresses segment text → IsTcpText addresses segment other
+    → text ≡ other
 one_tcp_text addresses segment text other is also = one_of _ _ (one_header_text segment) text other is also
 
 one_transport_text : (addresses : Addresses) (number : ℕ) (proto : Option Proto) (transport : Transport) (text other : List ℕ)
     → IsTransportText addresses number proto transport text → IsTransportText addresses number proto transport other → text ≡ other
 one_transport_text addresses number proto (transports.Read (slices.Udp datagram)) text other is also = is ∙ sym also
-one_transport_text addresses number proto (transports.Read (slices.Tcp segment)) text other is also = one_tcp_text addresses segment text other is also
+one_transport_text addresses number proto (transports.Read (slices.Tcp segment)) text other is also =
+    one_tcp_text addresses segment text other is also
 one_transport_text addresses number proto (transports.Read (slices.Icmpv4 message)) text other is also = is ∙ sym also
 one_transport_text addresses number proto (transports.Read (slices.Icmpv6 message)) text other is also = is ∙ sym also
 one_transport_text addresses number proto (transports.Ports source destination payload) text other is also = is ∙ sym also
@@ -38,4 +40,5 @@ one_content_text (contents.Ip addresses protocol proto transport payload_len) te
 -- if two packets are equal, and their numbers, interfaces, times and lengths too, their lines are equal
 pub one_line : (times : Times) (verbose : Bool) (number : ℕ) (interface : Option PacketInterface) (first time : Option PacketTime)
     (len : Option FrameLen) (packet : Packet) → HasOneLine times verbose number interface first time len packet
-one_line times verbose number interface first time len packet line other is also = one_of _ _ (one_content_text packet.content) line other is also
+one_line times verbose number interface first time len packet line other is also =
+    one_of _ _ (one_content_text packet.content) line other is also

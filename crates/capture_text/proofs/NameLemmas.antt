@@ -22,7 +22,8 @@ use Rattle.std.specs.Char.{digit_char}
 -- the text of an IPv4 address whose octets may have 16 bits has at most 23 bytes
 length-ipv4 : (octets : List ℕ) → ((k : ℕ) → slice_index octets k < 2 ^ 16) → length (ipv4_text octets) ≤ 23
 length-ipv4 octets small =
-    let digits : (k : ℕ) → length (decimal (slice_index octets k)) ≤ 5 = λ k. length-decimal-le 5 (slice_index octets k) (omega arith) (omega (arith, small k)) (omega (arith, small k)) in
+    let digits : (k : ℕ) → length (decimal (slice_index octets k)) ≤ 5 =
+    λ k. length-decimal-le 5 (slice_index octets k) (omega arith) (omega (arith, small k)) (omega (arith, small k)) in
     let first = decimal (slice_index octets 0) in
     let second = decimal (slice_index octets 1) in
     let third = decimal (slice_index octets 2) in
@@ -85,7 +86,8 @@ length-groups (segment ∷ segments) =
 
 -- the length of eight groups, or of the groups before and after a run of zeros
 compressed_by : (segments : List ℕ) (run : ℕ × ℕ) (test : Bool) → length segments ≡ 8
-    → length (if test then groups_text (take run.0 segments) ++ codes "::" ++ groups_text (drop (run.0 + run.1) segments) else groups_text segments) ≤ 41
+    → length (if test then groups_text (take run.0 segments) ++ codes "::" ++ groups_text (drop (run.0 + run.1) segments)
+    else groups_text segments) ≤ 41
 compressed_by segments run true eight =
     let before = take run.0 segments in
     let after = drop (run.0 + run.1) segments in
@@ -125,7 +127,11 @@ length-address (Ip.V6 ip) is = omega (arith, length-ipv6 (ipv6_segments ip) is.0
 scope_by : (scope : ℕ) (test : Bool) → scope < 2 ^ 32 → length (if test then [] else codes "%" ++ decimal scope) ≤ 11
 scope_by scope true small = omega arith
 scope_by scope false small =
-    omega (arith, length-append (codes "%") (decimal scope), length-decimal-le 10 scope (omega arith) (omega (arith, small)) (omega (arith, small)))
+    omega (
+      arith,
+      length-append (codes "%") (decimal scope),
+      length-decimal-le 10 scope (omega arith) (omega (arith, small)) (omega (arith, small)),
+    )
 
 -- ---- an address with its port
 

@@ -186,7 +186,8 @@ tunnel_text tunnel = unread_text (by_value tunnel.addresses) tunnel.protocol.0 N
 
 -- This is the line of a packet: its number, its time, its interface, the length of its frame, its tunnels, its content with an ARP packet,
 -- the fields of its fragment, its details if the line is verbose, and its verdict.
-abbrev pub IsLine : Times → Bool → ℕ → Option PacketInterface → Option PacketTime → Option PacketTime → Option FrameLen → Packet → List ℕ → Type 0
+abbrev pub IsLine : Times → Bool → ℕ → Option PacketInterface → Option PacketTime → Option PacketTime → Option FrameLen → Packet → List ℕ
+    → Type 0
 IsLine times verbose number interface first time len packet line =
     (what : List ℕ) × IsContentText packet.content what
     × (line ≡ decimal number ++ (codes " " ++ (time_text times first time ++ (interface_text interface ++ (frame_text len
@@ -196,7 +197,8 @@ IsLine times verbose number interface first time len packet line =
 
 -- The line of a packet depends only on the packet, its number, its interface, its time, the time of the first packet, its frame length,
 -- `times` and `verbose`.
-abbrev pub HasOneLine : Times → Bool → ℕ → Option PacketInterface → Option PacketTime → Option PacketTime → Option FrameLen → Packet → Type 0
+abbrev pub HasOneLine : Times → Bool → ℕ → Option PacketInterface → Option PacketTime → Option PacketTime → Option FrameLen → Packet
+    → Type 0
 HasOneLine times verbose number interface first time len packet = (line other : List ℕ)
     → IsLine times verbose number interface first time len packet line → IsLine times verbose number interface first time len packet other
     → line ≡ other

@@ -76,7 +76,8 @@ counts_table packets title rows = if packets == 0 then [] else codes "\n" ++ (co
 abbrev pub conversations_head : ℕ → List ℕ → List ℕ
 conversations_head width title =
     name_cell width title
-    ++ (codes "   packets         bytes   packets >       bytes >   packets <       bytes <" ++ codes " first packet                duration         bits a second\n")
+    ++ (codes "   packets         bytes   packets >       bytes >   packets <       bytes <"
+    ++ codes " first packet                duration         bits a second\n")
 
 -- the name of a conversation, from the flow of one of its directions
 abbrev pub conversation_name : Flow → List ℕ

@@ -26,7 +26,8 @@ pub one-more : (texts : List InterfaceTexts) (interfaces : List InterfaceDescrip
     → Appends a c (interfaces_text texts 0 (take (i + 1) interfaces))
 one-more texts interfaces i d a b c below before one =
     subst (Appends a c)
-    (sym (interfaces-push texts 0 i (take i interfaces) (get_or interfaces i d) (omega (arith, below, length-take-le i interfaces (omega (arith, below)))))
+    (sym (interfaces-push texts 0 i (take i interfaces) (get_or interfaces i d)
+    (omega (arith, below, length-take-le i interfaces (omega (arith, below)))))
     ∙ ap (interfaces_text texts 0) (sym (take_more interfaces i d below)))
     (Appends-trans a b c (interfaces_text texts 0 (take i interfaces)) (described_text texts i (get_or interfaces i d)) before one)
 

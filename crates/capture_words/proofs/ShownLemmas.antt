@@ -8,7 +8,8 @@ use Rattle.std.specs.Str.{is_utf8}
 use Rattle.capture_words.specs.ShownText.{escaped_byte, shown_bytes, shown_char, shown_text}
 
 -- the shown text of a character and of the characters after it
-pub shown_step : (text rest : List ℕ) (char : ℕ) → IsUtf8 text → text ≡ encode_utf8 char ++ rest → shown_text text ≡ shown_char char ++ shown_text rest
+pub shown_step : (text rest : List ℕ) (char : ℕ) → IsUtf8 text → text ≡ encode_utf8 char ++ rest
+    → shown_text text ≡ shown_char char ++ shown_text rest
 shown_step text rest char utf8 parts = rw (chars_past_char text rest char utf8 parts) refl
 
 -- the shown text of a text without characters

@@ -23,7 +23,8 @@ answer_fields status = (Struct (shape the_type)).own_val (status, tt)
 pub answer_made : {M : Type 1} {𝓤 : Ura M} (𝓛 : Logic 𝓤) (status : ℕ) → status < 2 ^ 32
     → ent 𝓤 (emp 𝓤) (sem 𝓛 (answer_fields status (answer_val status ∷ [])))
 answer_made 𝓛 status fits =
-    makes_shadow 𝓛 (answer_fields status (answer_val status ∷ [])) (λ _. (tt, ((tt, tt), tt))) ((vint w32 status ∷ [], tt), (refl, ((refl, fits), tt)))
+    makes_shadow 𝓛 (answer_fields status (answer_val status ∷ [])) (λ _. (tt, ((tt, tt), tt)))
+    ((vint w32 status ∷ [], tt), (refl, ((refl, fits), tt)))
 
 abbrev pub place_val : Ptr → Val
 place_val p = vstruct (vcons (ptr_val p) vnil)

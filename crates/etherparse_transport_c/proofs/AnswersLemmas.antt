@@ -27,6 +27,7 @@ told None false Valid status accepted is answered = inr (answered, λ valid. let
 
 -- the status of a test, if the packet is accepted and has a checksum, but the protocol also allows packets without a checksum
 pub told_present : (refusal : Option EtherparseError) (absent valid : Bool) (Valid : Type 0) (status : ℕ) → refusal ≡ None → absent ≡ false
-    → (IsTrue valid ↔ Valid) → status ≡ (if valid then numbers.status_ok else numbers.status_checksum_wrong) → Tells refusal absent Valid status
+    → (IsTrue valid ↔ Valid) → status ≡ (if valid then numbers.status_ok else numbers.status_checksum_wrong)
+    → Tells refusal absent Valid status
 told_present refusal true valid Valid status accepted present is answered = cc
 told_present refusal false valid Valid status accepted present is answered = told refusal valid Valid status accepted is answered

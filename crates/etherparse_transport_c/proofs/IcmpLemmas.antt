@@ -18,7 +18,8 @@ use Rattle.etherparse_transport_c.specs.Numbers as numbers
 
 -- writing the first 8 bytes of a packet again with a checksum gives the packet with this checksum; the other bytes follow unchanged
 pub written_again : (packet : List ℕ) (checksum : ℕ) → 8 ≤ length packet
-    → header_bytes (record { type = slice_index packet 0; code = slice_index packet 1; fields = slice_range packet 4 8 }) checksum ++ drop 8 packet
+    → header_bytes (record { type = slice_index packet 0; code = slice_index packet 1; fields = slice_range packet 4 8 }) checksum
+    ++ drop 8 packet
     ≡ with_checksum 2 packet checksum
 unfolding with_checksum
 written_again (a ∷ (b ∷ (c ∷ (d ∷ (e ∷ (f ∷ (g ∷ (h ∷ rest)))))))) checksum enough = refl
@@ -41,7 +42,8 @@ packet_written packet fields payload type code checksum enough is_type is_code i
 -- the sum of the header with this checksum and of the payload is the sum of the packet with this checksum
 pub total_written : (packet fields payload : List ℕ) (type code checksum : ℕ) → 8 ≤ length packet → type ≡ slice_index packet 0
     → code ≡ slice_index packet 1 → fields ≡ slice_range packet 4 8 → payload ≡ drop 8 packet → length fields ≡ 4
-    → total (header_bytes (record { type = type; code = code; fields = fields }) checksum) + total payload ≡ total (with_checksum 2 packet checksum)
+    → total (header_bytes (record { type = type; code = code; fields = fields }) checksum) + total payload
+    ≡ total (with_checksum 2 packet checksum)
 total_written packet fields payload type code checksum enough is_type is_code is_fields is_payload four =
     sym (total-append (header_bytes (record { type = type; code = code; fields = fields }) checksum) payload (omega (arith, four)))
     ∙ ap total (packet_written packet fields payload type code checksum enough is_type is_code is_fields is_payload)
@@ -59,7 +61,8 @@ summed_icmpv6 source destination packet fields payload type code enough is_type 
 
 -- ---- the test of bytes, after a checksum was stored in them
 
-pub passes_icmpv4 : (bytes : List ℕ) (checksum : ℕ) → 8 ≤ length bytes → icmpv4.refusal bytes ≡ None → IsValidIcmpv4 (with_checksum 2 bytes checksum)
+pub passes_icmpv4 : (bytes : List ℕ) (checksum : ℕ) → 8 ≤ length bytes → icmpv4.refusal bytes ≡ None
+    → IsValidIcmpv4 (with_checksum 2 bytes checksum)
     → Answers (icmpv4.TestTells (with_checksum 2 bytes checksum)) numbers.status_ok
 passes_icmpv4 bytes checksum enough accepted valid =
     let len = length-with_checksum 2 bytes checksum (omega (arith, enough)) in
@@ -99,5 +102,6 @@ pub written_front : (bytes made buffer after : List ℕ) (written before : ℕ) 
 written_front bytes made buffer after written before same room is_after is_written = (
   is_after ∙ ap (λ b. unless_refused (no_room (length b) (length buffer)) (at_front b buffer) buffer) same
       ∙ ap (λ r. unless_refused r (at_front bytes buffer) buffer) room,
-  is_written ∙ ap (λ b. unless_refused (no_room (length b) (length buffer)) (length b) before) same ∙ ap (λ r. unless_refused r (length bytes) before) room,
+  is_written ∙ ap (λ b. unless_refused (no_room (length b) (length buffer)) (length b) before) same
+      ∙ ap (λ r. unless_refused r (length bytes) before) room,
 )

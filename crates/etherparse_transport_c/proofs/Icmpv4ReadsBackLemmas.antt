@@ -54,7 +54,8 @@ from_some : {A : Type 0} (one other : A) → Some one ≡ Some other → one ≡
 from_some one other same = cc
 
 -- the fields of a kind give a message of this kind
-made : (message other : Icmpv4Type) (kind : ℕ) → (message_fields message).kind ≡ kind → Some message ≡ Some other → (message_fields other).kind ≡ kind
+made : (message other : Icmpv4Type) (kind : ℕ) → (message_fields message).kind ≡ kind → Some message ≡ Some other
+    → (message_fields other).kind ≡ kind
 made message other kind is same = subst (λ m. (message_fields m).kind ≡ kind) (from_some message other same) is
 
 made_of : {Part : Type 0} (variant : Part → Icmpv4Type) (part : Option Part) (other : Icmpv4Type) (kind : ℕ)
@@ -106,7 +107,8 @@ said_again : (message : Icmpv4Type) (checksum : ℕ) → FieldsFit message → (
 said_again (Unknown type code fields) checksum fit some = absurd (some refl)
 said_again (DestinationUnreachable header) checksum fit some = ap (option_map DestinationUnreachable) (dest_listed header fit)
 said_again (Redirect header) checksum fit some =
-    let four : take 4 header.gateway_internet_address ≡ header.gateway_internet_address = take_all 4 header.gateway_internet_address (omega (arith, fit)) in
+    let four : take 4 header.gateway_internet_address ≡ header.gateway_internet_address =
+    take_all 4 header.gateway_internet_address (omega (arith, fit)) in
     rw (four, redirect_listed header.code) refl
 said_again (TimeExceeded code) checksum fit some = ap (option_map TimeExceeded) (time_listed code)
 said_again (ParameterProblem header) checksum fit some = ap (option_map ParameterProblem) (problem_listed header)
@@ -119,7 +121,8 @@ abbrev Finds : Icmpv4Type → ℕ → Icmpv4Header → Type 0
 Finds message checksum found =
     (found.checksum ≡ checksum) × ((message_fields message).kind ≢ numbers.icmpv4_kind_unknown → found ≡ icmpv4_header message checksum)
 
-same_header : (fields : EtherparseIcmpv4Header) (message : Icmpv4Type) (found : Icmpv4Header) → message_in fields ≡ Some message → FieldsFit message
+same_header : (fields : EtherparseIcmpv4Header) (message : Icmpv4Type) (found : Icmpv4Header) → message_in fields ≡ Some message
+    → FieldsFit message
     → length fields.bytes4to7 ≡ 4 → Finds message fields.checksum found → IsSameHeader fields (header_read message found)
 same_header fields message found is fit four finds =
     let kind : (message_fields message).kind ≡ fields.kind = kind_at fields message fields.kind is in
@@ -132,15 +135,18 @@ same_header fields message found is fit four finds =
       raw = λ none.
           let raw : Unknown fields.type_u8 fields.code_u8 fields.bytes4to7 ≡ message =
           from_some _ message (ap (λ k. message_in (record fields { kind = k })) (sym none) ∙ is) in
-          subst (λ m. ((written m).type ≡ fields.type_u8) × ((written m).code ≡ fields.code_u8) × (take 4 (written m).fields ≡ fields.bytes4to7)) raw
+          subst (λ m. ((written m).type ≡ fields.type_u8) × ((written m).code ≡ fields.code_u8)
+          × (take 4 (written m).fields ≡ fields.bytes4to7)) raw
           (refl, refl, take_all 4 fields.bytes4to7 (omega (arith, four)));
     }
 
 -- the library in Rattle finds a header in the packet, as `Finds` states, and the call in C reads the same header
 abbrev IsFound : Icmpv4Type → ℕ → List ℕ → Type 0
-IsFound message checksum packet = (found : Icmpv4Header) × Finds message checksum found × ((packet_of packet).header ≡ header_read message found)
+IsFound message checksum packet =
+    (found : Icmpv4Header) × Finds message checksum found × ((packet_of packet).header ≡ header_read message found)
 
-found_if : (message : Icmpv4Type) (checksum : ℕ) (packet payload : List ℕ) (whole : Bool) (found : Icmpv4Header) (error : LenError) → Finds message checksum found
+found_if : (message : Icmpv4Type) (checksum : ℕ) (packet payload : List ℕ) (whole : Bool) (found : Icmpv4Header) (error : LenError)
+    → Finds message checksum found
     → IsReadAs message packet (if whole then Ok (found, payload) else Err error) → refusal packet ≡ None → IsFound message checksum packet
 found_if message checksum packet payload true found error finds read accepted = (found, finds, ap (λ p. p.header) read.1)
 found_if message checksum packet payload false found error finds read accepted = cc
@@ -167,14 +173,17 @@ raw_found type code bytes5to8 checksum packet payload false false read accepted 
 is_found : (message : Icmpv4Type) (checksum : ℕ) (packet payload : List ℕ) → IsReadAs message packet (reads_back message checksum payload)
     → refusal packet ≡ None → IsFound message checksum packet
 is_found (TimestampRequest times) checksum packet payload read accepted =
-    found_if (TimestampRequest times) checksum packet [] (length payload == 0) (icmpv4_header (TimestampRequest times) checksum) _ (refl, λ some. refl) read accepted
+    found_if (TimestampRequest times) checksum packet [] (length payload == 0) (icmpv4_header (TimestampRequest times) checksum) _
+    (refl, λ some. refl) read accepted
 is_found (TimestampReply times) checksum packet payload read accepted =
-    found_if (TimestampReply times) checksum packet [] (length payload == 0) (icmpv4_header (TimestampReply times) checksum) _ (refl, λ some. refl) read accepted
+    found_if (TimestampReply times) checksum packet [] (length payload == 0) (icmpv4_header (TimestampReply times) checksum) _
+    (refl, λ some. refl) read accepted
 is_found (Unknown type code bytes5to8) checksum packet payload read accepted =
     raw_found type code bytes5to8 checksum packet payload _ _ read accepted
 is_found other checksum packet payload read accepted = (icmpv4_header other checksum, (refl, λ some. refl), ap (λ p. p.header) read.1)
 
-pub is_same : (fields : EtherparseIcmpv4Header) (message : Icmpv4Type) (packet payload : List ℕ) → message_in fields ≡ Some message → FieldsFit message
+pub is_same : (fields : EtherparseIcmpv4Header) (message : Icmpv4Type) (packet payload : List ℕ) → message_in fields ≡ Some message
+    → FieldsFit message
     → length fields.bytes4to7 ≡ 4 → IsReadAs message packet (reads_back message fields.checksum payload) → refusal packet ≡ None
     → IsSameHeader fields (packet_of packet).header
 is_same fields message packet payload is fit four read accepted =
@@ -197,8 +206,10 @@ front message checksum buffer len fit read within =
     (is_read_as message checksum payload _ (fields_enough message fit) (read payload)))
 
 pub buffer_read : (fields : EtherparseIcmpv4Header) (message : Icmpv4Type) (made buffer after : List ℕ) (written before len : ℕ)
-    → message_in fields ≡ Some message → FieldsFit message → length fields.bytes4to7 ≡ 4 → made ≡ wire (icmpv4_header message fields.checksum)
-    → ((payload : List ℕ) → part.IsReadAs (wire (icmpv4_header message fields.checksum) ++ payload) (reads_back message fields.checksum payload))
+    → message_in fields ≡ Some message → FieldsFit message → length fields.bytes4to7 ≡ 4
+    → made ≡ wire (icmpv4_header message fields.checksum)
+    → ((payload : List ℕ) → part.IsReadAs (wire (icmpv4_header message fields.checksum) ++ payload)
+    (reads_back message fields.checksum payload))
     → write_refusal fields.checksum (message_in fields) (length buffer) ≡ None
     → after ≡ unless_refused (no_room (length made) (length buffer)) (at_front made buffer) buffer
     → written ≡ unless_refused (no_room (length made) (length buffer)) (length made) before → written ≤ len
@@ -206,7 +217,8 @@ pub buffer_read : (fields : EtherparseIcmpv4Header) (message : Icmpv4Type) (made
     × (refusal (take len after) ≡ None → IsSameHeader fields (packet_of (take len after)).header)
 buffer_read fields message made buffer after written before len is fit four same read accepted is_after is_written within =
     let header = wire (icmpv4_header message fields.checksum) in
-    let room : no_room (length header) (length buffer) ≡ None = subst (λ m. write_refusal fields.checksum m (length buffer) ≡ None) is accepted in
+    let room : no_room (length header) (length buffer) ≡ None =
+    subst (λ m. write_refusal fields.checksum m (length buffer) ≡ None) is accepted in
     let stands = written_front header made buffer after written before same room is_after is_written in
     let back : ReadsBack fields.checksum (Some message) (take len after) =
     subst (λ b. ReadsBack fields.checksum (Some message) (take len b)) (sym stands.0)

@@ -47,7 +47,8 @@ from_some : {A : Type 0} (one other : A) → Some one ≡ Some other → one ≡
 from_some one other same = cc
 
 -- the fields of a kind give a message of this kind
-made : (message other : Icmpv6Type) (kind : ℕ) → (message_fields message).kind ≡ kind → Some message ≡ Some other → (message_fields other).kind ≡ kind
+made : (message other : Icmpv6Type) (kind : ℕ) → (message_fields message).kind ≡ kind → Some message ≡ Some other
+    → (message_fields other).kind ≡ kind
 made message other kind is same = subst (λ m. (message_fields m).kind ≡ kind) (from_some message other same) is
 
 made_of : {Part : Type 0} (variant : Part → Icmpv6Type) (part : Option Part) (other : Icmpv6Type) (kind : ℕ)
@@ -74,7 +75,8 @@ kind_at fields message (suc (suc (suc (suc (suc (suc (suc (suc (suc zero))))))))
 kind_at fields message (suc (suc (suc (suc (suc (suc (suc (suc (suc (suc zero)))))))))) same = made _ message 10 refl same
 kind_at fields message (suc (suc (suc (suc (suc (suc (suc (suc (suc (suc (suc zero))))))))))) same = made _ message 11 refl same
 kind_at fields message (suc (suc (suc (suc (suc (suc (suc (suc (suc (suc (suc (suc more)))))))))))) same =
-    let none = kind_beyond (record fields { kind = suc (suc (suc (suc (suc (suc (suc (suc (suc (suc (suc (suc more))))))))))) }) (omega arith) in cc
+    let none = kind_beyond (record fields { kind = suc (suc (suc (suc (suc (suc (suc (suc (suc (suc (suc (suc more))))))))))) })
+    (omega arith) in cc
 
 -- ---- the message
 
@@ -92,7 +94,8 @@ problem_listed other = refl
 
 -- each flag is read back from the sum of the bits of the flags
 router_flags : (managed other : Bool)
-    → (is_set (from_bool managed * 128 + from_bool other * 64) 128 ≡ managed) × (is_set (from_bool managed * 128 + from_bool other * 64) 64 ≡ other)
+    → (is_set (from_bool managed * 128 + from_bool other * 64) 128 ≡ managed)
+    × (is_set (from_bool managed * 128 + from_bool other * 64) 64 ≡ other)
 router_flags false false = (refl, refl)
 router_flags false true = (refl, refl)
 router_flags true false = (refl, refl)
@@ -148,7 +151,8 @@ same_header fields message is four =
       raw = λ none.
           let raw : Unknown fields.type_u8 fields.code_u8 fields.bytes4to7 ≡ message =
           from_some _ message (ap (λ k. message_in (record fields { kind = k })) (sym none) ∙ is) in
-          subst (λ m. ((written m).type ≡ fields.type_u8) × ((written m).code ≡ fields.code_u8) × (take 4 (written m).fields ≡ fields.bytes4to7)) raw
+          subst (λ m. ((written m).type ≡ fields.type_u8) × ((written m).code ≡ fields.code_u8)
+          × (take 4 (written m).fields ≡ fields.bytes4to7)) raw
           (refl, refl, take_all 4 fields.bytes4to7 (omega (arith, four)));
     }
 
@@ -161,8 +165,10 @@ same_within fields message packet payload true error is four read accepted = cc
 same_within fields message packet payload false error is four read accepted =
     subst (IsSameHeader fields) (sym (ap (λ found. found.header) read.1)) (same_header fields message is four)
 
-pub is_same : (fields : EtherparseIcmpv6Header) (message : Icmpv6Type) (packet payload : List ℕ) → message_in fields ≡ Some message → length fields.bytes4to7 ≡ 4
-    → IsReadAs message packet (reads_back message fields.checksum payload) → refusal packet ≡ None → IsSameHeader fields (packet_of packet).header
+pub is_same : (fields : EtherparseIcmpv6Header) (message : Icmpv6Type) (packet payload : List ℕ) → message_in fields ≡ Some message
+    → length fields.bytes4to7 ≡ 4
+    → IsReadAs message packet (reads_back message fields.checksum payload) → refusal packet ≡ None
+    → IsSameHeader fields (packet_of packet).header
 is_same fields message packet payload is four read accepted = same_within fields message packet payload _ _ is four read accepted
 
 -- ---- the buffer
@@ -181,8 +187,10 @@ front message checksum buffer len fit read within =
     (is_read_as message checksum payload _ (omega (arith, fields_len message fit)) (read payload)))
 
 pub buffer_read : (fields : EtherparseIcmpv6Header) (message : Icmpv6Type) (made buffer after : List ℕ) (written before len : ℕ)
-    → message_in fields ≡ Some message → FieldsFit message → length fields.bytes4to7 ≡ 4 → made ≡ wire (icmpv6_header message fields.checksum)
-    → ((payload : List ℕ) → part.IsReadAs (wire (icmpv6_header message fields.checksum) ++ payload) (reads_back message fields.checksum payload))
+    → message_in fields ≡ Some message → FieldsFit message → length fields.bytes4to7 ≡ 4
+    → made ≡ wire (icmpv6_header message fields.checksum)
+    → ((payload : List ℕ) → part.IsReadAs (wire (icmpv6_header message fields.checksum) ++ payload)
+    (reads_back message fields.checksum payload))
     → write_refusal fields.checksum (message_in fields) (length buffer) ≡ None
     → after ≡ unless_refused (no_room (length made) (length buffer)) (at_front made buffer) buffer
     → written ≡ unless_refused (no_room (length made) (length buffer)) (length made) before → written ≤ len
@@ -190,7 +198,8 @@ pub buffer_read : (fields : EtherparseIcmpv6Header) (message : Icmpv6Type) (made
     × (refusal (take len after) ≡ None → IsSameHeader fields (packet_of (take len after)).header)
 buffer_read fields message made buffer after written before len is fit four same read accepted is_after is_written within =
     let header = wire (icmpv6_header message fields.checksum) in
-    let room : no_room (length header) (length buffer) ≡ None = subst (λ m. write_refusal fields.checksum m (length buffer) ≡ None) is accepted in
+    let room : no_room (length header) (length buffer) ≡ None =
+    subst (λ m. write_refusal fields.checksum m (length buffer) ≡ None) is accepted in
     let stands = written_front header made buffer after written before same room is_after is_written in
     let back : ReadsBack fields.checksum (Some message) (take len after) =
     subst (λ b. ReadsBack fields.checksum (Some message) (take len b)) (sym stands.0)

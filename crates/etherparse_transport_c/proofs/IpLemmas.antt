@@ -77,5 +77,7 @@ payload_in missing packet headers read within =
 
 -- if a packet contains a transport, it contains the payload of the transport
 pub has_payload : (packet : List ℕ) (carried : TransportInIp) (before : EtherparseIpTransport) → Carries packet carried
-    → HasPayload carried.is_length_missing packet (found carried.is_length_missing packet (headers_of carried.is_length_missing packet) before)
-has_payload packet carried before carries = rw carries.read (payload_in carried.is_length_missing packet carries.headers carries.read carries.within)
+    → HasPayload carried.is_length_missing packet
+    (found carried.is_length_missing packet (headers_of carried.is_length_missing packet) before)
+has_payload packet carried before carries =
+    rw carries.read (payload_in carried.is_length_missing packet carries.headers carries.read carries.within)

@@ -16,7 +16,8 @@ refusal_by_headers packet carried carries =
 
 -- the call in C reports about a transport what the headers of its packet state
 pub told_of_carried : (packet : List ℕ) (carried : TransportInIp) (carries : Carries packet carried) (told : EtherparseIpTransport)
-    → ((before : EtherparseIpTransport) → told ≡ found carried.is_length_missing packet (headers_of carried.is_length_missing packet) before)
+    → ((before : EtherparseIpTransport) → told ≡ found carried.is_length_missing packet
+    (headers_of carried.is_length_missing packet) before)
     → told ≡ transport_in carried.is_length_missing packet carries.headers
 told_of_carried packet carried carries told is =
     is told ∙ ap (λ headers. found carried.is_length_missing packet headers told) carries.read

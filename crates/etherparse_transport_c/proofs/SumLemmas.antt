@@ -34,7 +34,8 @@ folded_times_in_sum value n = grind (arith, folded-none, folded-some)
 
 -- a sum with its two bytes swapped folds like 256 times the sum
 swapped_in_sum : (value n : ℕ) → folded (value + (n % 256 * 256 + n / 256)) ≡ folded (value + n * 256)
-swapped_in_sum value n = sym (folded_congruent (value + n * 256) (value + (n % 256 * 256 + n / 256)) (n / 256) (omega arith) (λ z. omega arith))
+swapped_in_sum value n = sym (folded_congruent (value + n * 256) (value + (n % 256 * 256 + n / 256)) (n / 256) (omega arith)
+    (λ z. omega arith))
 
 -- if the two bytes of a part's sum are swapped, the result is the sum of the part at an odd place
 pub swapped_sum : (value sum : ℕ) (bytes : List ℕ) → sum ≡ folded (0 + total bytes)
@@ -59,10 +60,12 @@ total-append_odd (byte ∷ []) back odd = omega (arith, total_after_byte byte ba
 total-append_odd (high ∷ (low ∷ front)) back odd = omega (arith, total-append_odd front back (omega arith))
 
 -- the sums of two parts, one after the other, give the sum of all their bytes
-total_joined : (offset : ℕ) (front back : List ℕ) → length front % 2 ≡ offset % 2 → total (front ++ back) ≡ total front + total_at offset back
+total_joined : (offset : ℕ) (front back : List ℕ) → length front % 2 ≡ offset % 2
+    → total (front ++ back) ≡ total front + total_at offset back
 total_joined offset front back parity = grind (arith, nat_tests, total-append front back, total-append_odd front back)
 
-pub joins : (offset value result : ℕ) (before bytes : List ℕ) → result ≡ folded (value + total_at offset bytes) → length before % 2 ≡ offset % 2
+pub joins : (offset value result : ℕ) (before bytes : List ℕ) → result ≡ folded (value + total_at offset bytes)
+    → length before % 2 ≡ offset % 2
     → value ≡ folded (total before) → result ≡ folded (total (before ++ bytes))
 joins offset value result before bytes is parity sums =
     is ∙ ap (λ n. folded (n + total_at offset bytes)) sums ∙ folded-add (total before) (total_at offset bytes)

@@ -44,7 +44,8 @@ too_long_above len more = grind (arith, nat_tests)
 
 -- more than 40 options are refused with the length of all options
 pub many_refused : (options : List EtherparseTcpOption) (found : List TcpOptionElement) (needed : ℕ) → gathered [] options ≡ Ok found
-    → max_options_len < length found → needed ≡ saturated (length (join found)) → options_refusal options ≡ Some (of_options (NotEnoughSpace needed))
+    → max_options_len < length found → needed ≡ saturated (length (join found))
+    → options_refusal options ≡ Some (of_options (NotEnoughSpace needed))
 many_refused options found needed whole many is =
     ap refusal_of whole ∙ ap (λ len. option_map of_options (too_long len)) (sym is)
     ∙ ap (option_map of_options) (too_long_above needed (omega (arith, many, is, join_len found)))

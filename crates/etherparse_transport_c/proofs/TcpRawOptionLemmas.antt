@@ -22,7 +22,8 @@ seam options before after from (Some (Ok option)) is reads =
     (sym (take-append-drop from options) ∙ ap (λ b. take from options ++ b) (sym is ∙ reads.spelled)
     ∙ sym (append_assoc (take from options) (raw_spelling option) after))
 
-pub reads_from : (options before after : List ℕ) (from : ℕ) (item : Option RawItem) → before ≡ drop from options → ReadsRawNext before item after
+pub reads_from : (options before after : List ℕ) (from : ℕ) (item : Option RawItem) → before ≡ drop from options
+    → ReadsRawNext before item after
     → ReadsRawNext (drop from options) item (drop (length options - length after) options)
 reads_from options before after from item is reads =
     subst (λ b. ReadsRawNext b item (drop (length options - length after) options)) is

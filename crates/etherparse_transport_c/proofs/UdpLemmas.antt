@@ -52,7 +52,8 @@ field-with_checksum (a ∷ (b ∷ (c ∷ []))) checksum enough small = absurd (o
 field-with_checksum (a ∷ (b ∷ (c ∷ (d ∷ [])))) checksum enough small = absurd (omega arith)
 field-with_checksum (a ∷ (b ∷ (c ∷ (d ∷ (e ∷ []))))) checksum enough small = absurd (omega arith)
 
-pub built_ipv4 : (source destination packet : List ℕ) (checksum : ℕ) → 8 ≤ length packet → length packet ≤ max_len_over_ipv4 → checksum < 65536
+pub built_ipv4 : (source destination packet : List ℕ) (checksum : ℕ) → 8 ≤ length packet → length packet ≤ max_len_over_ipv4
+    → checksum < 65536
     → checksum ≡ udp_checksum_of (checksummed_ipv4 source destination packet)
     → IsValidUdpIpv4 source destination (with_checksum 6 packet checksum)
 built_ipv4 source destination packet checksum enough counted small is =
@@ -63,7 +64,8 @@ built_ipv4 source destination packet checksum enough counted small is =
 stores_no_zero : (n checksum : ℕ) → checksum ≡ udp_checksum_of n → checksum ≢ 0
 stores_no_zero n checksum is none = absurd (grind (arith, nat_tests))
 
-pub built_ipv6 : (source destination packet : List ℕ) (checksum : ℕ) → 8 ≤ length packet → length packet ≤ max_len_over_ipv6 → checksum < 65536
+pub built_ipv6 : (source destination packet : List ℕ) (checksum : ℕ) → 8 ≤ length packet → length packet ≤ max_len_over_ipv6
+    → checksum < 65536
     → checksum ≡ udp_checksum_of (checksummed_ipv6 source destination packet)
     → IsValidUdpIpv6 source destination (with_checksum 6 packet checksum)
 built_ipv6 source destination packet checksum enough counted small is =
@@ -116,7 +118,8 @@ refusal-with_checksum value_type limit bytes checksum enough whole =
     rw (strict, cut_len) refl
 
 -- after a checksum is stored, the packet has a checksum
-present : (bytes : List ℕ) (sum checksum : ℕ) → 8 ≤ length bytes → 8 ≤ length (cut bytes) → checksum < 65536 → checksum ≡ udp_checksum_of sum
+present : (bytes : List ℕ) (sum checksum : ℕ) → 8 ≤ length bytes → 8 ≤ length (cut bytes) → checksum < 65536
+    → checksum ≡ udp_checksum_of sum
     → has_no_checksum (cut (with_checksum 6 bytes checksum)) ≡ false
 present bytes sum checksum enough whole small is =
     let field : checksum_field (cut (with_checksum 6 bytes checksum)) ≡ checksum =
@@ -138,14 +141,17 @@ enough_at value_type limit bytes accepted =
     let enough : 8 ≤ length bytes = grind (arith, nat_tests) in
     (enough, enough_cut bytes _ enough refl)
 
-pub enough_ipv4 : (bytes : List ℕ) → checksum_refusal UdpPayloadLengthIpv4 max_payload_len bytes ≡ None → (8 ≤ length bytes) × (8 ≤ length (cut bytes))
+pub enough_ipv4 : (bytes : List ℕ) → checksum_refusal UdpPayloadLengthIpv4 max_payload_len bytes ≡ None
+    → (8 ≤ length bytes) × (8 ≤ length (cut bytes))
 enough_ipv4 bytes accepted = enough_at UdpPayloadLengthIpv4 max_payload_len bytes accepted
 
-pub enough_ipv6 : (bytes : List ℕ) → checksum_refusal UdpPayloadLengthIpv6 max_payload_len_of_32_bits bytes ≡ None → (8 ≤ length bytes) × (8 ≤ length (cut bytes))
+pub enough_ipv6 : (bytes : List ℕ) → checksum_refusal UdpPayloadLengthIpv6 max_payload_len_of_32_bits bytes ≡ None
+    → (8 ≤ length bytes) × (8 ≤ length (cut bytes))
 enough_ipv6 bytes accepted = enough_at UdpPayloadLengthIpv6 max_payload_len_of_32_bits bytes accepted
 
 pub passes_ipv4 : (source destination bytes : List ℕ) (checksum : ℕ) → 8 ≤ length bytes → 8 ≤ length (cut bytes) → checksum < 65536
-    → checksum ≡ udp_checksum_of (checksummed_ipv4 source destination (cut bytes)) → checksum_refusal UdpPayloadLengthIpv4 max_payload_len bytes ≡ None
+    → checksum ≡ udp_checksum_of (checksummed_ipv4 source destination (cut bytes))
+    → checksum_refusal UdpPayloadLengthIpv4 max_payload_len bytes ≡ None
     → IsValidUdpIpv4 source destination (with_checksum 6 (cut bytes) checksum)
     → Answers (TestTellsIpv4 source destination (with_checksum 6 bytes checksum)) numbers.status_ok
 passes_ipv4 source destination bytes checksum enough whole small is accepted valid =
@@ -194,7 +200,8 @@ agrees_ipv6 source destination packet fits enough same_len = covers (ipv6_pseudo
 
 -- ---- a header that is written
 
-pub reads_back : (fields : EtherparseUdpHeader) (buffer : List ℕ) → DecodesAs (wire (header_in fields) ++ drop 8 buffer) (header_in fields) (drop 8 buffer)
+pub reads_back : (fields : EtherparseUdpHeader) (buffer : List ℕ)
+    → DecodesAs (wire (header_in fields) ++ drop 8 buffer) (header_in fields) (drop 8 buffer)
     → fields_of (header_of (at_front (wire (header_in fields)) buffer)) ≡ fields
 unfolding at_front
 reads_back fields buffer decodes = ap fields_of (sym decodes.fields)

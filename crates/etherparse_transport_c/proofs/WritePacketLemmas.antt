@@ -45,7 +45,8 @@ ipv4_written header message found rest new old len message_none header_is payloa
     let none : ipv4_write_refusal its_header payload (length old) ≡ None =
     sym (by_parts (λ h p. ipv4_write_refusal h p (length old)) found its_header rest payload header_is payload_is) ∙ packet_none in
     kept (ipv4_refusal header message (length old)) (ipv4_bytes header message) new old len
-    (none_of (message_refusal header.protocol (proto_over_ipv4 header.protocol) message) (ipv4_write_refusal its_header payload (length old)) message_none none)
+    (none_of (message_refusal header.protocol (proto_over_ipv4 header.protocol) message)
+    (ipv4_write_refusal its_header payload (length old)) message_none none)
     (len_is ∙ ap length bytes_are) (is ∙ ap (λ bytes. bytes ++ drop len old) bytes_are)
 
 pub ipv6_written : (header : EtherparseIpv6Header) (message : List ℕ) (found : TransportHeader) (rest new old : List ℕ) (len : ℕ)
@@ -64,7 +65,8 @@ ipv6_written header message found rest new old len message_none header_is payloa
     let none : ipv6_write_refusal its_header payload (length old) ≡ None =
     sym (by_parts (λ h p. ipv6_write_refusal h p (length old)) found its_header rest payload header_is payload_is) ∙ packet_none in
     kept (ipv6_refusal header message (length old)) (ipv6_bytes header message) new old len
-    (none_of (message_refusal header.next_header (proto_over_ipv6 header.next_header) message) (ipv6_write_refusal its_header payload (length old)) message_none none)
+    (none_of (message_refusal header.next_header (proto_over_ipv6 header.next_header) message)
+    (ipv6_write_refusal its_header payload (length old)) message_none none)
     (len_is ∙ ap length bytes_are) (is ∙ ap (λ bytes. bytes ++ drop len old) bytes_are)
 
 -- the packet is read back as these parts, whatever padding follows it

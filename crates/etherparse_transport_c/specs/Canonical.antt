@@ -27,4 +27,5 @@ canonical_bytes (Some protocol) bytes = take ((layout_of protocol bytes).header_
 abbrev pub refusal : ℕ → Option Proto → List ℕ → ℕ → Option EtherparseError
 refusal number None bytes room = Some (of_protocol number)
 refusal number (Some protocol) bytes room =
-    first_refusal (option_map of_header_slice (formats.refusal protocol bytes)) (no_room (length (canonical_bytes (Some protocol) bytes)) room)
+    first_refusal (option_map of_header_slice (formats.refusal protocol bytes))
+    (no_room (length (canonical_bytes (Some protocol) bytes)) room)

@@ -181,7 +181,8 @@ answer_echo_error_in error =
 -- the reason why a packet is not translated: its protocol, its transport header, its ICMP message, or the packet that it quotes
 abbrev pub translate_error_in : EtherparseError → Option TranslateError
 translate_error_in error =
-    if error.status == numbers.status_translate_protocol then option_map (λ number. translate.Protocol (record { 0 = number })) (byte_in error.actual)
+    if error.status == numbers.status_translate_protocol
+    then option_map (λ number. translate.Protocol (record { 0 = number })) (byte_in error.actual)
     else if error.status == numbers.status_translate_header_cut_off then Some (translate.HeaderCutOff error.required_len error.len)
     else if error.status == numbers.status_translate_icmp_message then Some translate.IcmpMessage
     else if error.status == numbers.status_translate_quoted_packet then Some translate.QuotedPacket

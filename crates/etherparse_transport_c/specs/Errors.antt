@@ -103,7 +103,8 @@ of_len error = record nothing {
 -- the error for a refused transport header: a wrong length, or a TCP data offset that is too small
 abbrev pub of_header_slice : HeaderSliceError → EtherparseError
 of_header_slice (Len error) = of_len error
-of_header_slice (Content (DataOffsetTooSmall data_offset)) = record nothing { status = numbers.status_data_offset; data_offset = data_offset }
+of_header_slice (Content (DataOffsetTooSmall data_offset)) =
+    record nothing { status = numbers.status_data_offset; data_offset = data_offset }
 
 -- the error for a value that is too big
 abbrev pub of_value : ValueTooBigError ℕ → EtherparseError
@@ -136,7 +137,8 @@ of_options (NotEnoughSpace len) = record nothing { status = numbers.status_optio
 
 -- the error for an option of a known kind that can't be read
 abbrev pub of_option : TcpOptionReadError → EtherparseError
-of_option (UnexpectedEndOfSlice kind expected left) = record nothing { status = numbers.status_option_cut_off; option_kind = kind; required_len = expected; len = left }
+of_option (UnexpectedEndOfSlice kind expected left) =
+    record nothing { status = numbers.status_option_cut_off; option_kind = kind; required_len = expected; len = left }
 of_option (UnexpectedSize kind size) = record nothing { status = numbers.status_option_size; option_kind = kind; option_size = size }
 of_option (UnknownId kind) = record nothing { status = numbers.status_option_unknown; option_kind = kind }
 

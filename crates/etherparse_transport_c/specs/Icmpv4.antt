@@ -56,7 +56,8 @@ timestamp_fields kind message = record nothing {
 abbrev pub message_fields : Icmpv4Type → EtherparseIcmpv4Header
 message_fields (Unknown type code fields) = record nothing { kind = numbers.icmpv4_kind_unknown }
 message_fields (EchoReply echo) = echo_fields numbers.icmpv4_kind_echo_reply echo
-message_fields (DestinationUnreachable header) = record nothing { kind = numbers.icmpv4_kind_destination_unreachable; next_hop_mtu = icmpv4.next_hop_mtu header }
+message_fields (DestinationUnreachable header) =
+    record nothing { kind = numbers.icmpv4_kind_destination_unreachable; next_hop_mtu = icmpv4.next_hop_mtu header }
 message_fields (Redirect header) = record nothing { kind = numbers.icmpv4_kind_redirect }
 message_fields (EchoRequest echo) = echo_fields numbers.icmpv4_kind_echo_request echo
 message_fields (TimeExceeded code) = record nothing { kind = numbers.icmpv4_kind_time_exceeded }
@@ -123,11 +124,17 @@ abbrev pub message_in : EtherparseIcmpv4Header → Option Icmpv4Type
 message_in fields =
     if fields.kind == numbers.icmpv4_kind_unknown then Some (Unknown fields.type_u8 fields.code_u8 fields.bytes4to7)
     else if fields.kind == numbers.icmpv4_kind_echo_reply then Some (EchoReply (echo_in fields))
-    else if fields.kind == numbers.icmpv4_kind_destination_unreachable then option_map DestinationUnreachable (listed icmpv4.dest_unreachable_formats fields.code_u8 (with_next_hop_mtu fields.next_hop_mtu))
-    else if fields.kind == numbers.icmpv4_kind_redirect then option_map (λ code. Redirect (record { code = code; gateway_internet_address = fields.bytes4to7 })) (slice_get icmpv4.redirect_codes fields.code_u8)
+    else if fields.kind == numbers.icmpv4_kind_destination_unreachable
+    then option_map DestinationUnreachable (listed icmpv4.dest_unreachable_formats fields.code_u8
+    (with_next_hop_mtu fields.next_hop_mtu))
+    else if fields.kind == numbers.icmpv4_kind_redirect
+    then option_map (λ code. Redirect (record { code = code; gateway_internet_address = fields.bytes4to7 }))
+    (slice_get icmpv4.redirect_codes fields.code_u8)
     else if fields.kind == numbers.icmpv4_kind_echo_request then Some (EchoRequest (echo_in fields))
-    else if fields.kind == numbers.icmpv4_kind_time_exceeded then option_map TimeExceeded (slice_get icmpv4.time_exceeded_codes fields.code_u8)
-    else if fields.kind == numbers.icmpv4_kind_parameter_problem then option_map ParameterProblem (listed icmpv4.parameter_problem_formats fields.code_u8 (with_pointer fields.pointer))
+    else if fields.kind == numbers.icmpv4_kind_time_exceeded
+    then option_map TimeExceeded (slice_get icmpv4.time_exceeded_codes fields.code_u8)
+    else if fields.kind == numbers.icmpv4_kind_parameter_problem
+    then option_map ParameterProblem (listed icmpv4.parameter_problem_formats fields.code_u8 (with_pointer fields.pointer))
     else if fields.kind == numbers.icmpv4_kind_timestamp_request then Some (TimestampRequest (timestamp_in fields))
     else if fields.kind == numbers.icmpv4_kind_timestamp_reply then Some (TimestampReply (timestamp_in fields))
     else None

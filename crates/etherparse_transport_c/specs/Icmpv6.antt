@@ -131,10 +131,14 @@ neighbor_in fields = record {
 abbrev pub message_in : EtherparseIcmpv6Header → Option Icmpv6Type
 message_in fields =
     if fields.kind == numbers.icmpv6_kind_unknown then Some (Unknown fields.type_u8 fields.code_u8 fields.bytes4to7)
-    else if fields.kind == numbers.icmpv6_kind_destination_unreachable then option_map DestinationUnreachable (slice_get icmpv6.dest_unreachable_codes fields.code_u8)
+    else if fields.kind == numbers.icmpv6_kind_destination_unreachable
+    then option_map DestinationUnreachable (slice_get icmpv6.dest_unreachable_codes fields.code_u8)
     else if fields.kind == numbers.icmpv6_kind_packet_too_big then Some (PacketTooBig fields.mtu)
-    else if fields.kind == numbers.icmpv6_kind_time_exceeded then option_map TimeExceeded (slice_get icmpv6.time_exceeded_codes fields.code_u8)
-    else if fields.kind == numbers.icmpv6_kind_parameter_problem then option_map (λ code. ParameterProblem (record { code = code; pointer = fields.pointer })) (slice_get icmpv6.parameter_problem_codes fields.code_u8)
+    else if fields.kind == numbers.icmpv6_kind_time_exceeded
+    then option_map TimeExceeded (slice_get icmpv6.time_exceeded_codes fields.code_u8)
+    else if fields.kind == numbers.icmpv6_kind_parameter_problem
+    then option_map (λ code. ParameterProblem (record { code = code; pointer = fields.pointer }))
+    (slice_get icmpv6.parameter_problem_codes fields.code_u8)
     else if fields.kind == numbers.icmpv6_kind_echo_request then Some (EchoRequest (echo_in fields))
     else if fields.kind == numbers.icmpv6_kind_echo_reply then Some (EchoReply (echo_in fields))
     else if fields.kind == numbers.icmpv6_kind_router_solicitation then Some RouterSolicitation

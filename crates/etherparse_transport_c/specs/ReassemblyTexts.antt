@@ -11,13 +11,15 @@ use Rattle.etherparse_transport_c.specs.declared.error.EtherparseError.{Etherpar
 -- the text for a length that counts more bytes than are left
 abbrev pub lengths_text : ℕ → ℕ → List ℕ
 lengths_text required_len len = concat (
-    codes "Reassembly Error: the next packet has " ∷ decimal required_len ∷ codes " bytes, and " ∷ decimal len ∷ codes " bytes are left." ∷ [])
+    codes "Reassembly Error: the next packet has " ∷ decimal required_len ∷ codes " bytes, and " ∷ decimal len ∷ codes " bytes are left."
+    ∷ [])
 
 -- the text of an error whose status begins with REASSEMBLY; a text for any other status
 unfoldable pub joining_text : EtherparseError → List ℕ
 joining_text error =
     if error.status == numbers.status_reassembly_no_fragment then codes "Reassembly Error: the packet is not a fragment."
-    else if error.status == numbers.status_reassembly_header_chain_cut_off then fragment_text (HeaderChainCutOff error.required_len error.len)
+    else if error.status == numbers.status_reassembly_header_chain_cut_off
+    then fragment_text (HeaderChainCutOff error.required_len error.len)
     else if error.status == numbers.status_reassembly_other_key then reassembly_text OtherKey
     else if error.status == numbers.status_reassembly_empty then reassembly_text Empty
     else if error.status == numbers.status_reassembly_fragment_length then reassembly_text (LengthNotMultipleOf8 error.len)

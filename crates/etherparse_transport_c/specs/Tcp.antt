@@ -84,7 +84,8 @@ packet_of bytes = record {
 -- the first refusal that applies: the options have more than 40 bytes, or the flags are above 0x1ff
 abbrev pub fields_refusal : EtherparseTcpHeader → List ℕ → Option EtherparseError
 fields_refusal fields options =
-    first_refusal (option_map of_options (too_long (length options))) (refused_if (nat_lt numbers.tcp_flags fields.flags) (of_flags fields.flags))
+    first_refusal (option_map of_options (too_long (length options)))
+    (refused_if (nat_lt numbers.tcp_flags fields.flags) (of_flags fields.flags))
 
 -- the refusal to write a header: its options or flags are refused, or the buffer is too small
 abbrev pub write_refusal : EtherparseTcpHeader → List ℕ → ℕ → Option EtherparseError
@@ -145,10 +146,12 @@ edge_count (Some block ∷ more) = 2 + edge_count more
 -- the option with the kind and the values of an element
 abbrev pub option_of : TcpOptionElement → EtherparseTcpOption
 option_of Noop = record { kind = numbers.tcp_option_noop; value_count = 0; values = replicate 8 0 }
-option_of (MaximumSegmentSize size) = record { kind = numbers.tcp_option_maximum_segment_size; value_count = 1; values = size ∷ replicate 7 0 }
+option_of (MaximumSegmentSize size) =
+    record { kind = numbers.tcp_option_maximum_segment_size; value_count = 1; values = size ∷ replicate 7 0 }
 option_of (WindowScale shift) = record { kind = numbers.tcp_option_window_scale; value_count = 1; values = shift ∷ replicate 7 0 }
 option_of SelectiveAcknowledgementPermitted = record { kind = numbers.tcp_option_sack_permitted; value_count = 0; values = replicate 8 0 }
-option_of (SelectiveAcknowledgement first more) = record { kind = numbers.tcp_option_sack; value_count = 2 + edge_count more; values = first.0 ∷ first.1 ∷ all_edges more }
+option_of (SelectiveAcknowledgement first more) =
+    record { kind = numbers.tcp_option_sack; value_count = 2 + edge_count more; values = first.0 ∷ first.1 ∷ all_edges more }
 option_of (Timestamp value echo) = record { kind = numbers.tcp_option_timestamp; value_count = 2; values = value ∷ echo ∷ replicate 6 0 }
 
 -- the status of a call that read this item, or `OPTIONS_END` if no option is left

@@ -80,9 +80,11 @@ has_no_checksum packet = be_number packet 6 2 == 0
 -- the status of the test of the UDP packet over IPv4 at the front of some bytes
 abbrev pub TestTellsIpv4 : List ℕ → List ℕ → List ℕ → ℕ → Type 0
 TestTellsIpv4 source destination bytes status =
-    Tells (checksum_refusal UdpPayloadLengthIpv4 max_payload_len bytes) (has_no_checksum (cut bytes)) (IsValidUdpIpv4 source destination (cut bytes)) status
+    Tells (checksum_refusal UdpPayloadLengthIpv4 max_payload_len bytes) (has_no_checksum (cut bytes))
+    (IsValidUdpIpv4 source destination (cut bytes)) status
 
 -- the status of the test of the UDP packet over IPv6 at the front of some bytes
 abbrev pub TestTellsIpv6 : List ℕ → List ℕ → List ℕ → ℕ → Type 0
 TestTellsIpv6 source destination bytes status =
-    Tells (checksum_refusal UdpPayloadLengthIpv6 max_payload_len_of_32_bits bytes) (has_no_checksum (cut bytes)) (IsValidUdpIpv6 source destination (cut bytes)) status
+    Tells (checksum_refusal UdpPayloadLengthIpv6 max_payload_len_of_32_bits bytes) (has_no_checksum (cut bytes))
+    (IsValidUdpIpv6 source destination (cut bytes)) status

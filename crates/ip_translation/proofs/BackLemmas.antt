@@ -59,7 +59,8 @@ checksum_small bytes place fits = omega (arith, fits (place + 0), fits (place + 
 pub udp_same : (packet : List ℕ) (removed added removed_too added_too : ℕ) → IsBytes packet → 8 ≤ length packet
     → removed < 65536 → added < 65536 → removed_too ≡ added → added_too ≡ removed
     → with_checksum 6 (with_checksum 6 packet (updated_udp_checksum_of (udp_checksum packet) removed added))
-    (updated_udp_checksum_of (udp_checksum (with_checksum 6 packet (updated_udp_checksum_of (udp_checksum packet) removed added))) removed_too added_too)
+    (updated_udp_checksum_of (udp_checksum (with_checksum 6 packet (updated_udp_checksum_of (udp_checksum packet) removed added)))
+    removed_too added_too)
     ≡ packet
 udp_same packet removed added removed_too added_too fits there small small_too same same_too =
     let checksum : ℕ = udp_checksum packet in
@@ -67,7 +68,8 @@ udp_same packet removed added removed_too added_too fits there small small_too s
     let updated : ℕ = updated_checksum_of checksum removed added in
     let between_small : between < 65536 =
     if_small (checksum == 0) 0 (if updated == 0 then all_ones else updated) (omega arith)
-    (if_small (updated == 0) all_ones updated (omega arith) (complement_small (folded (complement checksum + complement removed + added)))) in
+    (if_small (updated == 0) all_ones updated (omega arith)
+    (complement_small (folded (complement checksum + complement removed + added)))) in
     let stored : udp_checksum (with_checksum 6 packet between) ≡ between = stored_checksum 6 packet between there between_small in
     let again : updated_udp_checksum_of (udp_checksum (with_checksum 6 packet between)) removed_too added_too ≡ checksum =
     ap (λ checksum. updated_udp_checksum_of checksum removed_too added_too) stored
@@ -75,10 +77,12 @@ udp_same packet removed added removed_too added_too fits there small small_too s
     ∙ updated_udp_reversed checksum removed added between (checksum_small packet 6 fits) small small_too refl in
     same_again 6 packet between _ fits there again
 
-pub tcp_same : (segment : List ℕ) (removed added removed_too added_too : ℕ) → IsBytes segment → 18 ≤ length segment → tcp_checksum segment ≢ all_ones
+pub tcp_same : (segment : List ℕ) (removed added removed_too added_too : ℕ) → IsBytes segment → 18 ≤ length segment
+    → tcp_checksum segment ≢ all_ones
     → removed < 65536 → added < 65536 → removed_too ≡ added → added_too ≡ removed
     → with_checksum 16 (with_checksum 16 segment (updated_checksum_of (tcp_checksum segment) removed added))
-    (updated_checksum_of (tcp_checksum (with_checksum 16 segment (updated_checksum_of (tcp_checksum segment) removed added))) removed_too added_too)
+    (updated_checksum_of (tcp_checksum (with_checksum 16 segment (updated_checksum_of (tcp_checksum segment) removed added))) removed_too
+    added_too)
     ≡ segment
 tcp_same segment removed added removed_too added_too fits there some small small_too same same_too =
     let checksum : ℕ = tcp_checksum segment in

@@ -14,7 +14,8 @@ flags_of : (fragment : Option FragmentFields) (identification : ℕ)
 flags_of None identification = refl
 flags_of (Some fields) identification = refl
 
--- No extension header is refused. The packet without its extension headers consists of this header and this message, and these are the fields
+-- No extension header is refused. The packet without its extension headers consists of this header and this message, and these are the
+-- fields
 -- of a fragment.
 pub record IsDirect (identification : ℕ) (header payload direct message : List ℕ) (fields : FragmentFields) : Type 0 where
   pub accepted : error_of (skipped_in header payload) ≡ None
@@ -39,7 +40,8 @@ is_direct identification header payload direct message fields skipped is left ma
 }
 
 -- what holds of this header, this message and these fields
-pub moved : (P : List ℕ → FragmentFields → List ℕ → Type 0) (identification : ℕ) (header payload direct message : List ℕ) (fields : FragmentFields)
+pub moved : (P : List ℕ → FragmentFields → List ℕ → Type 0) (identification : ℕ) (header payload direct message : List ℕ)
+    (fields : FragmentFields)
     → IsDirect identification header payload direct message fields
     → P direct fields message → P (direct_in header payload) (fields_in identification header payload) (message_in header payload)
 moved P identification header payload direct message fields is holds =

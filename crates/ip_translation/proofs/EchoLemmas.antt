@@ -59,6 +59,7 @@ turns change old new rest removed added =
     ∙ ap (λ n. folded ((new + rest) + n)) (sym removed)
 
 -- the sum of the translated message is not 0
-pub some_sum : (new : List ℕ) (sum checksum : ℕ) → ((new ≡ []) ⊎ (0 < total new)) → (new ≡ [] → checksum ≢ 0) → total new + (sum + checksum) ≢ 0
+pub some_sum : (new : List ℕ) (sum checksum : ℕ) → ((new ≡ []) ⊎ (0 < total new)) → (new ≡ [] → checksum ≢ 0)
+    → total new + (sum + checksum) ≢ 0
 some_sum new sum checksum (inl empty) some = λ none. some empty (omega (arith, none))
 some_sum new sum checksum (inr positive) some = λ none. omega (arith, none, positive)

@@ -49,31 +49,38 @@ extracted_back (Bits96 start) ipv4 len four =
     subst₂ (λ start ipv4. extracted (Bits96 start) (embedded (Bits96 start) ipv4) ≡ ipv4) (whole start 11 len) (whole ipv4 4 four) refl
 
 -- an address that begins with the prefix is embedded again, with a suffix of zeros
-pub embedded_again : (prefix : Prefix64) (address : List ℕ) → length address ≡ 16 → take (octet_count prefix) (without_reserved address) ≡ octets prefix
+pub embedded_again : (prefix : Prefix64) (address : List ℕ) → length address ≡ 16
+    → take (octet_count prefix) (without_reserved address) ≡ octets prefix
     → embedded prefix (extracted prefix address) ≡ with_zero_suffix prefix address
 embedded_again (Bits32 start) address sixteen begins =
     subst (λ start. embedded (Bits32 start) (extracted (Bits32 start) address) ≡ with_zero_suffix (Bits32 start) address) begins
-    (subst (λ address. embedded (Bits32 (take 4 (without_reserved address))) (extracted (Bits32 (take 4 (without_reserved address))) address)
+    (subst (λ address. embedded (Bits32 (take 4 (without_reserved address)))
+    (extracted (Bits32 (take 4 (without_reserved address))) address)
     ≡ with_zero_suffix (Bits32 (take 4 (without_reserved address))) address) (whole address 16 sixteen) refl)
 embedded_again (Bits40 start) address sixteen begins =
     subst (λ start. embedded (Bits40 start) (extracted (Bits40 start) address) ≡ with_zero_suffix (Bits40 start) address) begins
-    (subst (λ address. embedded (Bits40 (take 5 (without_reserved address))) (extracted (Bits40 (take 5 (without_reserved address))) address)
+    (subst (λ address. embedded (Bits40 (take 5 (without_reserved address)))
+    (extracted (Bits40 (take 5 (without_reserved address))) address)
     ≡ with_zero_suffix (Bits40 (take 5 (without_reserved address))) address) (whole address 16 sixteen) refl)
 embedded_again (Bits48 start) address sixteen begins =
     subst (λ start. embedded (Bits48 start) (extracted (Bits48 start) address) ≡ with_zero_suffix (Bits48 start) address) begins
-    (subst (λ address. embedded (Bits48 (take 6 (without_reserved address))) (extracted (Bits48 (take 6 (without_reserved address))) address)
+    (subst (λ address. embedded (Bits48 (take 6 (without_reserved address)))
+    (extracted (Bits48 (take 6 (without_reserved address))) address)
     ≡ with_zero_suffix (Bits48 (take 6 (without_reserved address))) address) (whole address 16 sixteen) refl)
 embedded_again (Bits56 start) address sixteen begins =
     subst (λ start. embedded (Bits56 start) (extracted (Bits56 start) address) ≡ with_zero_suffix (Bits56 start) address) begins
-    (subst (λ address. embedded (Bits56 (take 7 (without_reserved address))) (extracted (Bits56 (take 7 (without_reserved address))) address)
+    (subst (λ address. embedded (Bits56 (take 7 (without_reserved address)))
+    (extracted (Bits56 (take 7 (without_reserved address))) address)
     ≡ with_zero_suffix (Bits56 (take 7 (without_reserved address))) address) (whole address 16 sixteen) refl)
 embedded_again (Bits64 start) address sixteen begins =
     subst (λ start. embedded (Bits64 start) (extracted (Bits64 start) address) ≡ with_zero_suffix (Bits64 start) address) begins
-    (subst (λ address. embedded (Bits64 (take 8 (without_reserved address))) (extracted (Bits64 (take 8 (without_reserved address))) address)
+    (subst (λ address. embedded (Bits64 (take 8 (without_reserved address)))
+    (extracted (Bits64 (take 8 (without_reserved address))) address)
     ≡ with_zero_suffix (Bits64 (take 8 (without_reserved address))) address) (whole address 16 sixteen) refl)
 embedded_again (Bits96 start) address sixteen begins =
     subst (λ start. embedded (Bits96 start) (extracted (Bits96 start) address) ≡ with_zero_suffix (Bits96 start) address) begins
-    (subst (λ address. embedded (Bits96 (take 11 (without_reserved address))) (extracted (Bits96 (take 11 (without_reserved address))) address)
+    (subst (λ address. embedded (Bits96 (take 11 (without_reserved address)))
+    (extracted (Bits96 (take 11 (without_reserved address))) address)
     ≡ with_zero_suffix (Bits96 (take 11 (without_reserved address))) address) (whole address 16 sixteen) refl)
 
 -- an address that passes the test begins with the prefix

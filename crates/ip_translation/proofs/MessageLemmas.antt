@@ -28,7 +28,8 @@ module _ (place count : ℕ) (bytes missing : List ℕ) (counted : place + 2 ≤
   front_len = grind (arith, length-take)
 
   -- the checksum is replaced in the received bytes
-  pub received_with : (value : ℕ) → received count (with_checksum place bytes value) missing ≡ with_checksum place (received count bytes missing) value
+  pub received_with : (value : ℕ) → received count (with_checksum place bytes value) missing
+      ≡ with_checksum place (received count bytes missing) value
   received_with value =
       ap (λ front. front ++ missing) (taken value)
       ∙ sym (with_checksum-append place (take count bytes) missing value front_len)
@@ -51,7 +52,8 @@ module _ (place count : ℕ) (bytes missing : List ℕ) (counted : place + 2 ≤
 pub alike : (old new place result count : ℕ) (bytes missing : List ℕ) → IsBytes bytes → place % 2 ≡ 0 → result < 65536
     → place + 2 ≤ count → place + 2 ≤ length bytes
     → ((rest : ℕ) → (IsAllOnes (new + rest + result)) ↔ (IsAllOnes (old + rest + be_number bytes place 2)))
-    → (IsAllOnes (new + total (take count (with_checksum place bytes result) ++ missing))) ↔ (IsAllOnes (old + total (take count bytes ++ missing)))
+    → (IsAllOnes (new + total (take count (with_checksum place bytes result) ++ missing)))
+    ↔ (IsAllOnes (old + total (take count bytes ++ missing)))
 alike old new place result count bytes missing fits even small counted there both =
     let rest : ℕ = rest_total place (received count bytes missing) in
     let now = received_total place count bytes missing counted there result even small in
@@ -72,5 +74,6 @@ computed new place len checksum bytes fits even small counted there none right =
     ∙ received_total place len bytes [] counted there checksum even small in
     let was : total (take len bytes) ≡ rest_total place (received len bytes []) + be_number bytes place 2 =
     ap total (sym (append-nil (take len bytes))) ∙ kept_total place len bytes [] counted there fits even in
-    let sum : new + total (take len bytes) + checksum ≡ new + total (take len (with_checksum place bytes checksum)) = omega (arith, is, was, none) in
+    let sum : new + total (take len bytes) + checksum ≡ new + total (take len (with_checksum place bytes checksum)) =
+    omega (arith, is, was, none) in
     ap folded (sym sum) ∙ udp_checksum_verifies (new + total (take len bytes)) checksum right

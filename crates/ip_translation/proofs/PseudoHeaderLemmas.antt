@@ -11,7 +11,12 @@ use Rattle.word_sum.proofs.ChecksumLemmas.{total-append_twice}
 pub total_ipv4 : (source destination : List ℕ) (protocol len : ℕ) → length source ≡ 4 → length destination ≡ 4 → len ≤ max_len_over_ipv4
     → total (ipv4_pseudo_header source destination protocol len) ≡ total source + (total destination + (protocol + len))
 total_ipv4 source destination protocol len four four_too short =
-    omega (arith, short, total-append_twice source destination (0 ∷ protocol ∷ to_be_bytes w16 len) (omega (arith, four)) (omega (arith, four_too)))
+    omega (
+      arith,
+      short,
+      total-append_twice source destination (0 ∷ protocol ∷ to_be_bytes w16 len) (omega (arith, four))
+          (omega (arith, four_too)),
+    )
 
 -- over IPv6
 pub total_ipv6 : (source destination : List ℕ) (protocol len : ℕ) → length source ≡ 16 → length destination ≡ 16 → len ≤ max_len_over_ipv4
@@ -20,7 +25,8 @@ total_ipv6 source destination protocol len sixteen sixteen_too short =
     omega (
       arith,
       short,
-      total-append_twice source destination (to_be_bytes w32 len ++ (0 ∷ 0 ∷ 0 ∷ protocol ∷ [])) (omega (arith, sixteen)) (omega (arith, sixteen_too)),
+      total-append_twice source destination (to_be_bytes w32 len ++ (0 ∷ 0 ∷ 0 ∷ protocol ∷ [])) (omega (arith, sixteen))
+          (omega (arith, sixteen_too)),
     )
 
 -- replacing the source and then the destination turns one pseudo header into the other
@@ -31,7 +37,8 @@ pub turns : (empty first both : ChecksumChange) (old_source old_destination new_
     → IsExtendedBy first old_destination new_destination both
     → TurnsInto both (total (ipv4_pseudo_header old_source old_destination protocol len) + rest)
     (total (ipv6_pseudo_header new_source new_destination protocol len) + rest)
-turns empty first both old_source old_destination new_source new_destination protocol len rest four four_too sixteen sixteen_too short same extends extends_too =
+turns empty first both old_source old_destination new_source new_destination protocol len rest four four_too sixteen sixteen_too short same
+    extends extends_too =
     let before : ℕ = total (ipv4_pseudo_header old_source old_destination protocol len) + rest in
     let after : ℕ = total (ipv6_pseudo_header new_source new_destination protocol len) + rest in
     let between : ℕ = total new_source + (total old_destination + (protocol + len)) + rest in

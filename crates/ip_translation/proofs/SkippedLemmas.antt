@@ -8,7 +8,8 @@ use Rattle.ip_translation.specs.declared.skipped_headers.SkippedHeaders.{Skipped
 -- the headers after another header is skipped
 extended : (more : ℕ) (skipped : SkippedHeaders) (payload : List ℕ) → is_skipped skipped.number ≡ true
     → skipped_from (suc more) skipped payload
-    ≡ unless_refused (skipped_refusal skipped (drop skipped.len payload)) (skipped_from more (skipped_after skipped (skipped_header (drop skipped.len payload))) payload)
+    ≡ unless_refused (skipped_refusal skipped (drop skipped.len payload))
+    (skipped_from more (skipped_after skipped (skipped_header (drop skipped.len payload))) payload)
 unfolding skipped_from
 extended more skipped payload is = rw is refl
 
@@ -42,11 +43,13 @@ reached_next_in (suc more) first skipped payload header within room same is none
       within = omega (arith, within, there, length-drop skipped.len payload);
       room = omega (arith, room, shortest);
       same = same ∙ extended more skipped payload is
-          ∙ ap (λ refusal. unless_refused refusal (skipped_from more (skipped_after skipped (skipped_header (drop skipped.len payload))) payload)) none
+          ∙ ap (λ refusal. unless_refused refusal (skipped_from more (skipped_after skipped (skipped_header (drop skipped.len payload)))
+          payload)) none
           ∙ ap (λ header. skipped_from more (skipped_after skipped header) payload) (sym kept);
     }
 
-pub reached_next : (first skipped : SkippedHeaders) (payload rest header : List ℕ) → rest ≡ drop skipped.len payload → IsReached first skipped payload
+pub reached_next : (first skipped : SkippedHeaders) (payload rest header : List ℕ) → rest ≡ drop skipped.len payload
+    → IsReached first skipped payload
     → is_skipped skipped.number ≡ true → skipped_refusal skipped rest ≡ None → header ≡ skipped_header rest
     → 8 ≤ length header → length header ≤ length rest
     → IsReached first (skipped_after skipped header) payload
@@ -54,7 +57,8 @@ reached_next first skipped payload rest header left reached is none kept shortes
     let P : List ℕ → Type 0 = λ rest. skipped_refusal skipped rest ≡ None → header ≡ skipped_header rest
     → length header ≤ length rest → IsReached first (skipped_after skipped header) payload in
     subst P (sym left)
-    (λ none kept there. reached_next_in reached.more first skipped payload header reached.within reached.room reached.same is none kept shortest there)
+    (λ none kept there. reached_next_in reached.more first skipped payload header reached.within reached.room reached.same is none kept
+    shortest there)
     none kept there
 
 refused_in : (more : ℕ) (first skipped : SkippedHeaders) (payload : List ℕ) (error : PacketTranslationError)
@@ -65,7 +69,8 @@ refused_in : (more : ℕ) (first skipped : SkippedHeaders) (payload : List ℕ) 
 refused_in zero first skipped payload error within room same is refuses = absurd (omega (arith, within, room))
 refused_in (suc more) first skipped payload error within room same is refuses =
     same ∙ extended more skipped payload is
-    ∙ ap (λ refusal. unless_refused refusal (skipped_from more (skipped_after skipped (skipped_header (drop skipped.len payload))) payload)) refuses
+    ∙ ap (λ refusal. unless_refused refusal (skipped_from more (skipped_after skipped (skipped_header (drop skipped.len payload))) payload))
+    refuses
 
 pub refused_at : (first skipped : SkippedHeaders) (payload rest : List ℕ) (error : PacketTranslationError) → rest ≡ drop skipped.len payload
     → IsReached first skipped payload → is_skipped skipped.number ≡ true → skipped_refusal skipped rest ≡ Some error

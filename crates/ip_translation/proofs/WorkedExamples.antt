@@ -153,12 +153,14 @@ unfolding header other_prefixes prefix_48
 header_translated = refl
 
 -- a checksum that is 1 less than the right checksum
-wrong_checksum : header_refusal other_prefixes (0x45 ∷ 0xb9 ∷ 0 ∷ 31 ∷ 0x12 ∷ 0x34 ∷ 0x40 ∷ 0 ∷ 64 ∷ 17 ∷ 0x3b ∷ 0x84 ∷ 192 ∷ 0 ∷ 2 ∷ 33 ∷ 198 ∷ 51 ∷ 100 ∷ 7 ∷ [])
+wrong_checksum : header_refusal other_prefixes
+    (0x45 ∷ 0xb9 ∷ 0 ∷ 31 ∷ 0x12 ∷ 0x34 ∷ 0x40 ∷ 0 ∷ 64 ∷ 17 ∷ 0x3b ∷ 0x84 ∷ 192 ∷ 0 ∷ 2 ∷ 33 ∷ 198 ∷ 51 ∷ 100 ∷ 7 ∷ [])
     ≡ Some HeaderChecksum
 unfolding folded other_prefixes prefix_48
 wrong_checksum = refl
 
 -- a packet to the multicast address 224.51.100.7
-multicast : addresses_refusal (0x45 ∷ 0xb9 ∷ 0 ∷ 31 ∷ 0x12 ∷ 0x34 ∷ 0x40 ∷ 0 ∷ 64 ∷ 17 ∷ 0x21 ∷ 0x85 ∷ 192 ∷ 0 ∷ 2 ∷ 33 ∷ 224 ∷ 51 ∷ 100 ∷ 7 ∷ [])
+multicast : addresses_refusal (0x45 ∷ 0xb9 ∷ 0 ∷ 31 ∷ 0x12 ∷ 0x34 ∷ 0x40 ∷ 0 ∷ 64 ∷ 17 ∷ 0x21 ∷ 0x85 ∷ 192 ∷ 0 ∷ 2 ∷ 33 ∷ 224 ∷ 51 ∷ 100 ∷ 7
+    ∷ [])
     ≡ Some IllegalDestination
 multicast = refl

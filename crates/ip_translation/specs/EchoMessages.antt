@@ -49,7 +49,8 @@ with_type type message = slice_set message 0 type
 -- the checksum, updated for the new type and for the new pseudo header; the pseudo header of ICMPv4 is empty
 abbrev pub updated_checksum : ℕ → List ℕ → List ℕ → List ℕ → ℕ
 updated_checksum type old new message =
-    updated_checksum_of (icmp_checksum message) (folded (type_and_code message + total old)) (folded (first_word type (slice_index message 1) + total new))
+    updated_checksum_of (icmp_checksum message) (folded (type_and_code message + total old))
+    (folded (first_word type (slice_index message 1) + total new))
 
 -- The checksum of the translated message. Without a pseudo header, all other bytes of a reply may be 0. Then its checksum must be all ones,
 -- but the update returns 0 (RFC 1624). So 0 is replaced by all ones. In any other message a receiver accepts both values.

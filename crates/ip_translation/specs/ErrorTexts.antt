@@ -26,7 +26,8 @@ prefix_text SuffixBits = codes "Prefix Error: a bit after the prefix is not 0."
 -- the text for a header that is not translated
 abbrev pub translation_text : TranslationError → List ℕ
 translation_text (TotalLength total_len header_len) = concat (
-    codes "Translation Error: the total length " ∷ decimal total_len ∷ codes " is below the header length " ∷ decimal header_len ∷ codes "." ∷ [])
+    codes "Translation Error: the total length " ∷ decimal total_len ∷ codes " is below the header length " ∷ decimal header_len ∷ codes "."
+    ∷ [])
 translation_text HeaderChecksum = codes "Translation Error: the checksum of the IPv4 header is wrong."
 translation_text Fragment = codes "Translation Error: the packet is a fragment."
 translation_text SourceRoute = codes "Translation Error: the IPv4 options contain a source route."
@@ -48,7 +49,8 @@ packet_text (Header error) = translation_text error
 packet_text (CutOff total_len len) = concat (
     codes "Translation Error: the total length is " ∷ decimal total_len ∷ codes ", and there are " ∷ decimal len ∷ codes " bytes." ∷ [])
 packet_text (IcmpMessage type code) = concat (
-    codes "Translation Error: an ICMP message of type " ∷ decimal type ∷ codes " and code " ∷ decimal code ∷ codes " is not translated." ∷ [])
+    codes "Translation Error: an ICMP message of type " ∷ decimal type ∷ codes " and code " ∷ decimal code ∷ codes " is not translated."
+    ∷ [])
 packet_text (IcmpExtension length) = concat (
     codes "Translation Error: an ICMP error with an extension, with length field " ∷ decimal length ∷ codes ", is not translated." ∷ [])
 packet_text (IcmpPointer pointer) = concat (
@@ -56,11 +58,14 @@ packet_text (IcmpPointer pointer) = concat (
 packet_text NoQuotedHeader = codes "Translation Error: an ICMP error does not quote an IP header."
 packet_text (QuotedHeader error) = translation_text error
 packet_text (QuotedIcmp type code) = concat (
-    codes "Translation Error: an ICMP error quotes an ICMP message of type " ∷ decimal type ∷ codes " and code " ∷ decimal code ∷ codes "." ∷ [])
+    codes "Translation Error: an ICMP error quotes an ICMP message of type " ∷ decimal type ∷ codes " and code " ∷ decimal code ∷ codes "."
+    ∷ [])
 packet_text (TransportHeader required_len len) = concat (
-    codes "Translation Error: the transport header has " ∷ decimal required_len ∷ codes " bytes, and there are " ∷ decimal len ∷ codes "." ∷ [])
+    codes "Translation Error: the transport header has " ∷ decimal required_len ∷ codes " bytes, and there are " ∷ decimal len ∷ codes "."
+    ∷ [])
 packet_text (UdpLength length len) = concat (
-    codes "Translation Error: a UDP packet of " ∷ decimal len ∷ codes " bytes without a checksum has the length field " ∷ decimal length ∷ codes "." ∷ [])
+    codes "Translation Error: a UDP packet of " ∷ decimal len ∷ codes " bytes without a checksum has the length field " ∷ decimal length
+    ∷ codes "." ∷ [])
 packet_text NoUdpChecksum = codes "Translation Error: a UDP packet over IPv6 has no checksum."
 packet_text (Space required_len len) = concat (
     codes "Space Error: " ∷ decimal required_len ∷ codes " bytes are needed, and there is room for " ∷ decimal len ∷ codes "." ∷ [])

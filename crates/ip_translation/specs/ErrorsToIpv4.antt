@@ -20,7 +20,8 @@ use Rattle.ip_translation.specs.declared.prefixes.Prefixes.{Prefixes}
 
 -- ---- type and code
 
--- the message has an extension: byte 4 of "destination unreachable" and "time exceeded" counts words of the quoted packet (RFC 4884, section
+-- the message has an extension: byte 4 of "destination unreachable" and "time exceeded" counts words of the quoted packet (RFC 4884,
+-- section
 -- 4)
 abbrev pub has_extension : List ℕ → Bool
 has_extension message = (slice_index message 0 == 1 || slice_index message 0 == 3) && not (slice_index message 4 == 0)
@@ -71,7 +72,8 @@ quoted_ipv6 message = ipv6_header (quote_of message)
 abbrev pub quoted_message : List ℕ → List ℕ → List ℕ
 quoted_message quoted quote = take max_quoted_len (drop 40 (take (40 + payload_len quoted) quote))
 
--- The error of a quoted message of this protocol. At least eight bytes are needed, as over IPv4. An ICMPv6 error must not be about an ICMPv6
+-- The error of a quoted message of this protocol. At least eight bytes are needed, as over IPv4. An ICMPv6 error must not be about an
+-- ICMPv6
 -- error (RFC 4443, section 2.4). So an ICMPv6 message must be an echo message.
 abbrev pub quoted_message_refusal : ℕ → List ℕ → Option PacketTranslationError
 quoted_message_refusal protocol message =
@@ -83,7 +85,8 @@ quoted_message_refusal protocol message =
 -- the quoted bytes contain the first eight bytes of a message of ICMPv6, UDP or TCP
 abbrev pub HasQuotedHeader : ℕ → List ℕ → Type 0
 HasQuotedHeader protocol message =
-    (protocol ≡ icmpv6_number → 8 ≤ length message) × ((protocol ≡ udp_number → 8 ≤ length message) × (protocol ≡ tcp_number → 8 ≤ length message))
+    (protocol ≡ icmpv6_number → 8 ≤ length message)
+    × ((protocol ≡ udp_number → 8 ≤ length message) × (protocol ≡ tcp_number → 8 ≤ length message))
 
 -- a quoted UDP packet; if it has no checksum, it stays without one
 abbrev pub quoted_udp : Prefixes → List ℕ → List ℕ → List ℕ
@@ -139,7 +142,8 @@ error_about quoted new_kind prefixes message = joined new_kind (word new_kind me
 abbrev pub error_without_checksum : Prefixes → List ℕ → List ℕ
 error_without_checksum prefixes message = error_about (quoted_ipv6 message) (kind message) (exchanged prefixes) message
 
--- An error with its checksum, if `error` is this error with 0 instead of its checksum. The checksum is that of the ICMPv6 error, updated for
+-- An error with its checksum, if `error` is this error with 0 instead of its checksum. The checksum is that of the ICMPv6 error, updated
+-- for
 -- all words of both messages, and without a pseudo header. The ICMPv6 error is the payload of a packet with this IPv6 header.
 abbrev pub with_new_checksum : List ℕ → List ℕ → List ℕ → List ℕ
 with_new_checksum header message error = with_checksum icmp_checksum_place error

@@ -45,7 +45,8 @@ pointer_refusal new_kind message =
     else None)
     else None
 
--- The word after the checksum: the MTU of "packet too big", or the pointer of a parameter problem. The message "protocol unreachable" becomes
+-- The word after the checksum: the MTU of "packet too big", or the pointer of a parameter problem. The message "protocol unreachable"
+-- becomes
 -- a parameter problem with a pointer to the next header. `total_len` is the total length of the quoted packet.
 abbrev pub word : ℕ × ℕ → List ℕ → ℕ → ℕ
 word new_kind message total_len =
@@ -59,11 +60,13 @@ word new_kind message total_len =
 abbrev pub quoted_ipv4 : List ℕ → List ℕ
 quoted_ipv4 message = ipv4_header (quote_of message)
 
--- the bytes of the quoted message: the bytes after this header of the quoted packet, up to its total length, as far as there is room for them
+-- the bytes of the quoted message: the bytes after this header of the quoted packet, up to its total length, as far as there is room for
+-- them
 abbrev pub quoted_message : List ℕ → List ℕ → List ℕ
 quoted_message quoted quote = take max_quoted_len (drop (ipv4_header_len quoted) (take (total_len quoted) quote))
 
--- The error of a quoted message of this protocol. An ICMP error quotes at least eight bytes of a message (RFC 792), and it must not be about
+-- The error of a quoted message of this protocol. An ICMP error quotes at least eight bytes of a message (RFC 792), and it must not be
+-- about
 -- an ICMP error. So an ICMP message must be an echo message.
 abbrev pub quoted_message_refusal : ℕ → List ℕ → Option PacketTranslationError
 quoted_message_refusal protocol message =
@@ -75,7 +78,8 @@ quoted_message_refusal protocol message =
 -- the quoted bytes contain the first eight bytes of a message of ICMP, UDP or TCP
 abbrev pub HasQuotedHeader : ℕ → List ℕ → Type 0
 HasQuotedHeader protocol message =
-    (protocol ≡ icmpv4_number → 8 ≤ length message) × ((protocol ≡ udp_number → 8 ≤ length message) × (protocol ≡ tcp_number → 8 ≤ length message))
+    (protocol ≡ icmpv4_number → 8 ≤ length message)
+    × ((protocol ≡ udp_number → 8 ≤ length message) × (protocol ≡ tcp_number → 8 ≤ length message))
 
 -- a quoted UDP packet; if it has no checksum, it stays without one, since bytes may be missing
 abbrev pub quoted_udp : Prefixes → List ℕ → List ℕ → List ℕ
@@ -122,7 +126,8 @@ error_refusal prefixes message = first_of (
     ∷ refusal_about (quoted_ipv4 message) (kind message) (exchanged prefixes) message
     ∷ [])
 
--- the ICMPv6 error of this kind about a packet with this header, with 0 instead of its checksum; the prefixes are those of the quoted packet
+-- the ICMPv6 error of this kind about a packet with this header, with 0 instead of its checksum; the prefixes are those of the quoted
+-- packet
 abbrev pub error_about : List ℕ → ℕ × ℕ → Prefixes → List ℕ → List ℕ
 error_about quoted new_kind prefixes message = joined new_kind (to_be_bytes w32 (word new_kind message (total_len quoted)))
     (quoted_header prefixes quoted) (translated_quote prefixes quoted (quoted_message quoted (quote_of message)))

@@ -81,7 +81,8 @@ embedding_refusal prefixes header = first_of (
 abbrev pub header_refusal : Prefixes → List ℕ → Option TranslationError
 header_refusal prefixes header = first_of (field_refusal header ∷ embedding_refusal prefixes header ∷ [])
 
--- The first error about the fields of the header of a quoted packet. Its checksum and its time to live are not checked, since routers change
+-- The first error about the fields of the header of a quoted packet. Its checksum and its time to live are not checked, since routers
+-- change
 -- them. It has no source route, since this translator never sends one.
 abbrev pub quoted_field_refusal : List ℕ → Option TranslationError
 quoted_field_refusal header = first_of (

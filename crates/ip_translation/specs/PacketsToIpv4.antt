@@ -86,7 +86,8 @@ abbrev pub direct_refusal : List ℕ → Prefixes → Option ℕ → List ℕ �
 direct_refusal header prefixes flags message room =
     if is_part flags then part_refusal header prefixes flags message room else whole_refusal header prefixes message room
 
--- The first error of a packet with this header and this payload. An extension header is refused, or the packet without its extension headers
+-- The first error of a packet with this header and this payload. An extension header is refused, or the packet without its extension
+-- headers
 -- is refused.
 abbrev pub payload_refusal : List ℕ → Prefixes → List ℕ → ℕ → Option PacketTranslationError
 payload_refusal header prefixes payload room = first_of (
@@ -164,7 +165,8 @@ abbrev pub direct_len : List ℕ → Prefixes → Option ℕ → List ℕ → �
 direct_len header prefixes flags message =
     if is_part flags then 20 + length message else translated_len header prefixes message
 
--- The translation of a packet that begins with an IPv6 header. Its extension headers are skipped (RFC 7915, section 5.1). If it has no fragment
+-- The translation of a packet that begins with an IPv6 header. Its extension headers are skipped (RFC 7915, section 5.1). If it has no
+-- fragment
 -- header, the IPv4 header has this identification.
 abbrev pub translated_packet : Prefixes → ℕ → List ℕ → List ℕ
 translated_packet prefixes identification packet =
@@ -197,8 +199,10 @@ pub record AreAcceptedAlike (prefixes : Prefixes) (header message : List ℕ) : 
   pub other : is_icmp_error (next_header header) message ≡ false
       → IsAcceptedAlike prefixes header message (updated_message prefixes header message)
 
--- A receiver accepts the message of the translated packet exactly if it accepts the message of the packet. For the first of several fragments,
+-- A receiver accepts the message of the translated packet exactly if it accepts the message of the packet. For the first of several
+-- fragments,
 -- `VerifiesAlike` allows any bytes after its part of the message. A later fragment has no checksum.
 pub record IsPacketAlike (prefixes : Prefixes) (header : List ℕ) (flags : Option ℕ) (message : List ℕ) : Type 0 where
   pub whole : is_part flags ≡ false → AreAcceptedAlike prefixes header message
-  pub first : is_part flags ≡ true → is_later flags ≡ false → IsAcceptedAlike prefixes header message (updated_message prefixes header message)
+  pub first : is_part flags ≡ true → is_later flags ≡ false
+      → IsAcceptedAlike prefixes header message (updated_message prefixes header message)

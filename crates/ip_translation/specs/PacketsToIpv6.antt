@@ -94,7 +94,8 @@ packet_refusal prefixes packet room = first_of (
 abbrev pub new_udp_checksum : Prefixes → List ℕ → List ℕ → ℕ
 new_udp_checksum prefixes header packet =
     if udp_checksum packet == 0
-    then udp_checksum_of (total (new_pseudo_header prefixes header udp_number (udp_length packet)) + total (take (udp_length packet) packet))
+    then udp_checksum_of (total (new_pseudo_header prefixes header udp_number (udp_length packet))
+    + total (take (udp_length packet) packet))
     else updated_udp_checksum_of (udp_checksum packet) (removed_addresses header) (added_addresses prefixes header)
 
 -- the checksum of a TCP segment, updated for the new addresses
@@ -116,7 +117,8 @@ translated_icmp prefixes header message =
     translated_echo (unwrap_or (type_over_ipv6 (slice_index message 0)) (slice_index message 0)) []
     (new_pseudo_header prefixes header icmpv6_number (length message)) message
 
--- the translation of a message that is no ICMP error; its length stays, and a message of a protocol other than ICMP, UDP and TCP is unchanged
+-- the translation of a message that is no ICMP error; its length stays, and a message of a protocol other than ICMP, UDP and TCP is
+-- unchanged
 abbrev pub updated_message : Prefixes → List ℕ → List ℕ → List ℕ
 updated_message prefixes header message =
     if protocol header == icmpv4_number then translated_icmp prefixes header message

@@ -58,14 +58,16 @@ skipped_from (suc more) skipped payload =
 abbrev pub none_skipped : ℕ → SkippedHeaders
 none_skipped number = record { number = number; len = 0; fragment = None }
 
--- The headers that are skipped in the payload after an IPv6 header with this next header. Each header has at least 8 bytes, so the number of
+-- The headers that are skipped in the payload after an IPv6 header with this next header. Each header has at least 8 bytes, so the number
+-- of
 -- bytes limits the number of headers.
 abbrev pub skipped_headers : ℕ → List ℕ → Result SkippedHeaders PacketTranslationError
 skipped_headers number payload = skipped_from (suc (length payload)) (none_skipped number) payload
 
 -- ---- the fragment header (RFC 8200, section 4.5)
 
--- The error of a fragment header at the front of `rest`. It is cut off, or the number of another extension header follows it. RFC 7915, section
+-- The error of a fragment header at the front of `rest`. It is cut off, or the number of another extension header follows it. RFC 7915,
+-- section
 -- 5.1.1, drops such a packet. `is_extension` does not contain the number of Encapsulating Security Payload.
 abbrev pub fragment_header_refusal : List ℕ → Option PacketTranslationError
 fragment_header_refusal rest = first_of (
@@ -73,7 +75,8 @@ fragment_header_refusal rest = first_of (
     ∷ refused_if (is_extension (next_number rest)) (Header (ExtensionHeader (next_number rest)))
     ∷ [])
 
--- The fields of the IPv4 header for this fragment header (RFC 7915, section 5.1.1): the low 16 bits of the identification, and the flag "more
+-- The fields of the IPv4 header for this fragment header (RFC 7915, section 5.1.1): the low 16 bits of the identification, and the flag
+-- "more
 -- fragments" before the fragment offset. "Don't fragment" is 0.
 abbrev pub fields_by : List ℕ → FragmentFields
 fields_by rest = record {

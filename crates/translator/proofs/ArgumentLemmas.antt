@@ -41,7 +41,8 @@ matches_of_command_line app words matches is_line has fits =
 
 -- the name of the capture as the code finds it
 pub named : (read file : Option (Bor Text))
-    → option_map (λ name. name.now) (option_or read file) ≡ capture_name (option_map (λ name. name.now) read) (option_map (λ name. name.now) file)
+    → option_map (λ name. name.now) (option_or read file)
+    ≡ capture_name (option_map (λ name. name.now) read) (option_map (λ name. name.now) file)
 named None file = refl
 named (Some read) file = refl
 
@@ -67,9 +68,11 @@ module _ {X A : Type 0} (f : X → List A) where
 
 -- the texts up to a place, and the text at the place
 texts_more : (values : List (Bor Text)) (place : ℕ) (none : Bor Text) → place < length values
-    → map (λ value. value.now) (take (place + 1) values) ≡ map (λ value. value.now) (take place values) ++ (get_or values place none).now ∷ []
+    → map (λ value. value.now) (take (place + 1) values) ≡ map (λ value. value.now) (take place values) ++ (get_or values place none).now
+    ∷ []
 texts_more values place none within =
-    ap (map (λ value. value.now)) (take_more values place none within) ∙ map-append (λ value. value.now) (take place values) (get_or values place none ∷ [])
+    ap (map (λ value. value.now)) (take_more values place none within)
+    ∙ map-append (λ value. value.now) (take place values) (get_or values place none ∷ [])
 
 -- ---- networks
 
@@ -85,7 +88,8 @@ adds_none values same is =
     })
 
 -- values and more values add their replacements one after the other
-adds_after : (values more : List Text) (before middle after : Replacements) → AddsNetworks values before middle → AddsNetworks more middle after
+adds_after : (values more : List Text) (before middle after : Replacements) → AddsNetworks values before middle
+    → AddsNetworks more middle after
     → AddsNetworks (values ++ more) before after
 adds_after values more before middle after first second = record {
   read = first.read ++ second.read;
@@ -96,7 +100,8 @@ adds_after values more before middle after first second = record {
 }
 
 -- a value adds its replacement
-adds_single : (value : Text) (read : NetworkReplacement × Bool) (before after : Replacements) → IsNetworks value read → AddsOne read before after
+adds_single : (value : Text) (read : NetworkReplacement × Bool) (before after : Replacements) → IsNetworks value read
+    → AddsOne read before after
     → AddsNetworks (value ∷ []) before after
 adds_single value read before after is adds = record {
   read = read ∷ [];
@@ -107,7 +112,8 @@ adds_single value read before after is adds = record {
 }
 
 -- after the values before a place, the value at the place adds its replacement
-pub adds_next : (values : List (Bor Text)) (place : ℕ) (none : Bor Text) (read : NetworkReplacement × Bool) (before middle after : Replacements)
+pub adds_next : (values : List (Bor Text)) (place : ℕ) (none : Bor Text) (read : NetworkReplacement × Bool)
+    (before middle after : Replacements)
     → place < length values → AddsNetworks (map (λ value. value.now) (take place values)) before middle
     → IsNetworks (get_or values place none).now read → AddsOne read middle after
     → AddsNetworks (map (λ value. value.now) (take (place + 1) values)) before after
@@ -138,7 +144,8 @@ adds_next_port values place none read before middle after within first is ipv4 i
     subst (λ given. AddsPorts given before after) (sym (texts_more values place none within))
     (record {
       read = first.read ++ read ∷ [];
-      are_read = read_after IsPorts (map (λ value. value.now) (take place values)) ((get_or values place none).now ∷ []) first.read (read ∷ [])
+      are_read = read_after IsPorts (map (λ value. value.now) (take place values)) ((get_or values place none).now ∷ []) first.read
+          (read ∷ [])
           first.are_read (is, tt);
       ipv4 = ipv4 ∙ first.ipv4;
       ipv6 = ipv6 ∙ first.ipv6;

@@ -73,7 +73,8 @@ accepted_read section first bytes read splits within accepted =
 -- a range of the first bytes is a range of all bytes
 range_front : (a b : ℕ) (first more : List ℕ) → a ≤ b → b ≤ length first → slice_range (first ++ more) a b ≡ slice_range first a b
 range_front a b first more order within =
-    sym (range_within a b (length first) (first ++ more) order within) ∙ ap (λ bytes. slice_range bytes a b) (take_at first more (length first) refl)
+    sym (range_within a b (length first) (first ++ more) order within)
+    ∙ ap (λ bytes. slice_range bytes a b) (take_at first more (length first) refl)
 
 body_front : (header : BlockHeader) (read more : List ℕ) → 12 ≤ header.total_len → length read ≡ min header.total_len max_packet_len
     → kept_body header (read ++ more) ≡ kept_body header read
@@ -100,9 +101,11 @@ where_grown table packet part more translates = record {
   after = translates.after;
   result = translates.result;
   translates = subst (λ frame. TranslatesCaptured table packet.link_type packet.byte_order frame translates.after translates.result)
-      (sym (range_front packet.start (packet.start + packet.captured_len) part.read more (omega arith) translates.within)) translates.translates;
+      (sym (range_front packet.start (packet.start + packet.captured_len) part.read more (omega arith) translates.within))
+      translates.translates;
   is_written = ap (λ bytes. bytes ++ more) translates.is_written
-      ∙ written_grown packet.start (packet.start + packet.captured_len) part.read translates.after more (omega (arith, translates.within)) translates.within;
+      ∙ written_grown packet.start (packet.start + packet.captured_len) part.read translates.after more
+      (omega (arith, translates.within)) translates.within;
   outcome = translates.outcome;
 }
 
@@ -113,21 +116,26 @@ taken_grown table total_len (Ok (Some packet)) part more has = where_grown table
 taken_grown table total_len (Err error) part more has = (has.0, (ap (λ bytes. bytes ++ more) has.1.0, has.1.1))
 
 takes_grown : (before after : Section) (header : BlockHeader) (read more : List ℕ) (taken : Result (Option CapturedPacket) PacketError)
-    → 12 ≤ length read → header ≡ block_header before.byte_order read → 12 ≤ header.total_len → length read ≡ min header.total_len max_packet_len
+    → 12 ≤ length read → header ≡ block_header before.byte_order read → 12 ≤ header.total_len
+    → length read ≡ min header.total_len max_packet_len
     → TakesBlock before header (kept_body header read) after taken → TakesKept before (read ++ more) after taken
 takes_grown before after header read more taken within is least kept takes =
-    subst (λ given. TakesBlock before given (kept_body given (read ++ more)) after taken) (is ∙ sym (block_header_front before.byte_order read more within))
+    subst (λ given. TakesBlock before given (kept_body given (read ++ more)) after taken)
+    (is ∙ sym (block_header_front before.byte_order read more within))
     (subst (λ body. TakesBlock before header body after taken) (sym (body_front header read more least kept)) takes)
 
 -- the packet in a block, whose first bytes are `read`, was translated
-pub block_translated : (table : Table) (before after : Section) (header : BlockHeader) (read written more : List ℕ) (outcome : Option (Result Done Reason))
-    → 12 ≤ length read → header ≡ block_header before.byte_order read → 12 ≤ header.total_len → length read ≡ min header.total_len max_packet_len
+pub block_translated : (table : Table) (before after : Section) (header : BlockHeader) (read written more : List ℕ)
+    (outcome : Option (Result Done Reason))
+    → 12 ≤ length read → header ≡ block_header before.byte_order read → 12 ≤ header.total_len
+    → length read ≡ min header.total_len max_packet_len
     → TranslatesKept table before header read written after (Ok outcome)
     → TranslatesBlock table before (record { read = read ++ more; written = written ++ more; outcome = outcome }) after
 block_translated table before after header read written more outcome within is least kept translates = record {
   taken = translates.0;
   takes = takes_grown before after header read more translates.0 within is least kept translates.1;
-  has_outcome = subst (λ total_len. HasTaken table total_len translates.0 (record { read = read ++ more; written = written ++ more; outcome = outcome }))
+  has_outcome = subst (λ total_len. HasTaken table total_len translates.0
+      (record { read = read ++ more; written = written ++ more; outcome = outcome }))
       (ap (λ given. given.total_len) (is ∙ sym (block_header_front before.byte_order read more within)))
       (taken_grown table header.total_len translates.0 (record { read = read; written = written; outcome = outcome }) more translates.2);
 }
@@ -141,7 +149,8 @@ is_long section read more header within is long =
 
 -- a block with room in the buffer
 short_block : (section : ByteOrder) (header : BlockHeader) (read : List ℕ) → 12 ≤ length read → header ≡ block_header section read
-    → length read ≡ min header.total_len max_packet_len → header.total_len ≤ max_packet_len → block_refusal section read ≡ None → IsBlock section read
+    → length read ≡ min header.total_len max_packet_len → header.total_len ≤ max_packet_len → block_refusal section read ≡ None
+    → IsBlock section read
 short_block section header read within is kept short accepted =
     let total = ap (λ given. given.total_len) is in
     let empty : length (read ++ []) ≤ block_len section read = omega (arith, short, kept, total, ap length (append-nil read)) in
@@ -152,7 +161,8 @@ short_block section header read within is kept short accepted =
 
 -- a block is cut off after these first bytes
 cut_next : (section : ByteOrder) (first rest : List ℕ) (header : BlockHeader) (len : ℕ) → 12 ≤ length first
-    → block_header_refusal section first ≡ None → header ≡ block_header section first → len ≡ length (first ++ rest) → len < header.total_len
+    → block_header_refusal section first ≡ None → header ≡ block_header section first → len ≡ length (first ++ rest)
+    → len < header.total_len
     → IsNextBlock section (first ++ rest) [] (Refused (CutOff header.total_len len))
 cut_next section first rest header len within accepted is has_len short =
     next_of section first rest [] (Refused (CutOff header.total_len len))
@@ -172,7 +182,8 @@ abbrev rejected : ℕ → List ℕ → Part
 rejected offset bytes = record { read = bytes; written = written_at offset bytes; outcome = None }
 
 -- the bytes at the place of a block are no block, and were copied
-pub ends_refused : (table : Table) (result : CaptureError) (state : Blocks) (left still_left held now_held : Option (List ℕ)) (counts : Counts)
+pub ends_refused : (table : Table) (result : CaptureError) (state : Blocks) (left still_left held now_held : Option (List ℕ))
+    (counts : Counts)
     (bytes : List ℕ) (error : BlockError)
     → result ≡ capture_errors.Block (record { offset = state.offset; error = errors.Block error }) → Consumes left still_left bytes
     → Appends held now_held (written_at state.offset bytes) → (bytes ≢ []) → block_refusal state.section.byte_order bytes ≡ Some error
@@ -183,7 +194,17 @@ ends_refused table result state left still_left held now_held counts bytes error
     (inr (record {
       then_left = still_left;
       front = rejected state.offset bytes;
-      is_end = (refl, inl (record { reason = error; is_error = refl; some = some; refused = refused; front = inl (not_filled, (refl, refl)) }));
+      is_end = (
+        refl,
+        inl (record {
+          reason =
+              error;
+          is_error = refl;
+          some = some;
+          refused = refused;
+          front = inl (not_filled, (refl, refl));
+        }),
+      );
       consumed = consumed;
       appended = appended;
       counted = refl;
@@ -191,7 +212,8 @@ ends_refused table result state left still_left held now_held counts bytes error
     }))
 
 -- the header of a block is refused
-pub ends_header : (table : Table) (result : CaptureError) (state : Blocks) (left still_left held now_held : Option (List ℕ)) (counts : Counts)
+pub ends_header : (table : Table) (result : CaptureError) (state : Blocks) (left still_left held now_held : Option (List ℕ))
+    (counts : Counts)
     (first : List ℕ) (error : BlockError)
     → result ≡ capture_errors.Block (record { offset = state.offset; error = errors.Block error }) → Consumes left still_left first
     → Appends held now_held (written_at state.offset first) → AreFirst first still_left → 1 ≤ length first
@@ -210,20 +232,25 @@ pub ends_cut : (table : Table) (result : CaptureError) (state : Blocks) (left st
     → 12 ≤ length first → block_header_refusal state.section.byte_order first ≡ None → header ≡ block_header state.section.byte_order first
     → len ≡ length (first ++ rest) → len < min header.total_len max_packet_len → IsAtEnd still_left
     → IsWriteError result ⊎ StopsBy (blocks_of table) result state left still_left held now_held counts counts
-ends_cut table result state left still_left held now_held counts first rest header len is consumed appended within accepted is_header has_len short at_end =
+ends_cut table result state left still_left held now_held counts first rest header len is consumed appended within accepted is_header
+    has_len short at_end =
     let next = cut_next state.section.byte_order first rest header len within accepted is_header has_len (omega (arith, short)) in
     ends_refused table result state left still_left held now_held counts (first ++ rest) (CutOff header.total_len len) is consumed appended
     next.0 next.1 (λ filled. omega (arith, filled.1, has_len, short)) (λ required cut_len cut. at_end)
 
 -- a whole block is refused for its last total length
-pub ends_differs : (table : Table) (result : CaptureError) (state : Blocks) (left still_left held now_held : Option (List ℕ)) (counts : Counts)
+pub ends_differs : (table : Table) (result : CaptureError) (state : Blocks) (left still_left held now_held : Option (List ℕ))
+    (counts : Counts)
     (first rest : List ℕ) (header : BlockHeader) (error : BlockError)
-    → result ≡ capture_errors.Block (record { offset = state.offset; error = errors.Block error }) → Consumes left still_left (first ++ rest)
-    → Appends held now_held (written_at state.offset (first ++ rest)) → 12 ≤ length first → block_header_refusal state.section.byte_order first ≡ None
+    → result ≡ capture_errors.Block (record { offset = state.offset; error = errors.Block error })
+    → Consumes left still_left (first ++ rest)
+    → Appends held now_held (written_at state.offset (first ++ rest)) → 12 ≤ length first
+    → block_header_refusal state.section.byte_order first ≡ None
     → header ≡ block_header state.section.byte_order first → header.total_len ≤ max_packet_len → length (first ++ rest) ≡ header.total_len
     → block_refusal state.section.byte_order (first ++ rest) ≡ Some error
     → IsWriteError result ⊎ StopsBy (blocks_of table) result state left still_left held now_held counts counts
-ends_differs table result state left still_left held now_held counts first rest header error is consumed appended within accepted is_header short whole refused =
+ends_differs table result state left still_left held now_held counts first rest header error is consumed appended within accepted is_header
+    short whole refused =
     let section = state.section.byte_order in
     let total = ap (λ given. given.total_len) is_header in
     ends_refused table result state left still_left held now_held counts (first ++ rest) error is consumed appended
@@ -249,7 +276,8 @@ no_block_unless None before after header body error takes = no_block_in_body bef
 -- a section does not refuse a block as cut off
 leaves_rejected : (before after : Section) (header : BlockHeader) (body : List ℕ) (error : PacketError) (Statement : Type 0)
     → TakesBlock before header body after (Err error) → IfBlockCutOff error Statement
-leaves_rejected before after header body (errors.Block error) Statement takes = absurd (no_block_unless _ before after header body error takes)
+leaves_rejected before after header body (errors.Block error) Statement takes =
+    absurd (no_block_unless _ before after header body error takes)
 leaves_rejected before after header body (errors.Body error) Statement takes = tt
 leaves_rejected before after header body (errors.TooLong block_type total_len) Statement takes = tt
 leaves_rejected before after header body (errors.Interfaces max) Statement takes = tt
@@ -265,15 +293,19 @@ is_kept section header read within is accepted kept whole =
     (cases_lt max_packet_len header.total_len)
 
 -- the section refuses the block that begins with these bytes, which were copied
-pub ends_rejected : (table : Table) (result : CaptureError) (state : Blocks) (after : Section) (left still_left held now_held : Option (List ℕ)) (counts : Counts)
+pub ends_rejected : (table : Table) (result : CaptureError) (state : Blocks) (after : Section)
+    (left still_left held now_held : Option (List ℕ)) (counts : Counts)
     (header : BlockHeader) (first bytes read written : List ℕ) (error : PacketError)
-    → result ≡ capture_errors.Block (record { offset = state.offset; error = error }) → read ≡ first ++ bytes → Consumes left still_left read
-    → Appends held now_held (written_at state.offset written) → 12 ≤ length first → block_header_refusal state.section.byte_order first ≡ None
+    → result ≡ capture_errors.Block (record { offset = state.offset; error = error }) → read ≡ first ++ bytes
+    → Consumes left still_left read
+    → Appends held now_held (written_at state.offset written) → 12 ≤ length first
+    → block_header_refusal state.section.byte_order first ≡ None
     → header ≡ block_header state.section.byte_order first → length read ≡ min header.total_len max_packet_len
     → (header.total_len ≤ max_packet_len → block_refusal state.section.byte_order read ≡ None)
     → TranslatesKept table state.section header read written after (Err error)
     → IsWriteError result ⊎ StopsBy (blocks_of table) result state left still_left held now_held counts counts
-ends_rejected table result state after left still_left held now_held counts header first bytes read written error is splits consumed appended within accepted
+ends_rejected table result state after left still_left held now_held counts header first bytes read written error is splits consumed
+    appended within accepted
     is_header kept whole translates =
     let section = state.section.byte_order in
     let read_within : 12 ≤ length read = omega (arith, ap length splits, length-append first bytes, within) in
@@ -303,13 +335,21 @@ ends_rejected table result state after left still_left held now_held counts head
 
 rest_end : (table : Table) (state : Blocks) (error : CaptureError) (front : Part) (total_len len : ℕ)
     → IsRestEnd total_len state.offset len error → (front.read ≢ [])
-    → block_refusal state.section.byte_order front.read ≡ Some (CutOff total_len (max_packet_len + len)) → IsLongFront table state.section front
+    → block_refusal state.section.byte_order front.read ≡ Some (CutOff total_len (max_packet_len + len))
+    → IsLongFront table state.section front
     → IsBlockEnd table state front error
 rest_end table state (capture_errors.Read offset error) front total_len len is some refused long = (is, inr long)
 rest_end table state (capture_errors.Block placed) front total_len len is some refused long =
     let same : placed ≡ record { offset = state.offset; error = errors.Block (CutOff total_len (max_packet_len + len)) } = cc is in (
       ap (λ given. given.offset) same,
-      inl (record { reason = CutOff total_len (max_packet_len + len); is_error = ap (λ given. given.error) same; some = some; refused = refused; front = inr long }),
+      inl (record {
+        reason = CutOff total_len (max_packet_len + len);
+        is_error =
+            ap (λ given. given.error) same;
+        some = some;
+        refused = refused;
+        front = inr long;
+      }),
     )
 rest_end table state (capture_errors.Header error) front total_len len is some refused long = absurd is
 rest_end table state (capture_errors.RecordCutOff offset required other) front total_len len is some refused long = absurd is
@@ -317,9 +357,11 @@ rest_end table state capture_errors.TooManyParts front total_len len is some ref
 rest_end table state (capture_errors.Write error) front total_len len is some refused long = absurd is
 
 -- the packet of a long block was translated, and then its rest was copied up to an error
-stops_rest : (table : Table) (error : CaptureError) (state : Blocks) (after : Section) (left middle still_left held then_held now_held : Option (List ℕ))
+stops_rest : (table : Table) (error : CaptureError) (state : Blocks) (after : Section)
+    (left middle still_left held then_held now_held : Option (List ℕ))
     (counts now_counts : Counts) (header : BlockHeader) (first bytes read written : List ℕ) (outcome : Option (Result Done Reason))
-    → read ≡ first ++ bytes → 12 ≤ length first → block_header_refusal state.section.byte_order first ≡ None → header ≡ block_header state.section.byte_order first
+    → read ≡ first ++ bytes → 12 ≤ length first → block_header_refusal state.section.byte_order first ≡ None
+    → header ≡ block_header state.section.byte_order first
     → 12 ≤ header.total_len → length read ≡ min header.total_len max_packet_len
     → TranslatesKept table state.section header read written after (Ok outcome) → Consumes left middle read → Appends held then_held written
     → now_counts ≡ counted_if counts outcome → StopsRest header.total_len state.offset error middle still_left then_held now_held
@@ -342,7 +384,13 @@ stops_rest table error state after left middle still_left held then_held now_hel
       then_left = stops.then_left;
       front = front;
       is_end = rest_end table state error front header.total_len stops.len stops.ends next.0 next.1 (
-        ((header_refusal_front section read more read_within ∙ read_accepted, is_long section read more header read_within read_header long), omega (arith, has_len)),
+        (
+          (
+            header_refusal_front section read more read_within ∙ read_accepted,
+            is_long section read more header read_within read_header long,
+          ),
+          omega (arith, has_len),
+        ),
         omega (arith, has_len, stops.within, total, block_len_front section read more read_within),
         after,
         block_translated table state.section after header read written more outcome read_within read_header least kept translates,
@@ -354,14 +402,17 @@ stops_rest table error state after left middle still_left held then_held now_hel
     }
 
 -- the packet of a long block was translated, and then its rest was copied, but the last total length is another number
-stops_differs : (table : Table) (error : CaptureError) (state : Blocks) (after : Section) (left middle still_left held then_held now_held : Option (List ℕ))
+stops_differs : (table : Table) (error : CaptureError) (state : Blocks) (after : Section)
+    (left middle still_left held then_held now_held : Option (List ℕ))
     (counts now_counts : Counts) (header : BlockHeader) (first bytes read written : List ℕ) (outcome : Option (Result Done Reason))
-    → read ≡ first ++ bytes → 12 ≤ length first → block_header_refusal state.section.byte_order first ≡ None → header ≡ block_header state.section.byte_order first
+    → read ≡ first ++ bytes → 12 ≤ length first → block_header_refusal state.section.byte_order first ≡ None
+    → header ≡ block_header state.section.byte_order first
     → 12 ≤ header.total_len → length read ≡ min header.total_len max_packet_len
     → TranslatesKept table state.section header read written after (Ok outcome) → Consumes left middle read → Appends held then_held written
     → now_counts ≡ counted_if counts outcome → DiffersAtEnd header state.offset error middle still_left then_held now_held
     → StopsBy (blocks_of table) error state left still_left held now_held counts now_counts
-stops_differs table error state after left middle still_left held then_held now_held counts now_counts header first bytes read written outcome
+stops_differs table error state after left middle still_left held then_held now_held counts now_counts header first bytes read written
+    outcome
     splits within accepted is_header least kept translates consumed appended counts_are differs =
     let section = state.section.byte_order in
     let copies = differs.copies in
@@ -374,8 +425,10 @@ stops_differs table error state after left middle still_left held then_held now_
     let whole : length (read ++ more) ≡ header.total_len =
     omega (arith, length-append read more, length-append copies.middle copies.last, kept, long, copies.has_len, copies.four) in
     let next = next_of section read more [] (Refused (LastLength header.total_len differs.last_len))
-    (differs_after section read copies.middle copies.last (Some more) (Some []) [] header differs.last_len read_within read_accepted read_header
-    (alone more) copies.four (omega (arith, length-append read copies.middle, kept, long, copies.has_len)) copies.is_last differs.differs) in
+    (differs_after section read copies.middle copies.last (Some more) (Some [])
+    [] header differs.last_len read_within read_accepted read_header
+    (alone more) copies.four (omega (arith, length-append read copies.middle, kept, long, copies.has_len)) copies.is_last
+    differs.differs) in
     subst (λ given. StopsBy (blocks_of table) given state left still_left held now_held counts now_counts) (sym differs.is_error)
     (record {
       then_left = still_left;
@@ -388,7 +441,13 @@ stops_differs table error state after left middle still_left held then_held now_
           some = next.0;
           refused = next.1;
           front = inr (
-            ((header_refusal_front section read more read_within ∙ read_accepted, is_long section read more header read_within read_header long), omega (arith, whole, long)),
+            (
+              (
+                header_refusal_front section read more read_within ∙ read_accepted,
+                is_long section read more header read_within read_header long,
+              ),
+              omega (arith, whole, long),
+            ),
             omega (arith, whole, total, block_len_front section read more read_within),
             after,
             block_translated table state.section after header read written more outcome read_within read_header least kept translates,
@@ -401,32 +460,40 @@ stops_differs table error state after left middle still_left held then_held now_
       leaves = (refl, tt);
     })
 
-pub next_rest : {A : Type 0} → (table : Table) (result : Result A CaptureError) (error : CaptureError) (state then_state : Blocks) (after : Section)
+pub next_rest : {A : Type 0} → (table : Table) (result : Result A CaptureError) (error : CaptureError) (state then_state : Blocks)
+    (after : Section)
     (left middle still_left held then_held now_held : Option (List ℕ))
     (counts now_counts : Counts) (header : BlockHeader) (first bytes read written : List ℕ) (outcome : Option (Result Done Reason))
-    → read ≡ first ++ bytes → 12 ≤ length first → block_header_refusal state.section.byte_order first ≡ None → header ≡ block_header state.section.byte_order first
+    → read ≡ first ++ bytes → 12 ≤ length first → block_header_refusal state.section.byte_order first ≡ None
+    → header ≡ block_header state.section.byte_order first
     → 12 ≤ header.total_len → length read ≡ min header.total_len max_packet_len
     → TranslatesKept table state.section header read written after (Ok outcome) → Consumes left middle read → Appends held then_held written
     → now_counts ≡ counted_if counts outcome → CopiesRest header state.offset (Err error) middle still_left then_held now_held
     → result ≡ Err error → PassesNext (blocks_of table) result state then_state left still_left held now_held counts now_counts
-next_rest table result error state then_state after left middle still_left held then_held now_held counts now_counts header first bytes read written outcome
+next_rest table result error state then_state after left middle still_left held then_held now_held counts now_counts header first bytes read
+    written outcome
     splits within accepted is_header least kept translates consumed appended counts_are (inl failed) fails =
     next_to_write_error (blocks_of table) result error state then_state left still_left held now_held counts now_counts failed fails
-next_rest table result error state then_state after left middle still_left held then_held now_held counts now_counts header first bytes read written outcome
+next_rest table result error state then_state after left middle still_left held then_held now_held counts now_counts header first bytes read
+    written outcome
     splits within accepted is_header least kept translates consumed appended counts_are (inr (inr differs)) fails =
     next_to_end (blocks_of table) result error state then_state left still_left held now_held counts now_counts
-    (inr (stops_differs table error state after left middle still_left held then_held now_held counts now_counts header first bytes read written outcome
+    (inr (stops_differs table error state after left middle still_left held then_held now_held counts now_counts header first bytes read
+    written outcome
     splits within accepted is_header least kept translates consumed appended counts_are differs)) fails
-next_rest table result error state then_state after left middle still_left held then_held now_held counts now_counts header first bytes read written outcome
+next_rest table result error state then_state after left middle still_left held then_held now_held counts now_counts header first bytes read
+    written outcome
     splits within accepted is_header least kept translates consumed appended counts_are (inr (inl stops)) fails =
     next_to_end (blocks_of table) result error state then_state left still_left held now_held counts now_counts
-    (inr (stops_rest table error state after left middle still_left held then_held now_held counts now_counts header first bytes read written outcome
+    (inr (stops_rest table error state after left middle still_left held then_held now_held counts now_counts header first bytes read
+    written outcome
     splits within accepted is_header least kept translates consumed appended counts_are stops)) fails
 
 -- ---- whole parts
 
 -- the place of the block after this block
-block_offset : (section : ByteOrder) (offset then_offset : ℕ) (header : BlockHeader) (first bytes read more : List ℕ) → read ≡ first ++ bytes
+block_offset : (section : ByteOrder) (offset then_offset : ℕ) (header : BlockHeader) (first bytes read more : List ℕ)
+    → read ≡ first ++ bytes
     → 12 ≤ length first → header ≡ block_header section first → then_offset ≡ offset_after offset header
     → then_offset ≡ offset_after offset (block_header section (read ++ more))
 block_offset section offset then_offset header first bytes read more splits within is_header is =
@@ -434,25 +501,30 @@ block_offset section offset then_offset header first bytes read more splits with
     ∙ sym (block_header_front section read more (omega (arith, ap length splits, length-append first bytes, within))))
 
 -- a block without room in the buffer
-long_block : (section : ByteOrder) (header : BlockHeader) (read : List ℕ) (left still_left held now_held : Option (List ℕ)) → 12 ≤ length read
+long_block : (section : ByteOrder) (header : BlockHeader) (read : List ℕ) (left still_left held now_held : Option (List ℕ))
+    → 12 ≤ length read
     → header ≡ block_header section read → block_header_refusal section read ≡ None → length read ≡ min header.total_len max_packet_len
     → max_packet_len < header.total_len → (copies : CopiesToEnd header header.total_len left still_left held now_held)
     → IsBlock section (read ++ (copies.middle ++ copies.last))
 long_block section header read left still_left held now_held within is accepted kept long copies =
     let more = copies.middle ++ copies.last in
     (next_of section read more [] (TooLong header)
-    (passed_over section read copies.middle copies.last (Some more) (Some []) [] header header.total_len within accepted is (alone more) copies.four
+    (passed_over section read copies.middle copies.last (Some more) (Some []) [] header header.total_len within accepted is
+    (alone more) copies.four
     (omega (arith, length-append read copies.middle, kept, long, copies.has_len)) copies.is_last refl (omega (arith, long)))).0
 
 -- the block with these first bytes and these bytes after them was passed
-block_part : (table : Table) (state then_state : Blocks) (left middle still_left held then_held now_held : Option (List ℕ)) (counts now_counts : Counts)
+block_part : (table : Table) (state then_state : Blocks) (left middle still_left held then_held now_held : Option (List ℕ))
+    (counts now_counts : Counts)
     (header : BlockHeader) (first bytes read written more : List ℕ) (outcome : Option (Result Done Reason))
     → read ≡ first ++ bytes → 12 ≤ length first → header ≡ block_header state.section.byte_order first → 12 ≤ header.total_len
     → length read ≡ min header.total_len max_packet_len → IsBlock state.section.byte_order (read ++ more)
-    → TranslatesKept table state.section header read written then_state.section (Ok outcome) → then_state.offset ≡ offset_after state.offset header
+    → TranslatesKept table state.section header read written then_state.section (Ok outcome)
+    → then_state.offset ≡ offset_after state.offset header
     → Consumes left middle read → Appends held then_held written → now_counts ≡ counted_if counts outcome → Consumes middle still_left more
     → Appends then_held now_held more → PassesOne (blocks_of table) state then_state left still_left held now_held counts now_counts
-block_part table state then_state left middle still_left held then_held now_held counts now_counts header first bytes read written more outcome splits within
+block_part table state then_state left middle still_left held then_held now_held counts now_counts header first bytes read written more
+    outcome splits within
     is_header least kept is_block translates is_offset consumed appended counts_are rest_consumed rest_appended =
     let section = state.section.byte_order in
     let read_header = header_read section first bytes read header splits within is_header in
@@ -460,45 +532,55 @@ block_part table state then_state left middle still_left held then_held now_held
     (record { read = read ++ more; written = written ++ more; outcome = outcome }) (
       record {
         is_block = is_block;
-        translates = block_translated table state.section then_state.section header read written more outcome (omega (arith, kept, least)) read_header least kept translates;
+        translates = block_translated table state.section then_state.section header read written more outcome
+            (omega (arith, kept, least)) read_header least kept translates;
       },
       block_offset section state.offset then_state.offset header first bytes read more splits within is_header is_offset,
     )
-    (Consumes-trans left middle still_left read more consumed rest_consumed) (Appends-trans held then_held now_held written more appended rest_appended) counts_are
+    (Consumes-trans left middle still_left read more consumed rest_consumed)
+    (Appends-trans held then_held now_held written more appended rest_appended) counts_are
 
 -- the block was passed; its rest was copied if the buffer has no room for the block
-pub block_passed : (table : Table) (state then_state : Blocks) (left middle still_left held then_held now_held : Option (List ℕ)) (counts now_counts : Counts)
+pub block_passed : (table : Table) (state then_state : Blocks) (left middle still_left held then_held now_held : Option (List ℕ))
+    (counts now_counts : Counts)
     (header : BlockHeader) (first bytes read written : List ℕ) (outcome : Option (Result Done Reason))
     → read ≡ first ++ bytes → 12 ≤ length first → block_header_refusal state.section.byte_order first ≡ None
     → header ≡ block_header state.section.byte_order first → 12 ≤ header.total_len → length read ≡ min header.total_len max_packet_len
     → (header.total_len ≤ max_packet_len → block_refusal state.section.byte_order read ≡ None)
-    → TranslatesKept table state.section header read written then_state.section (Ok outcome) → then_state.offset ≡ offset_after state.offset header
+    → TranslatesKept table state.section header read written then_state.section (Ok outcome)
+    → then_state.offset ≡ offset_after state.offset header
     → Consumes left middle read → Appends held then_held written → now_counts ≡ counted_if counts outcome
     → (((header.total_len ≤ max_packet_len) × (still_left ≡ middle) × (now_held ≡ then_held))
     ⊎ ((max_packet_len < header.total_len) × CopiesToEnd header header.total_len middle still_left then_held now_held))
     → PassesOne (blocks_of table) state then_state left still_left held now_held counts now_counts
-block_passed table state then_state left middle still_left held then_held now_held counts now_counts header first bytes read written outcome splits within
+block_passed table state then_state left middle still_left held then_held now_held counts now_counts header first bytes read written outcome
+    splits within
     accepted is_header least kept whole translates is_offset consumed appended counts_are (inl (short, same_left, same_held)) =
     let section = state.section.byte_order in
     let read_header = header_read section first bytes read header splits within is_header in
-    block_part table state then_state left middle still_left held then_held now_held counts now_counts header first bytes read written [] outcome splits within
+    block_part table state then_state left middle still_left held then_held now_held counts now_counts header first bytes read written
+    [] outcome splits within
     is_header least kept
-    (subst (IsBlock section) (sym (append-nil read)) (short_block section header read (omega (arith, kept, least)) read_header kept short (whole short)))
+    (subst (IsBlock section) (sym (append-nil read))
+    (short_block section header read (omega (arith, kept, least)) read_header kept short (whole short)))
     translates is_offset consumed appended counts_are (subst (λ given. Consumes middle given []) (sym same_left) (Consumes-nil middle))
     (subst (λ given. Appends then_held given []) (sym same_held) (Appends-nil then_held))
-block_passed table state then_state left middle still_left held then_held now_held counts now_counts header first bytes read written outcome splits within
+block_passed table state then_state left middle still_left held then_held now_held counts now_counts header first bytes read written outcome
+    splits within
     accepted is_header least kept whole translates is_offset consumed appended counts_are (inr (long, copies)) =
     let section = state.section.byte_order in
     block_part table state then_state left middle still_left held then_held now_held counts now_counts header first bytes read written
     (copies.middle ++ copies.last) outcome splits within is_header least kept
     (long_block section header read middle still_left then_held now_held (omega (arith, kept, least))
-    (header_read section first bytes read header splits within is_header) (accepted_read section first bytes read splits within accepted) kept long copies)
+    (header_read section first bytes read header splits within is_header)
+    (accepted_read section first bytes read splits within accepted) kept long copies)
     translates is_offset consumed appended counts_are copies.consumed copies.appended
 
 -- ---- reading failed before a block
 
 -- without bytes, a block ends at a read error
-pub no_block : (table : Table) (state : Blocks) (error : CaptureError) → IsReadError state.offset error → IsBlockEnd table state (copied []) error
+pub no_block : (table : Table) (state : Blocks) (error : CaptureError) → IsReadError state.offset error
+    → IsBlockEnd table state (copied []) error
 no_block table state (capture_errors.Header error) is = absurd is
 no_block table state (capture_errors.RecordCutOff offset required len) is = absurd is
 no_block table state (capture_errors.Block placed) is = absurd is
@@ -525,7 +607,8 @@ rest_read total_len place len capture_errors.TooManyParts is = absurd is
 rest_read total_len place len (capture_errors.Write error) is = absurd is
 
 -- copying the rest failed
-pub rest_to_error : (header : BlockHeader) (place count : ℕ) (result : Result (Unit {0}) CaptureError) (error : CaptureError) (left still_left held now_held : Option (List ℕ))
+pub rest_to_error : (header : BlockHeader) (place count : ℕ) (result : Result (Unit {0}) CaptureError) (error : CaptureError)
+    (left still_left held now_held : Option (List ℕ))
     → count ≤ header.total_len - max_packet_len → (IsWriteError error ⊎ (IsReadError place error × CopiesFront count left held now_held))
     → result ≡ Err error → CopiesRest header place result left still_left held now_held
 rest_to_error header place count result error left still_left held now_held rest (inl failed) fails =
@@ -550,7 +633,8 @@ pub rest_cut : (header : BlockHeader) (place len all_len : ℕ) (error : Capture
 rest_cut header place len all_len error left still_left held now_held is all short copies at_end =
     subst
     (λ given. IsWriteError given
-    ⊎ (StopsRest header.total_len place given left still_left held now_held ⊎ DiffersAtEnd header place given left still_left held now_held))
+    ⊎ (StopsRest header.total_len place given left still_left held now_held
+    ⊎ DiffersAtEnd header place given left still_left held now_held))
     (sym (is ∙ ap (cut_at place header.total_len) all))
     (inr (inl (record {
       len = len;

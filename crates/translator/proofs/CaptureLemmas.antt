@@ -17,7 +17,8 @@ never E refuted (inl none) = none
 never E refuted (inr some) = refuted some
 
 -- records after the header of a capture were passed, up to a result
-pub translates_records : (table : Table) (result : Result (Unit {0}) CaptureError) (left still_left held now_held : Option (List ℕ)) (counts now_counts : Counts)
+pub translates_records : (table : Table) (result : Result (Unit {0}) CaptureError) (left still_left held now_held : Option (List ℕ))
+    (counts now_counts : Counts)
     → TranslatesRecords table result left still_left held now_held counts now_counts
     → TranslatesCapture table result left still_left held now_held counts now_counts
 translates_records table (Ok done) left still_left held now_held counts now_counts translates = inl translates
@@ -31,7 +32,8 @@ translates_records table (Err TooManyParts) left still_left held now_held counts
 translates_records table (Err (Write error)) left still_left held now_held counts now_counts translates = tt
 
 -- blocks of a pcapng file were passed, up to a result
-pub translates_blocks : (table : Table) (result : Result (Unit {0}) CaptureError) (left still_left held now_held : Option (List ℕ)) (counts now_counts : Counts)
+pub translates_blocks : (table : Table) (result : Result (Unit {0}) CaptureError) (left still_left held now_held : Option (List ℕ))
+    (counts now_counts : Counts)
     → TranslatesBlocks table result left still_left held now_held counts now_counts
     → TranslatesCapture table result left still_left held now_held counts now_counts
 translates_blocks table (Ok done) left still_left held now_held counts now_counts translates = inr translates
@@ -56,14 +58,16 @@ at_read_error table TooManyParts left still_left held counts is = absurd is
 at_read_error table (Write error) left still_left held counts is = absurd is
 
 -- reading the header failed
-pub to_read_error : (table : Table) (result : Result (Unit {0}) CaptureError) (error : CaptureError) (left still_left held : Option (List ℕ)) (counts : Counts)
+pub to_read_error : (table : Table) (result : Result (Unit {0}) CaptureError) (error : CaptureError)
+    (left still_left held : Option (List ℕ)) (counts : Counts)
     → IsReadError 0 error → result ≡ Err error → TranslatesCapture table result left still_left held held counts counts
 to_read_error table result error left still_left held counts is fails =
     subst (λ given. TranslatesCapture table given left still_left held held counts counts) (sym fails)
     (at_read_error table error left still_left held counts is)
 
 -- what was passed from a reader is what was passed from an equal reader
-pub passes_from : (table : Table) (result : Result (Unit {0}) CaptureError) (before start after : ClassicReader) (left still_left held now_held : Option (List ℕ))
+pub passes_from : (table : Table) (result : Result (Unit {0}) CaptureError) (before start after : ClassicReader)
+    (left still_left held now_held : Option (List ℕ))
     (counts now_counts : Counts)
     → before ≡ start → PassesTo (records_of table) result before after left still_left held now_held counts now_counts
     → PassesTo (records_of table) result start after left still_left held now_held counts now_counts

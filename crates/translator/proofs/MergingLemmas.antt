@@ -52,7 +52,8 @@ or_assoc =
     (λ first second. or_zero (bit_or first second) ∙ ap (bit_or first) (sym (or_zero second)))
     (λ third half first second.
     let halves : bit_or (bit_or first second / 2) (third / 2) ≡ bit_or (first / 2) (bit_or second third / 2) =
-    ap (λ x. bit_or x (third / 2)) (or_shr first second 1) ∙ half (first / 2) (second / 2) ∙ sym (ap (bit_or (first / 2)) (or_shr second third 1)) in
+    ap (λ x. bit_or x (third / 2)) (or_shr first second 1) ∙ half (first / 2) (second / 2)
+    ∙ sym (ap (bit_or (first / 2)) (or_shr second third 1)) in
     omega (arith, or_step (bit_or first second) third, or_step first (bit_or second third), or_step first second, or_step second third))
 
 and_and : (number mask : ℕ) → bit_and (bit_and number mask) mask ≡ bit_and number mask
@@ -68,10 +69,12 @@ fixed_bits first mask address = or_assoc mask first (bit_and address mask) ∙ a
 -- the host bits of an address in a network are those of the given address
 host_bits : (first mask address : ℕ) → bit_and first mask ≡ 0 → bit_and (bit_or first (bit_and address mask)) mask ≡ bit_and address mask
 host_bits first mask address none =
-    ap (λ x. bit_and x mask) (or_comm first (bit_and address mask)) ∙ and_or_apart mask (bit_and address mask) first none ∙ and_and address mask
+    ap (λ x. bit_and x mask) (or_comm first (bit_and address mask)) ∙ and_or_apart mask (bit_and address mask) first none
+    ∙ and_and address mask
 
 -- an address consists of its host bits and of its other bits
-same_address : (address other mask : ℕ) → bit_or address mask ≡ bit_or other mask → bit_and address mask ≡ bit_and other mask → address ≡ other
+same_address : (address other mask : ℕ) → bit_or address mask ≡ bit_or other mask → bit_and address mask ≡ bit_and other mask
+    → address ≡ other
 same_address address other mask fixed host = omega (arith, or_add_and address mask, or_add_and other mask, fixed, host)
 
 -- networks that contain the same address overlap
@@ -152,7 +155,8 @@ none_is_some : {X : Type 0} (item : X) → None ≡ Some item → ⊥
 none_is_some item clash = cc
 
 found_at_front : {X : Type 0} (test : X → Bool) (first : X) (list : List X) (item : X) (is : Bool) → test first ≡ is
-    → cond is (Some first) (find test list) ≡ Some item → (find test list ≡ Some item → IsFound test list item) → IsFound test (first ∷ list) item
+    → cond is (Some first) (find test list) ≡ Some item → (find test list ≡ Some item → IsFound test list item)
+    → IsFound test (first ∷ list) item
 found_at_front test first list item true passes is later =
     let same : first ≡ item = ap (λ found. unwrap_or found first) is in
     subst (IsFound test (first ∷ list)) same (record { passes = passes; fails = λ other none. (either_false _ _ none).0 })
@@ -213,10 +217,12 @@ are_apart sources destinations apart sources_plain destinations_plain address ot
     ⊎_elim
     (λ source. ⊎_elim
     (λ other_source. apart_by_lists sources sources address other new (as_source address source) (as_source other other_source) three.0)
-    (λ destination. apart_by_lists sources destinations address other new (as_source address source) (as_destination other destination) four.0)
+    (λ destination. apart_by_lists sources destinations address other new (as_source address source)
+    (as_destination other destination) four.0)
     second)
     (λ destination. ⊎_elim
-    (λ source. sym (apart_by_lists sources destinations other address new (as_source other source) (as_destination address destination) four.0))
+    (λ source. sym (apart_by_lists sources destinations other address new (as_source other source)
+    (as_destination address destination) four.0))
     (λ other_destination. apart_by_lists destinations destinations address other new (as_destination address destination)
     (as_destination other other_destination) four.1)
     second)

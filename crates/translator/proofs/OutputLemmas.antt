@@ -32,7 +32,8 @@ begins_more a b text more begun = record {
 }
 
 -- the first part of a text and a beginning of its second part are a beginning of the text
-begins_after : (a b c : Option (List ℕ)) (text more : List ℕ) → Appends a b text → AppendsBeginning b c more → AppendsBeginning a c (text ++ more)
+begins_after : (a b c : Option (List ℕ)) (text more : List ℕ) → Appends a b text → AppendsBeginning b c more
+    → AppendsBeginning a c (text ++ more)
 begins_after a b c text more first begun = record {
   written = text ++ begun.written;
   unwritten = begun.unwritten;
@@ -81,7 +82,8 @@ lacks_more a b First Both IsText more never first = record {
 
 -- the second text, or a beginning of it, was written
 pub writes_more : (a b c : Option (List ℕ)) (First Second Both : Type 0) (IsText : List ℕ → Type 0) (more : List ℕ) → First
-    → (Both → Second) → WritesText a b First IsText → WritesText b c Second (λ text. text ≡ more) → WritesText a c Both (IsFollowedBy more IsText)
+    → (Both → Second) → WritesText a b First IsText → WritesText b c Second (λ text. text ≡ more)
+    → WritesText a c Both (IsFollowedBy more IsText)
 writes_more a b c First Second Both IsText more holds to_second first second = record {
   text = first.text ++ more;
   is_text = (first.text, first.is_text, refl);
@@ -97,7 +99,8 @@ pub summary_follows : (a b c : Option (List ℕ)) (First Second Both : Type 0) (
 summary_follows a b c First Second Both name table ended (Ok done) counts number is ok holds to_second first second =
     subst (λ status. WritesText a c Both (IsFollowedBy (summary_after table status (Ok done) counts) (IsEndLine name ended))) (sym is)
     (writes_more a b c First Second Both (IsEndLine name ended) (summary_text table counts) holds to_second first second)
-summary_follows a b c First Second Both name table ended (Err error) counts number is ok holds to_second first second = absurd (grind (arith, ok))
+summary_follows a b c First Second Both name table ended (Err error) counts number is ok holds to_second first second =
+    absurd (grind (arith, ok))
 
 -- ---- texts of errors
 

@@ -77,7 +77,8 @@ ipv6_header_kept packet kept is =
 -- ---- the transport of a packet
 
 -- what is read from the transport of a packet is what is read from its headers and the bytes after them
-read_is : {A : Type 0} → (read : Bool → Option Proto → List ℕ → A) (packet : List ℕ) (found : TransportInIp) (carries : Carries packet found)
+read_is : {A : Type 0} → (read : Bool → Option Proto → List ℕ → A) (packet : List ℕ) (found : TransportInIp)
+    (carries : Carries packet found)
     → found.is_length_missing ≡ lacks_len packet
     → read found.is_later_fragment (proto_over (by_value found.addresses) found.protocol.0) found.payload.now
     ≡ read carries.headers.is_later_fragment (proto_after carries.headers) (message_after carries.headers packet)
@@ -107,24 +108,30 @@ quoted_is packet found carries stated =
     read_is quoted_at packet found carries stated ∙ sym (ap (quoted_after packet) (headers_are packet found carries stated))
 
 -- what the table gives for a packet that is quoted, in the other direction
-pub ipv4_inner_given : (table : Table) (quoted source destination : List ℕ) (ports exchanged_ports : Option (ℕ × ℕ)) (inner : Ipv4Translation)
-    → source ≡ slice_range quoted 16 20 → destination ≡ slice_range quoted 12 16 → ports ≡ ports_of quoted → exchanged_ports ≡ exchanged ports
+pub ipv4_inner_given : (table : Table) (quoted source destination : List ℕ) (ports exchanged_ports : Option (ℕ × ℕ))
+    (inner : Ipv4Translation)
+    → source ≡ slice_range quoted 16 20 → destination ≡ slice_range quoted 12 16 → ports ≡ ports_of quoted
+    → exchanged_ports ≡ exchanged ports
     → inner ≡ ipv4_translation table (record { source = source; destination = destination }) exchanged_ports
     → inner ≡ ipv4_by_quoted table quoted
 ipv4_inner_given table quoted source destination ports exchanged_ports inner source_is destination_is ports_are exchanged_are given =
     given
     ∙ ap (λ bytes. ipv4_translation table (record { source = bytes; destination = destination }) exchanged_ports) source_is
-    ∙ ap (λ bytes. ipv4_translation table (record { source = slice_range quoted 16 20; destination = bytes }) exchanged_ports) destination_is
+    ∙ ap (λ bytes. ipv4_translation table (record { source = slice_range quoted 16 20; destination = bytes }) exchanged_ports)
+    destination_is
     ∙ ap (λ both. ipv4_translation table (ipv4_opposite (ipv4_header_of quoted)) both) (exchanged_are ∙ ap exchanged ports_are)
 
-pub ipv6_inner_given : (table : Table) (quoted source destination : List ℕ) (ports exchanged_ports : Option (ℕ × ℕ)) (inner : Ipv6Translation)
-    → source ≡ slice_range quoted 24 40 → destination ≡ slice_range quoted 8 24 → ports ≡ ports_of quoted → exchanged_ports ≡ exchanged ports
+pub ipv6_inner_given : (table : Table) (quoted source destination : List ℕ) (ports exchanged_ports : Option (ℕ × ℕ))
+    (inner : Ipv6Translation)
+    → source ≡ slice_range quoted 24 40 → destination ≡ slice_range quoted 8 24 → ports ≡ ports_of quoted
+    → exchanged_ports ≡ exchanged ports
     → inner ≡ ipv6_translation table (record { source = source; destination = destination }) exchanged_ports
     → inner ≡ ipv6_by_quoted table quoted
 ipv6_inner_given table quoted source destination ports exchanged_ports inner source_is destination_is ports_are exchanged_are given =
     given
     ∙ ap (λ bytes. ipv6_translation table (record { source = bytes; destination = destination }) exchanged_ports) source_is
-    ∙ ap (λ bytes. ipv6_translation table (record { source = slice_range quoted 24 40; destination = bytes }) exchanged_ports) destination_is
+    ∙ ap (λ bytes. ipv6_translation table (record { source = slice_range quoted 24 40; destination = bytes }) exchanged_ports)
+    destination_is
     ∙ ap (λ both. ipv6_translation table (ipv6_opposite (ipv6_header_of quoted)) both) (exchanged_are ∙ ap exchanged ports_are)
 
 -- what the table gives for the addresses and ports of a packet
@@ -301,7 +308,8 @@ pub ipv4_same_is : (outer inner given : Ipv4Translation) → is_same_ipv4 outer 
     ≡ ipv4_parts given.source given.destination given.source_port given.destination_port
 ipv4_same_is outer inner given same is =
     let both = both_true (is_same outer.source inner.source) (is_same outer.destination inner.destination) same in
-    ap (λ source. ipv4_parts source outer.destination inner.source_port inner.destination_port) (same_value outer.source inner.source both.0)
+    ap (λ source. ipv4_parts source outer.destination inner.source_port inner.destination_port)
+    (same_value outer.source inner.source both.0)
     ∙ ap (λ destination. ipv4_parts inner.source destination inner.source_port inner.destination_port)
     (same_value outer.destination inner.destination both.1)
     ∙ ap (λ new. ipv4_parts new.source new.destination new.source_port new.destination_port) is
@@ -316,7 +324,8 @@ pub ipv6_same_is : (outer inner given : Ipv6Translation) → is_same_ipv6 outer 
     ≡ ipv6_parts given.source given.destination given.source_port given.destination_port
 ipv6_same_is outer inner given same is =
     let both = both_true (is_same outer.source inner.source) (is_same outer.destination inner.destination) same in
-    ap (λ source. ipv6_parts source outer.destination inner.source_port inner.destination_port) (same_value outer.source inner.source both.0)
+    ap (λ source. ipv6_parts source outer.destination inner.source_port inner.destination_port)
+    (same_value outer.source inner.source both.0)
     ∙ ap (λ destination. ipv6_parts inner.source destination inner.source_port inner.destination_port)
     (same_value outer.destination inner.destination both.1)
     ∙ ap (λ new. ipv6_parts new.source new.destination new.source_port new.destination_port) is
@@ -410,7 +419,8 @@ ipv6_translates table packet after (Ok applies) is translates =
 ipv6_translates table packet after (Err reason) is translates = six_translates table packet after (Err reason) is translates
 
 four_translates : (table : Table) (packet after : List ℕ) (result : Result Bool Reason) (is : Bool) → (version packet == 6) ≡ is
-    → (BeginsWithIpv6Header packet → ⊥) → TranslatesIpv4 table packet after result → TranslatesPacket table packet after (outcome_of false result)
+    → (BeginsWithIpv6Header packet → ⊥) → TranslatesIpv4 table packet after result
+    → TranslatesPacket table packet after (outcome_of false result)
 four_translates table packet after (Ok applies) false other none translates =
     (applies, ap (λ is_ipv6. done_with is_ipv6 applies) (sym other), other_translates table packet after (Ok applies) other translates)
 four_translates table packet after (Ok true) true is none translates =
@@ -432,13 +442,15 @@ ipv4_translates table packet after result none translates = four_translates tabl
 three_parts : (frame : List ℕ) (start end : ℕ) → start ≤ end → take start frame ++ (slice_range frame start end ++ drop end frame) ≡ frame
 three_parts frame start end ordered =
     let places : start + (end - start) ≡ end = omega (arith, ordered) in
-    let rest : drop end frame ≡ drop (end - start) (drop start frame) = ap (λ place. drop place frame) (sym places) ∙ sym (drop-drop (end - start) start frame) in
+    let rest : drop end frame ≡ drop (end - start) (drop start frame) =
+    ap (λ place. drop place frame) (sym places) ∙ sym (drop-drop (end - start) start frame) in
     ap (λ bytes. take start frame ++ (slice_range frame start end ++ bytes)) rest
     ∙ ap (λ bytes. take start frame ++ bytes) (take-append-drop (end - start) (drop start frame))
     ∙ take-append-drop start frame
 
 -- the frame after its packet is translated
-pub frame_translated : (table : Table) (link_type : LinkType) (order : ByteOrder) (frame packet : List ℕ) (start end : ℕ) (result : Result Done Reason)
+pub frame_translated : (table : Table) (link_type : LinkType) (order : ByteOrder) (frame packet : List ℕ) (start end : ℕ)
+    (result : Result Done Reason)
     → IsPacketIn link_type order frame start end → TranslatesPacket table (slice_range frame start end) packet result
     → TranslatesFrame table link_type order frame (take start frame ++ (packet ++ drop end frame)) result
 frame_translated table link_type order frame packet start end (Ok done) is_packet translates = record {
@@ -462,8 +474,10 @@ frame_translated table link_type order frame packet start end (Err reason) is_pa
 )
 
 -- a frame without an IP packet is unchanged
-pub frame_stays : (table : Table) (link_type : LinkType) (order : ByteOrder) (frame after : List ℕ) (result : Result Done Reason) (reason : Reason)
-    → HasNoPacket link_type order frame reason → after ≡ frame → result ≡ Err reason → TranslatesFrame table link_type order frame after result
+pub frame_stays : (table : Table) (link_type : LinkType) (order : ByteOrder) (frame after : List ℕ) (result : Result Done Reason)
+    (reason : Reason)
+    → HasNoPacket link_type order frame reason → after ≡ frame → result ≡ Err reason
+    → TranslatesFrame table link_type order frame after result
 frame_stays table link_type order frame after result reason no_packet same fails =
     subst (TranslatesFrame table link_type order frame after) (sym fails) (same, inl no_packet)
 

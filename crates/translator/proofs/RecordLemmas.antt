@@ -67,14 +67,16 @@ record_copied table capture first captured has_len counted beyond = record {
 
 -- the reader after a record
 pub after_record : (records after : ClassicReader) (header : RecordHeader) (first captured : List ℕ) → length first ≡ 16
-    → header ≡ record_header records.header.byte_order first → after ≡ passed records header → after ≡ records_after records (first ++ captured)
+    → header ≡ record_header records.header.byte_order first → after ≡ passed records header
+    → after ≡ records_after records (first ++ captured)
 after_record records after header first captured has_len is_header is =
     is ∙ ap (passed records) (is_header ∙ sym (record_header_front records.header.byte_order first captured (omega (arith, has_len))))
 
 -- ---- ends within a record
 
 -- the capture ends within a record, whose bytes were copied
-pub ends_cut : (table : Table) (error : CaptureError) (records : ClassicReader) (left still_left held now_held : Option (List ℕ)) (counts : Counts)
+pub ends_cut : (table : Table) (error : CaptureError) (records : ClassicReader) (left still_left held now_held : Option (List ℕ))
+    (counts : Counts)
     (bytes : List ℕ) (required len : ℕ)
     → error ≡ RecordCutOff records.offset required len → Consumes left still_left bytes → Appends held now_held bytes
     → IsCutRecord records.header.byte_order bytes required len → IsAtEnd still_left
@@ -97,7 +99,8 @@ pub front_captured : (order : ByteOrder) (first captured : List ℕ) → length 
 front_captured order first captured has_len within =
     omega (arith, length-append first captured, record_len_front order first captured (omega (arith, has_len)), has_len, within)
 
-read_end : (records : ClassicReader) (part : Part) (error : CaptureError) → IsReadError records.offset error → IsRecordFront records.header part
+read_end : (records : ClassicReader) (part : Part) (error : CaptureError) → IsReadError records.offset error
+    → IsRecordFront records.header part
     → IsRecordEnd records part error
 read_end records part (Header error) is front = absurd is
 read_end records part (RecordCutOff offset required len) is front = absurd is
@@ -107,7 +110,8 @@ read_end records part TooManyParts is front = absurd is
 read_end records part (Write error) is front = absurd is
 
 -- nothing is stated about the input that is left after a read error
-pub leaves_at_read : (place : ℕ) (error : CaptureError) (then_left still_left : Option (List ℕ)) → IsReadError place error → LeavesAt error then_left still_left
+pub leaves_at_read : (place : ℕ) (error : CaptureError) (then_left still_left : Option (List ℕ)) → IsReadError place error
+    → LeavesAt error then_left still_left
 leaves_at_read place (Header error) then_left still_left is = absurd is
 leaves_at_read place (RecordCutOff offset required len) then_left still_left is = absurd is
 leaves_at_read place (Block error) then_left still_left is = absurd is
@@ -123,7 +127,8 @@ pub next_front : {A : Type 0} → (table : Table) (result : Result A CaptureErro
     → PassesNext (records_of table) result records after left still_left held now_held counts counts
 next_front table result error records after left then_left still_left held now_held counts bytes is consumed appended front fails =
     next_to_error (records_of table) result error records after left then_left still_left held now_held counts counts (copied bytes)
-    (read_end records (copied bytes) error is ((refl, refl), front)) consumed appended refl (leaves_at_read records.offset error then_left still_left is) fails
+    (read_end records (copied bytes) error is ((refl, refl), front)) consumed appended refl
+    (leaves_at_read records.offset error then_left still_left is) fails
 
 -- the result if copying the captured bytes of a record failed
 pub next_copied : {A : Type 0} → (table : Table) (result : Result A CaptureError) (error : CaptureError) (records after : ClassicReader)
@@ -131,9 +136,11 @@ pub next_copied : {A : Type 0} → (table : Table) (result : Result A CaptureErr
     → length first ≡ 16 → count ≡ number_at records.header.byte_order first 8 → Consumes left middle first → Appends held then_held first
     → (IsWriteError error ⊎ (IsReadError records.offset error × CopiesFront count middle then_held now_held)) → result ≡ Err error
     → PassesNext (records_of table) result records after left still_left held now_held counts counts
-next_copied table result error records after left middle still_left held then_held now_held counts first count has_len is_count consumed appended (inl failed) fails =
+next_copied table result error records after left middle still_left held then_held now_held counts first count has_len is_count consumed
+    appended (inl failed) fails =
     next_to_write_error (records_of table) result error records after left still_left held now_held counts counts failed fails
-next_copied table result error records after left middle still_left held then_held now_held counts first count has_len is_count consumed appended (inr (is, front)) fails =
+next_copied table result error records after left middle still_left held then_held now_held counts first count has_len is_count consumed
+    appended (inr (is, front)) fails =
     let bytes = front.copies.bytes in
     next_front table result error records after left front.then_left still_left held now_held counts (first ++ bytes) is
     (Consumes-trans left middle front.then_left first bytes consumed front.copies.consumed)

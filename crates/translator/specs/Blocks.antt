@@ -164,7 +164,8 @@ pub record IsFileStart (blocks : Blocks) : Type 0 where
 
 -- The buffer contained a whole block, or the first bytes of a long block. The result is the outcome of the block. If the section refuses
 -- the block, the result is the error, and the buffer is unchanged.
-abbrev pub TranslatesKept : Table → Section → BlockHeader → List ℕ → List ℕ → Section → Result (Option (Result Done Reason)) PacketError → Type 0
+abbrev pub TranslatesKept : Table → Section → BlockHeader → List ℕ → List ℕ → Section → Result (Option (Result Done Reason)) PacketError
+    → Type 0
 TranslatesKept table before header read written after (Ok outcome) =
     (taken : Result (Option CapturedPacket) PacketError) × TakesBlock before header (kept_body header read) after taken
     × HasTaken table header.total_len taken (record { read = read; written = written; outcome = outcome })
@@ -210,11 +211,13 @@ pub record DiffersAtEnd (header : BlockHeader) (place : ℕ) (error : CaptureErr
   pub last_len : ℕ
   pub copies : CopiesToEnd header last_len left still_left held now_held
   pub differs : last_len ≢ header.total_len
-  pub is_error : error ≡ capture_errors.Block (record { offset = place; error = errors.Block (block_errors.LastLength header.total_len last_len) })
+  pub is_error : error ≡ capture_errors.Block
+      (record { offset = place; error = errors.Block (block_errors.LastLength header.total_len last_len) })
 
 -- If there is no error, the rest of a block was copied, and the total length at its end is the total length in its header. A block that
 -- fits in the buffer has no rest. After an error, the rest was copied up to the error. If writing failed, nothing is stated.
-abbrev pub CopiesRest : BlockHeader → ℕ → Result (Unit {0}) CaptureError → Option (List ℕ) → Option (List ℕ) → Option (List ℕ) → Option (List ℕ) → Type 0
+abbrev pub CopiesRest : BlockHeader → ℕ → Result (Unit {0}) CaptureError → Option (List ℕ) → Option (List ℕ) → Option (List ℕ)
+    → Option (List ℕ) → Type 0
 CopiesRest header place (Ok done) left still_left held now_held =
     ((header.total_len ≤ max_packet_len) × (still_left ≡ left) × (now_held ≡ held))
     ⊎ ((max_packet_len < header.total_len) × CopiesToEnd header header.total_len left still_left held now_held)

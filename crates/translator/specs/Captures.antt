@@ -13,7 +13,8 @@ use Rattle.translator.specs.declared.counts.Counts.{Counts}
 use Rattle.translator.specs.declared.table.Table.{Table}
 
 -- a classic capture was translated up to this result: its header was copied, and then its records were translated one by one
-abbrev pub TranslatesRecords : Table → Result (Unit {0}) CaptureError → Option (List ℕ) → Option (List ℕ) → Option (List ℕ) → Option (List ℕ)
+abbrev pub TranslatesRecords : Table → Result (Unit {0}) CaptureError → Option (List ℕ) → Option (List ℕ) → Option (List ℕ)
+    → Option (List ℕ)
     → Counts → Counts → Type 0
 TranslatesRecords table result left still_left held now_held counts now_counts =
     PassesCapture (Unit {0}) (records_of table) begins_records result left still_left held now_held counts now_counts
@@ -28,7 +29,8 @@ pub record TranslatesBlocks (table : Table) (result : Result (Unit {0}) CaptureE
   pub passes : PassesTo (blocks_of table) result start after left still_left held now_held counts now_counts
 
 -- a capture of one of the two formats was translated up to this result
-abbrev pub TranslatesEither : Table → Result (Unit {0}) CaptureError → Option (List ℕ) → Option (List ℕ) → Option (List ℕ) → Option (List ℕ) → Counts
+abbrev pub TranslatesEither : Table → Result (Unit {0}) CaptureError → Option (List ℕ) → Option (List ℕ) → Option (List ℕ) → Option (List ℕ)
+    → Counts
     → Counts → Type 0
 TranslatesEither table result left still_left held now_held counts now_counts =
     TranslatesRecords table result left still_left held now_held counts now_counts
@@ -40,7 +42,8 @@ TranslatesNothing held now_held counts now_counts = (now_held ≡ held) × (now_
 
 -- A capture was translated up to this result. Nothing was written if the header of a classic capture is refused, or if the first bytes of
 -- the capture can't be read. If a write failed, nothing is stated.
-abbrev pub TranslatesCapture : Table → Result (Unit {0}) CaptureError → Option (List ℕ) → Option (List ℕ) → Option (List ℕ) → Option (List ℕ) → Counts
+abbrev pub TranslatesCapture : Table → Result (Unit {0}) CaptureError → Option (List ℕ) → Option (List ℕ) → Option (List ℕ)
+    → Option (List ℕ) → Counts
     → Counts → Type 0
 TranslatesCapture table (Ok given) left still_left held now_held counts now_counts =
     TranslatesEither table (Ok given) left still_left held now_held counts now_counts

@@ -100,7 +100,8 @@ pub record WritesText (before after : Option (List ℕ)) (IsWhole : Type 0) (IsT
 abbrev pub no_counts : Counts
 no_counts = record { translated_ipv4 = 0; translated_ipv6 = 0; unaffected_ipv4 = 0; unaffected_ipv6 = 0; by_reason = replicate 11 0 }
 
--- The packets of a capture with this name were translated by a table, up to the end of the capture or an error. Then the output was flushed. The beginning
+-- The packets of a capture with this name were translated by a table, up to the end of the capture or an error. Then the output was
+-- flushed. The beginning
 -- of the text for standard error was written, and the whole text if the result is not an error. The result is the exit status, or an error.
 -- If writing the capture failed, the result is the error of that write, and nothing is stated about the output.
 pub record WritesTranslation (table : Table) (name left still_left held now_held told now_told : Option (List ℕ)) (result : Result ℕ Error)

@@ -84,7 +84,8 @@ pub record ReadsLength (address : IpAddr) (text : List ℕ) (result : Result Net
 -- the network that is read from the texts before and after its slash, or the error
 abbrev pub ReadsPrefixed : List ℕ → List ℕ → Result NetworkText ReplacementError → Type 0
 ReadsPrefixed text prefix_len result =
-    (IsNoAddress text × (result ≡ Err errors.Address)) ⊎ ((address : IpAddr) × IsIpText text address × ReadsLength address prefix_len result)
+    (IsNoAddress text × (result ≡ Err errors.Address))
+    ⊎ ((address : IpAddr) × IsIpText text address × ReadsLength address prefix_len result)
 
 -- the network of one address that is read from a text without a slash, or the error
 abbrev pub ReadsSingle : List ℕ → Result NetworkText ReplacementError → Type 0
@@ -110,7 +111,8 @@ is_same_version false other = not other
 abbrev pub replacement_of : NetworkText → NetworkText → Result (NetworkReplacement × Bool) ReplacementError
 replacement_of old new =
     if is_same_version old.is_ipv6 new.is_ipv6
-    then (if nat_lt old.host_bits new.host_bits then Err errors.ShorterPrefix else Ok (record { old = old.network; new = new.network }, old.is_ipv6))
+    then (if nat_lt old.host_bits new.host_bits then Err errors.ShorterPrefix
+    else Ok (record { old = old.network; new = new.network }, old.is_ipv6))
     else Err errors.Versions
 
 -- The result of reading a replacement from the texts of the old and the new network. If both texts are wrong, the error is about the old

@@ -13,4 +13,5 @@ returns g c =
 -- no memory is left for the line
 pub returns-in_err-line : goal.returns-in_err-line
 returns-in_err-line g c =
-    loses_line _ _ (λ line. line ≡ counts_line c.args.counts.now) (counts_line c.args.counts.now) (λ ok. absurd (grind (arith, ok, c.from_residual.ensures))) refl
+    loses_line _ _ (λ line. line ≡ counts_line c.args.counts.now) (counts_line c.args.counts.now)
+    (λ ok. absurd (grind (arith, ok, c.from_residual.ensures))) refl

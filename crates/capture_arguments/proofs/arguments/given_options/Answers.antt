@@ -10,8 +10,11 @@ pub returns-in-Ok-options_of-clause-options : goal.returns-in-Ok-options_of-clau
 returns-in-Ok-options_of-clause-options g c =
     let words = map (λ word. string_bytes word) c.args.words.now in
     let line = c.in_ok-command.ensures.line in
-    let found = matches_of_command_line (app_of c.in_ok-command.command) words _ line c.in-Ok.ensures.matches c.in-Ok.ensures.kinds in
-    (c.in-Ok.matches, (found, sym c.escaped_option.ensures ∙ ap (option_map (λ word. word.now)) c.in-None.is), c.in-Ok-options_of.ensures.options)
+    let found = matches_of_command_line (app_of c.in_ok-command.command) words _ line c.in-Ok.ensures.matches c.in-Ok.ensures.kinds in (
+      c.in-Ok.matches,
+      (found, sym c.escaped_option.ensures ∙ ap (option_map (λ word. word.now)) c.in-None.is),
+      c.in-Ok-options_of.ensures.options,
+    )
 
 -- clap refuses the words
 pub returns-in-Err-clause-rejected : goal.returns-in-Err-clause-rejected
@@ -37,10 +40,21 @@ returns-in-Err-Conflict-clause-rejected g c =
     let words = map (λ word. string_bytes word) c.args.words.now in
     let line = c.in_ok-command.ensures.line in
     let found = matches_of_command_line (app_of c.in_ok-command.command) words _ line c.in-Ok.ensures.matches c.in-Ok.ensures.kinds in
-    let refusal = subst (IsRefusedBy (g.M.Memory.ran_out c.args.memory.now) c.in-Ok.matches) c.in-Err-Conflict.field-0-is c.in-Err-Conflict.ensures.refusal in
+    let refusal = subst (IsRefusedBy (g.M.Memory.ran_out c.args.memory.now) c.in-Ok.matches) c.in-Err-Conflict.field-0-is
+    c.in-Err-Conflict.ensures.refusal in
     rejected_by_fault (g.M.Memory.ran_out c.args.memory.now) (g.M.Memory.refuses c.args.memory.now) (g.M.Memory.explains c.args.memory.now)
     words _ _ c.invalid_pair.result c.invalid_pair.ensures
-    (inr (inl (refl, (c.in-Ok.matches, c.in-Err-Conflict.first.now, c.in-Err-Conflict.second.now, (found, sym c.escaped_option.ensures ∙ ap (option_map (λ word. word.now)) c.in-None.is), refusal, refl))))
+    (inr (inl (
+      refl,
+      (
+        c.in-Ok.matches,
+        c.in-Err-Conflict.first.now,
+        c.in-Err-Conflict.second.now,
+        (found, sym c.escaped_option.ensures ∙ ap (option_map (λ word. word.now)) c.in-None.is),
+        refusal,
+        refl,
+      ),
+    )))
 
 -- the matches contain no choice
 pub returns-in-Err-Choice-clause-rejected : goal.returns-in-Err-Choice-clause-rejected
@@ -48,7 +62,18 @@ returns-in-Err-Choice-clause-rejected g c =
     let words = map (λ word. string_bytes word) c.args.words.now in
     let line = c.in_ok-command.ensures.line in
     let found = matches_of_command_line (app_of c.in_ok-command.command) words _ line c.in-Ok.ensures.matches c.in-Ok.ensures.kinds in
-    let refusal = subst (IsRefusedBy (g.M.Memory.ran_out c.args.memory.now) c.in-Ok.matches) c.in-Err-Choice.field-0-is c.in-Err-Choice.ensures.refusal in
+    let refusal = subst (IsRefusedBy (g.M.Memory.ran_out c.args.memory.now) c.in-Ok.matches) c.in-Err-Choice.field-0-is
+    c.in-Err-Choice.ensures.refusal in
     rejected_by_fault (g.M.Memory.ran_out c.args.memory.now) (g.M.Memory.refuses c.args.memory.now) (g.M.Memory.explains c.args.memory.now)
     words _ _ c.invalid_choice.result c.invalid_choice.ensures
-    (inr (inr (inl (refl, (c.in-Ok.matches, c.in-Err-Choice.error, (found, sym c.escaped_option.ensures ∙ ap (option_map (λ word. word.now)) c.in-None.is), refusal.0, refusal.1, refl)))))
+    (inr (inr (inl (
+      refl,
+      (
+        c.in-Ok.matches,
+        c.in-Err-Choice.error,
+        (found, sym c.escaped_option.ensures ∙ ap (option_map (λ word. word.now)) c.in-None.is),
+        refusal.0,
+        refusal.1,
+        refl,
+      ),
+    ))))

@@ -10,12 +10,14 @@ returns-in-Host-clause-text g c =
 -- a port
 pub returns-in-Port-clause-text : goal.returns-in-Port-clause-text
 returns-in-Port-clause-text g c =
-    subst (λ error. IfOk c.text-in-Port.result (λ text. string_bytes text ≡ choice_text error)) (sym c.in-Port.is) c.text-in-Port.ensures.text
+    subst (λ error. IfOk c.text-in-Port.result (λ text. string_bytes text ≡ choice_text error))
+    (sym c.in-Port.is) c.text-in-Port.ensures.text
 
 -- a protocol
 pub returns-in-Protocol-clause-text : goal.returns-in-Protocol-clause-text
 returns-in-Protocol-clause-text g c =
-    subst (λ error. IfOk c.text-in-Protocol.result (λ text. string_bytes text ≡ choice_text error)) (sym c.in-Protocol.is) c.text-in-Protocol.ensures.text
+    subst (λ error. IfOk c.text-in-Protocol.result (λ text. string_bytes text ≡ choice_text error))
+    (sym c.in-Protocol.is) c.text-in-Protocol.ensures.text
 
 -- too many values
 pub returns-in-TooMany-clause-text : goal.returns-in-TooMany-clause-text

@@ -9,7 +9,8 @@ pub loop-place-preserved : goal.loop-place-preserved
 loop-place-preserved c =
     let (len, reads) = c.loop-place.invariant in (
       length-set c.loop-place.ports _ _ ∙ len,
-      reads-step ReadsRange c.args.texts.now (λ text. text.now) c.loop-place.place _ c.loop-place.ports c.in-Some.range c.loop-place-test.true
+      reads-step ReadsRange c.args.texts.now (λ text. text.now) c.loop-place.place _ c.loop-place.ports c.in-Some.range
+          c.loop-place-test.true
           (omega arith) reads (rw c.in-Some.is at c.range_in.ensures),
     )
 

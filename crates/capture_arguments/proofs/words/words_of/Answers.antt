@@ -13,7 +13,8 @@ loop-place-preserved g c =
     let (arguments, are, place, room, words) = c.loop-place.invariant in
     let bytes = take c.in-Ok.len c.argument.new.buffer in (
       arguments ++ bytes ∷ [],
-      arguments-push (g.A.Arguments.holds c.args.arguments.now) 0 c.loop-place.place arguments bytes are (omega (arith, place)) c.in-Ok.ensures.given,
+      arguments-push (g.A.Arguments.holds c.args.arguments.now) 0 c.loop-place.place arguments bytes are
+          (omega (arith, place)) c.in-Ok.ensures.given,
       omega (arith, place, length-append arguments (bytes ∷ [])),
       c.argument.auto.buffer ∙ room,
       rw c.in_ok-push-in-Ok.ensures.items (simp (map-append, words, c.in_ok-word_of-in-Ok.ensures.word) refl),

@@ -13,5 +13,6 @@ returns-in_ok-write-in-Some c =
     let addresses = by_value c.args.addresses in
     let known : has_destination addresses ≡ true = search rules in
     let text : c.as_slice.result.now ≡ destination_text addresses = search rules in
-    subst (λ value. OnOk c.put_written.result (tokens_in c.put_written.new.line ≡ put (codes "destination") value (tokens_in c.args.line.now)))
+    subst (λ value. OnOk c.put_written.result
+    (tokens_in c.put_written.new.line ≡ put (codes "destination") value (tokens_in c.args.line.now)))
     (known_destination addresses c.as_slice.result.now known text) c.put_written.ensures

@@ -16,7 +16,8 @@ returns-in_ok-put_texts-in-Some-Pcapng c =
     let is : c.args.capture.now ≡ Some (Pcapng reader) = search rules in
     let form = form_members (codes "pcapng") reader.section.byte_order in
     let texts = texts_members reader.texts in
-    let interfaces = (codes "interfaces", array_of (interfaces_data reader.texts.interfaces.items 0 reader.section.interfaces.items)) ∷ [] in
+    let interfaces = (codes "interfaces", array_of (interfaces_data reader.texts.interfaces.items 0 reader.section.interfaces.items))
+    ∷ [] in
     let start = tokens_in c.args.line.now in
     let formed = tokens_in c.put_form-in-Some-Pcapng.new.line in
     let told = tokens_in c.put_texts.new.line in

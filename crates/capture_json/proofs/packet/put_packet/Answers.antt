@@ -12,7 +12,8 @@ use Rattle.capture_json.proofs.packet.put_packet.Goals as goal
 
 -- nine parts of an object, in their order, after its first members
 parts_put : (a b c d e f g h i : List Member) (before t0 t1 t2 t3 t4 t5 t6 t7 t8 t9 : List Token)
-    → t0 ≡ before → t1 ≡ with_members a t0 → t2 ≡ with_members b t1 → t3 ≡ with_members c t2 → t4 ≡ with_members d t3 → t5 ≡ with_members e t4
+    → t0 ≡ before → t1 ≡ with_members a t0 → t2 ≡ with_members b t1 → t3 ≡ with_members c t2 → t4 ≡ with_members d t3
+    → t5 ≡ with_members e t4
     → t6 ≡ with_members f t5 → t7 ≡ with_members g t6 → t8 ≡ with_members h t7 → t9 ≡ with_members i t8
     → t9 ≡ with_members (a ++ (b ++ (c ++ (d ++ (e ++ (f ++ (g ++ (h ++ i)))))))) before
 parts_put a b c d e f g h i before t0 t1 t2 t3 t4 t5 t6 t7 t8 t9 begun p1 p2 p3 p4 p5 p6 p7 p8 p9 =
@@ -36,7 +37,8 @@ returns c =
       (what, are, refl),
       parts_put (time_members c.args.times info.first info.capture.time) (packet_interface_members info.interface)
           (frame_members info.capture.len) (tunnel_members packet.tunnels.items) what (arp_members packet.arp)
-          (fragment_members packet.fragment) (hop_limit_members packet.hop_limit) (verdict_members packet.verdict) _ _ _ _ _ _ _ _ _ _ _ begun
+          (fragment_members packet.fragment) (hop_limit_members packet.hop_limit)
+          (verdict_members packet.verdict) _ _ _ _ _ _ _ _ _ _ _ begun
           c.in_ok-put_time.ensures c.in_ok-put_interface.ensures c.in_ok-put_frame_len.ensures tunnels put_what c.in_ok-put_arp.ensures
           c.in_ok-put_fragment.ensures c.in_ok-put_hop_limit.ensures last,
     ))

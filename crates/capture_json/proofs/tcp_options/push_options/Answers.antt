@@ -32,7 +32,14 @@ loop-option-preserved c =
       one_more_item values value _ _ _ pushed one,
       c.rest-rest-in-Some.ensures,
       λ more fault are. subst (λ all. AreOptionObjects c.rest-rest.result.now all fault) (sym (append_assoc values (value ∷ []) more))
-          (prior (value ∷ more) fault (inr (option, after, begins, is, subst (λ bytes. AreOptionObjects bytes more fault) c.rest-rest-in-Some.ensures are))),
+          (prior (value ∷ more) fault (inr (
+            option,
+            after,
+            begins,
+            is,
+            subst (λ bytes. AreOptionObjects bytes more fault)
+                c.rest-rest-in-Some.ensures are,
+          ))),
     )
 
 -- no byte is left

@@ -13,4 +13,5 @@ invariant-loop-option l =
     × (values : List Data)
     × (tokens_in l.line ≡ with_items values (tokens_in l.initial.line))
     × (l.rest ≡ l.options)
-    × ((more : List Data) (fault : Option TcpRawOptionError) → AreOptionObjects l.rest more fault → AreOptionObjects l.initial.rest (values ++ more) fault)
+    × ((more : List Data) (fault : Option TcpRawOptionError) → AreOptionObjects l.rest more fault
+    → AreOptionObjects l.initial.rest (values ++ more) fault)

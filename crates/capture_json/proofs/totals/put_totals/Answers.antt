@@ -12,7 +12,8 @@ pub returns : goal.returns
 returns c =
     let tables = c.args.summary.now in
     let average = average_members (average_len tables.packets tables.bytes) in
-    let later = (codes "conversations", whole_number (length tables.flows.rows)) ∷ span_members (record { packets = tables.packets; bytes = tables.bytes }) tables.span in
+    let later = (codes "conversations", whole_number (length tables.flows.rows))
+    ∷ span_members (record { packets = tables.packets; bytes = tables.bytes }) tables.span in
     on_ok_weaker c.put_times.result
     (λ last. last
     ∙ (simp (

@@ -8,7 +8,8 @@ use Rattle.capture_json.proofs.TokensLemmas.{listed}
 use Rattle.capture_json.proofs.tunnels.put_tunnels.Goals as goal
 
 -- the member with the tunnels, if there are tunnels
-some_tunnels : (tunnels : List Tunnel) → 1 ≤ length tunnels → tunnel_members tunnels ≡ (codes "tunnels", array_of (map tunnel_data tunnels)) ∷ []
+some_tunnels : (tunnels : List Tunnel) → 1 ≤ length tunnels
+    → tunnel_members tunnels ≡ (codes "tunnels", array_of (map tunnel_data tunnels)) ∷ []
 some_tunnels [] some = absurd (omega (arith, some))
 some_tunnels (tunnel ∷ tunnels) some = refl
 

@@ -11,7 +11,8 @@ read bytes there zeros = grind (arith, common_steps)
 
 -- the packet after a GRE header that is read
 after_header : (bytes : List ℕ) (bits len number : ℕ) → 4 ≤ length bytes → bits ≡ first_bits bytes → bit_and bits 0x4C07 ≡ 0
-    → len ≡ len_with bits → number ≡ protocol_type bytes → packet_of_type number (take (length bytes - len) (drop len bytes)) ≡ packet_after_gre bytes
+    → len ≡ len_with bits → number ≡ protocol_type bytes
+    → packet_of_type number (take (length bytes - len) (drop len bytes)) ≡ packet_after_gre bytes
 after_header bytes bits len number there bits_are zeros len_is number_is =
     let is_read : is_read bytes ≡ true = read bytes there (rw bits_are at zeros) in
     ap₂ packet_of_type number_is (take_rest bytes len ∙ ap (λ n. drop n bytes) (len_is ∙ ap len_with bits_are))

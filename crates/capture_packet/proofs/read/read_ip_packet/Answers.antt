@@ -21,7 +21,8 @@ returns-in_default c =
     let outers = map by_value c.loop-found.tunnels.items in
     let count = length c.loop-found.tunnels.items in
     let accepted : lax_refusal c.loop-found.rest.now ≡ None = c.in-Ok.ensures.refused in
-    let closed : 0 < max_tunnels - count → None ≡ payload_packet c.in-Ok.found.is_fragment c.in-Ok.found.protocol.0 c.in-Ok.found.payload.now =
+    let closed : 0 < max_tunnels - count → None ≡ payload_packet c.in-Ok.found.is_fragment c.in-Ok.found.protocol.0
+    c.in-Ok.found.payload.now =
     λ left. rw c.in_default.is at (c.next_packet.ensures.room (omega arith)) in
     in_these _ outers c.loop-found.is_rest_cut c.loop-found.rest.now c.carried.result
     (c.loop-found.invariant.1
@@ -50,7 +51,12 @@ loop-found-preserved c =
       omega (arith, c.push.ensures.len),
       rw c.is_transport_cut_off-is_rest_cut.ensures
           (continues _ before _ (record { addresses = c.in-Ok.found.addresses; protocol = c.in-Ok.found.protocol }) _ _
-          (record { outer = outer_of c.in-Ok.found; bytes = c.in-Some.inner.now; is_cut = is_transport_cut_off c.loop-found.is_rest_cut c.in-Ok.found })
+          (record {
+            outer = outer_of c.in-Ok.found;
+            bytes =
+                c.in-Some.inner.now;
+            is_cut = is_transport_cut_off c.loop-found.is_rest_cut c.in-Ok.found;
+          })
           room c.push.ensures.items refl (open_is _ _ _ _ accepted c.in-Ok.ensures.found c.in-Ok.ensures.stated inner)
           c.loop-found.invariant.1),
     )

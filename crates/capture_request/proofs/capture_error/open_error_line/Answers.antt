@@ -8,4 +8,6 @@ pub returns : goal.returns
 returns c =
     let cause = string_bytes c.in_ok-text.text in
     let text = cause ++ hint_of c.args.name.now in
-    IfOk-weaker c.format-2.result _ _ (λ line is. (text, (cause, refl), rw (c.hint_of-hint.ensures, c.without_mark.ensures) at is ∙ (simp append_assoc))) c.format-2.ensures.ok
+    IfOk-weaker c.format-2.result _ _
+    (λ line is. (text, (cause, refl), rw (c.hint_of-hint.ensures, c.without_mark.ensures) at is ∙ (simp append_assoc)))
+    c.format-2.ensures.ok

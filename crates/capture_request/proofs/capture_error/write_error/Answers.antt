@@ -15,4 +15,5 @@ returns g c =
 -- no memory is left for the line
 pub returns-in_err-line : goal.returns-in_err-line
 returns-in_err-line g c =
-    loses_error _ _ (option_map (λ text. shown_name text.now) c.args.name) c.args.error.now (λ ok. absurd (grind (arith, ok, c.from_residual.ensures)))
+    loses_error _ _ (option_map (λ text. shown_name text.now) c.args.name) c.args.error.now
+    (λ ok. absurd (grind (arith, ok, c.from_residual.ensures)))

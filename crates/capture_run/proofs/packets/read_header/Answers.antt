@@ -11,7 +11,8 @@ pub returns-in-Ok-Ok-clause-begins : goal.returns-in-Ok-Ok-clause-begins
 returns-in-Ok-Ok-clause-begins g c =
     let buffer = c.read_header.new.buffer in
     begins_input max_packet_len c.in-Ok-Ok.reader _ _ buffer (omega arith)
-    (subst (ReadsBeginning (g.R.Read.remaining c.args.input.now) (g.R.Read.remaining c.read_header.new.input) buffer) c.in-Ok-Ok.field-0-is c.in-Ok-Ok.ensures)
+    (subst (ReadsBeginning (g.R.Read.remaining c.args.input.now) (g.R.Read.remaining c.read_header.new.input) buffer) c.in-Ok-Ok.field-0-is
+    c.in-Ok-Ok.ensures)
 
 refused : (left still_left : Option (List ℕ)) (buffer : List ℕ) (error : OpenError) → length buffer ≡ max_packet_len
     → ReadsBeginning left still_left buffer (Err error) → IfSome left (IsRefusedCapture error)
@@ -23,4 +24,5 @@ pub returns-in-Ok-Err-clause-rejects : goal.returns-in-Ok-Err-clause-rejects
 returns-in-Ok-Err-clause-rejects g c =
     let buffer = c.read_header.new.buffer in
     refused (g.R.Read.remaining c.args.input.now) (g.R.Read.remaining c.read_header.new.input) buffer c.in-Ok-Err.error (omega arith)
-    (subst (ReadsBeginning (g.R.Read.remaining c.args.input.now) (g.R.Read.remaining c.read_header.new.input) buffer) c.in-Ok-Err.field-0-is c.in-Ok-Err.ensures)
+    (subst (ReadsBeginning (g.R.Read.remaining c.args.input.now) (g.R.Read.remaining c.read_header.new.input) buffer) c.in-Ok-Err.field-0-is
+    c.in-Ok-Err.ensures)

@@ -27,7 +27,8 @@ returns-in-Some-clause-report g c =
           middle = left;
           before = c.loop-number.reader;
           reads = read;
-          has_ended = ended_at_item (c.args.packets.now.summary.packets + length packets) (length packets + 1) c.loop-number.reader c.report_next.new.reader left still_left _ ends;
+          has_ended = ended_at_item (c.args.packets.now.summary.packets + length packets)
+              (length packets + 1) c.loop-number.reader c.report_next.new.reader left still_left _ ends;
           are_first = begins_with_packets max_packet_len reader c.loop-number.reader first left packets read;
           are_all = all_packets reader c.loop-number.reader c.report_next.new.reader first left still_left packets _ read ends;
         };
@@ -53,7 +54,13 @@ returns-clause-report g c =
           before = c.loop-number.reader;
           reads = read;
           has_ended = (
-            omega (arith, number, c.packets-room.ensures.packets, ap (λ tables. tables.packets) c.summary.ensures, c.loop-number-test.false),
+            omega (
+              arith,
+              number,
+              c.packets-room.ensures.packets,
+              ap (λ tables. tables.packets) c.summary.ensures,
+              c.loop-number-test.false,
+            ),
             refl,
             refl,
           );
@@ -108,7 +115,20 @@ returns-in-Some-clause-cut g c =
 
 -- before the first packet nothing is read, counted or written
 pub loop-number-init : goal.loop-number-init
-loop-number-init g c = ([], (refl, refl), refl, refl, omega arith, refl, refl, (λ none. refl), (λ within. within), refl, inl refl, ([], (refl, refl, refl), Appends-nil _))
+loop-number-init g c = (
+  [],
+  (refl, refl),
+  refl,
+  refl,
+  omega arith,
+  refl,
+  refl,
+  (λ none. refl),
+  (λ within. within),
+  refl,
+  inl refl,
+  ([], (refl, refl, refl), Appends-nil _),
+)
 
 -- the invariant holds after another packet
 pub loop-number-preserved : goal.loop-number-preserved
@@ -126,7 +146,8 @@ loop-number-preserved g c =
     let next = one.reports in
     let more = counts-push initial.parts.choice initial.summary before after packets next.packet counted next.counted in (
       packets ++ next.packet ∷ [],
-      packets-push max_packet_len c.args.reader.now c.loop-number.reader c.report_next.new.reader _ left still_left packets next.packet read next.reads,
+      packets-push max_packet_len c.args.reader.now c.loop-number.reader c.report_next.new.reader _ left still_left packets next.packet read
+          next.reads,
       more,
       omega (arith, number, length-append packets (next.packet ∷ [])),
       counts_at_most initial.parts.choice initial.summary (packets ++ next.packet ∷ []) after more,
@@ -138,7 +159,8 @@ loop-number-preserved g c =
       one.is_first ∙ sym (first-push initial.first packets next.packet),
       inr (packets, next.packet, before, refl, counted, rw parts at (sym c.is_full.ensures ∙ c.if-is_full.false)),
       written-push initial.parts now initial.first c.args.reader.now c.loop-number.reader c.report_next.new.reader
-          (g.R.Read.remaining c.args.input.now) left still_left packets next.packet line _ contents new_contents wrote (omega (arith, number))
+          (g.R.Read.remaining c.args.input.now) left still_left packets next.packet line _ contents new_contents wrote
+          (omega (arith, number))
           next.reads one.is_text appended,
     )
 

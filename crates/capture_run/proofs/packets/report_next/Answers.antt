@@ -15,7 +15,8 @@ use Rattle.capture_run.proofs.packets.report_next.Goals as goal
 abbrev frame_of : List ℕ → CapturedPacket → List ℕ
 frame_of buffer packet = slice_range buffer packet.start (packet.start + packet.captured_len)
 
-reads_one : (before after : CaptureReader) (left still_left : Option (List ℕ)) (buffer : List ℕ) (read next : NextPacket) (packet : FilePacket)
+reads_one : (before after : CaptureReader) (left still_left : Option (List ℕ)) (buffer : List ℕ) (read next : NextPacket)
+    (packet : FilePacket)
     → length buffer ≡ max_packet_len → read ≡ next → ReadsPacket before left still_left after buffer read
     → packet_in buffer next ≡ Some packet → ReadsOne max_packet_len before left still_left after packet
 reads_one before after left still_left buffer read next packet room is reads gives = record {
@@ -64,7 +65,8 @@ returns-in_ok-add_too_long-in-Ok-TooLong-clause-next g c =
     let packet = c.in-Ok-TooLong.packet in
     record {
       packet = too_long packet;
-      reads = reads_one _ _ _ _ c.next_packet.new.buffer _ (TooLong packet) _ (omega arith) c.in-Ok-TooLong.field-0-is c.in-Ok-TooLong.ensures.reads refl;
+      reads = reads_one _ _ _ _ c.next_packet.new.buffer _ (TooLong packet) _
+          (omega arith) c.in-Ok-TooLong.field-0-is c.in-Ok-TooLong.ensures.reads refl;
       counted = c.in_ok-add_too_long-in-Ok-TooLong.ensures.counted;
     }
 
@@ -74,7 +76,12 @@ returns-in_ok-add_too_long-in-Ok-TooLong-clause-text g c =
     let (text, is_text, appends) = c.in_ok-add_too_long-in-Ok-TooLong.ensures.text in
     λ none. (
       text,
-      record { reports = returns-in_ok-add_too_long-in-Ok-TooLong-clause-next g c; is_first = c.add_too_long.ensures.first; is_text = is_text },
+      record {
+        reports = returns-in_ok-add_too_long-in-Ok-TooLong-clause-next g c;
+        is_first =
+            c.add_too_long.ensures.first;
+        is_text = is_text;
+      },
       appends,
     )
 
@@ -83,7 +90,8 @@ returns-in_err-add_too_long-in-Ok-TooLong-clause-after_packet g c =
     let packet = c.in-Ok-TooLong.packet in
     at_error c.from_residual-in_err-add_too_long-in-Ok-TooLong.result (
       too_long packet,
-      reads_one _ _ _ _ c.next_packet.new.buffer _ (TooLong packet) _ (omega arith) c.in-Ok-TooLong.field-0-is c.in-Ok-TooLong.ensures.reads refl,
+      reads_one _ _ _ _ c.next_packet.new.buffer _ (TooLong packet) _
+          (omega arith) c.in-Ok-TooLong.field-0-is c.in-Ok-TooLong.ensures.reads refl,
     )
 
 -- ---- no packet: the end, a record or block that is cut off, a block that can't be read, or a failed read

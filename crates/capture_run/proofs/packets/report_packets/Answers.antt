@@ -24,5 +24,6 @@ returns-in-Err-clause-report g c = rw c.start_capture.ensures ([], (c.in-Err.ens
 
 pub returns-in-Err-clause-limit : goal.returns-in-Err-clause-limit
 returns-in-Err-clause-limit g c =
-    limit_at_header c.args.packets.now.parts.limit (limited c.args.packets.now.parts.lines c.start_capture.new.self.summary) (g.R.Read.remaining c.args.input.now)
+    limit_at_header c.args.packets.now.parts.limit (limited c.args.packets.now.parts.lines c.start_capture.new.self.summary)
+    (g.R.Read.remaining c.args.input.now)
     c.in-Err.error c.in-Err.ensures.rejects

@@ -25,7 +25,8 @@ loop-place-preserved g c =
     let (parts, told, written) = c.loop-place.invariant in (
       c.in_ok-reports.ensures.parts ∙ parts,
       λ none. told (c.in_ok-reports.ensures.told none),
-      one-more _ c.args.reports.parts c.loop-place.reports.parts _ c.args.sources.now.names.now (λ name. name.now) c.loop-place.place _ _ _ _ _ _ _ _ _ _ _ _
+      one-more _ c.args.reports.parts c.loop-place.reports.parts _ c.args.sources.now.names.now
+          (λ name. name.now) c.loop-place.place _ _ _ _ _ _ _ _ _ _ _ _
           (search rules) parts c.in_ok-reports.ensures.told written c.in_ok-reports.ensures.report,
     )
 

@@ -7,14 +7,17 @@ use Rattle.capture_run.proofs.report.run.Goals as goal
 pub returns-in-None-clause-report : goal.returns-in-None-clause-report
 returns-in-None-clause-report g c =
     run_result _ c.args.parts c.args.sources.now.names.now (λ name. name.now) c.new-reports.result c.in_ok-reports.reports _ _ _ _ _ _
-    c.new-reports.ensures.parts c.new-reports.ensures.summary c.new-reports.ensures.status c.new-reports.ensures.empty c.new-reports.ensures.capture
-    c.in_ok-reports.ensures.parts (sym c.into_unwritten.ensures ∙ c.in-None.is) c.in_ok-reports.ensures.report c.in_ok-status.ensures.text c.in_ok-status.ensures.status
+    c.new-reports.ensures.parts c.new-reports.ensures.summary c.new-reports.ensures.status c.new-reports.ensures.empty
+    c.new-reports.ensures.capture
+    c.in_ok-reports.ensures.parts (sym c.into_unwritten.ensures ∙ c.in-None.is) c.in_ok-reports.ensures.report c.in_ok-status.ensures.text
+    c.in_ok-status.ensures.status
 
 -- a line of an error was not written
 pub returns-in-Some-clause-errors : goal.returns-in-Some-clause-errors
 returns-in-Some-clause-errors g c =
     run_failed _ c.args.parts c.args.sources.now.names.now (λ name. name.now) c.new-reports.result _ _
-    c.new-reports.ensures.parts c.new-reports.ensures.summary c.new-reports.ensures.status c.new-reports.ensures.empty c.new-reports.ensures.capture
+    c.new-reports.ensures.parts c.new-reports.ensures.summary c.new-reports.ensures.status c.new-reports.ensures.empty
+    c.new-reports.ensures.capture
     (tells_all _ _ _ _ _ _ _ _ _ _ _ c.in_ok-reports.ensures.report)
 
 -- the summary was not written
@@ -22,5 +25,6 @@ pub returns-in_err-status-clause-errors : goal.returns-in_err-status-clause-erro
 returns-in_err-status-clause-errors g c =
     at_error _
     (run_failed _ c.args.parts c.args.sources.now.names.now (λ name. name.now) c.new-reports.result _ _
-    c.new-reports.ensures.parts c.new-reports.ensures.summary c.new-reports.ensures.status c.new-reports.ensures.empty c.new-reports.ensures.capture
+    c.new-reports.ensures.parts c.new-reports.ensures.summary c.new-reports.ensures.status c.new-reports.ensures.empty
+    c.new-reports.ensures.capture
     (tells_all _ _ _ _ _ _ _ _ _ _ _ c.in_ok-reports.ensures.report))

@@ -15,7 +15,8 @@ use Rattle.capture_selection.proofs.blocks.select_kept_block.Goals as goal
 
 pub returns-in_err-len-clause-passes : goal.returns-in_err-len-clause-passes
 returns-in_err-len-clause-passes g c =
-    λ left consumed counts. next_to_read_error (block_selection c.args.parts.now) _ _ _ _ left _ _ _ _ _ _ [] (read_error_at _ _ _ c.place-place.ensures c.in_err-len.ensures.failed)
+    λ left consumed counts. next_to_read_error (block_selection c.args.parts.now) _ _ _ _ left _ _ _ _ _ _ []
+    (read_error_at _ _ _ c.place-place.ensures c.in_err-len.ensures.failed)
     consumed (Appends-nil _) (inl refl) (search rules)
 
 pub returns-in-Err-clause-passes : goal.returns-in-Err-clause-passes
@@ -23,11 +24,19 @@ returns-in-Err-clause-passes g c =
     λ left consumed counts.
     let has_room : length c.args.copier.now.buffer.now ≡ max_packet_len = search rules in
     let room : length c.read_after.new.buffer ≡ c.args.header.now.total_len =
-    omega (arith, c.read_after.auto.buffer, length-take c.args.header.now.total_len c.args.copier.now.buffer.now, has_room, c.requires.room) in
+    omega (
+      arith,
+      c.read_after.auto.buffer,
+      length-take c.args.header.now.total_len c.args.copier.now.buffer.now,
+      has_room,
+      c.requires.room,
+    ) in
     ends_unread c.args.parts.now _ _ c.in-Err.error left _ _ _ _ c.args.first.now _ c.args.copier.now.buffer.now
     (c.refused.ensures ∙ ap (λ place. refused_by place c.in-Err.error) c.place-place.ensures) has_room consumed
-    (refused_fill c.args.file.now.reader.section.byte_order c.args.first.now _ _ c.read_after.new.buffer _ c.args.header.now c.in_ok-len.len c.in-Err.error
-    (omega (arith, c.requires.header.has_len)) c.requires.header.accepted c.requires.header.is_header room c.in_ok-len.ensures.fills c.in-Err.ensures.refused)
+    (refused_fill c.args.file.now.reader.section.byte_order c.args.first.now _ _ c.read_after.new.buffer _ c.args.header.now c.in_ok-len.len
+    c.in-Err.error
+    (omega (arith, c.requires.header.has_len)) c.requires.header.accepted c.requires.header.is_header room c.in_ok-len.ensures.fills
+    c.in-Err.ensures.refused)
 
 pub returns-in-Err-taken_outcome-clause-passes : goal.returns-in-Err-taken_outcome-clause-passes
 returns-in-Err-taken_outcome-clause-passes g c =
@@ -36,14 +45,29 @@ returns-in-Err-taken_outcome-clause-passes g c =
     let after = drop c.args.header.now.total_len c.args.copier.now.buffer.now in
     let has_room : length c.args.copier.now.buffer.now ≡ max_packet_len = search rules in
     let room : length c.read_after.new.buffer ≡ c.args.header.now.total_len =
-    omega (arith, c.read_after.auto.buffer, length-take c.args.header.now.total_len c.args.copier.now.buffer.now, has_room, c.requires.room) in
+    omega (
+      arith,
+      c.read_after.auto.buffer,
+      length-take c.args.header.now.total_len c.args.copier.now.buffer.now,
+      has_room,
+      c.requires.room,
+    ) in
     let whole_room : length (c.read_after.new.buffer ++ after) ≡ max_packet_len =
-    omega (arith, room, has_room, c.requires.room, length-append c.read_after.new.buffer after, length-drop c.args.header.now.total_len c.args.copier.now.buffer.now) in
-    let reads = whole_after c.args.file.now.reader.section.byte_order first _ _ c.read_after.new.buffer after c.args.header.now c.in_ok-len.len
+    omega (
+      arith,
+      room,
+      has_room,
+      c.requires.room,
+      length-append c.read_after.new.buffer after,
+      length-drop c.args.header.now.total_len c.args.copier.now.buffer.now,
+    ) in
+    let reads = whole_after c.args.file.now.reader.section.byte_order first _ _ c.read_after.new.buffer after c.args.header.now
+    c.in_ok-len.len
     (omega (arith, c.requires.header.has_len)) c.requires.header.is_header room c.in_ok-len.ensures.fills c.in_default.ensures.refused in
     inr (stops_unwritten (block_selection c.args.parts.now) _ _ left _ _ _ _ (first ++ reads.bytes)
     (Consumes-trans _ _ _ first reads.bytes consumed reads.consumed)
-    (refused_block c.args.parts.now c.args.file.now.reader c.taken_outcome.new.file (first ++ reads.bytes) (c.read_after.new.buffer ++ after) (Whole c.args.header.now)
+    (refused_block c.args.parts.now c.args.file.now.reader c.taken_outcome.new.file (first ++ reads.bytes)
+    (c.read_after.new.buffer ++ after) (Whole c.args.header.now)
     c.in-Err-taken_outcome.error whole_room reads.is_next c.in-Err-taken_outcome.ensures.steps)
     refl)
 
@@ -53,8 +77,15 @@ forget_section_len-requires g c =
     let after = drop c.args.header.now.total_len c.args.copier.now.buffer.now in
     let has_room : length c.args.copier.now.buffer.now ≡ max_packet_len = search rules in
     let room : length c.read_after.new.buffer ≡ c.args.header.now.total_len =
-    omega (arith, c.read_after.auto.buffer, length-take c.args.header.now.total_len c.args.copier.now.buffer.now, has_room, c.requires.room) in
-    let reads = whole_after c.args.file.now.reader.section.byte_order first _ _ c.read_after.new.buffer after c.args.header.now c.in_ok-len.len
+    omega (
+      arith,
+      c.read_after.auto.buffer,
+      length-take c.args.header.now.total_len c.args.copier.now.buffer.now,
+      has_room,
+      c.requires.room,
+    ) in
+    let reads = whole_after c.args.file.now.reader.section.byte_order first _ _ c.read_after.new.buffer after c.args.header.now
+    c.in_ok-len.len
     (omega (arith, c.requires.header.has_len)) c.requires.header.is_header room c.in_ok-len.ensures.fills c.in_default.ensures.refused in
     record { len = section_len c.args.file.now.reader.section.byte_order (first ++ reads.bytes) _ reads.is_next.0 reads.is_next.3 }
 
@@ -65,21 +96,37 @@ returns-clause-passes g c =
     let after = drop c.args.header.now.total_len c.args.copier.now.buffer.now in
     let has_room : length c.args.copier.now.buffer.now ≡ max_packet_len = search rules in
     let room : length c.read_after.new.buffer ≡ c.args.header.now.total_len =
-    omega (arith, c.read_after.auto.buffer, length-take c.args.header.now.total_len c.args.copier.now.buffer.now, has_room, c.requires.room) in
+    omega (
+      arith,
+      c.read_after.auto.buffer,
+      length-take c.args.header.now.total_len c.args.copier.now.buffer.now,
+      has_room,
+      c.requires.room,
+    ) in
     let whole_room : length (c.read_after.new.buffer ++ after) ≡ max_packet_len =
-    omega (arith, room, has_room, c.requires.room, length-append c.read_after.new.buffer after, length-drop c.args.header.now.total_len c.args.copier.now.buffer.now) in
-    let reads = whole_after c.args.file.now.reader.section.byte_order first _ _ c.read_after.new.buffer after c.args.header.now c.in_ok-len.len
+    omega (
+      arith,
+      room,
+      has_room,
+      c.requires.room,
+      length-append c.read_after.new.buffer after,
+      length-drop c.args.header.now.total_len c.args.copier.now.buffer.now,
+    ) in
+    let reads = whole_after c.args.file.now.reader.section.byte_order first _ _ c.read_after.new.buffer after c.args.header.now
+    c.in_ok-len.len
     (omega (arith, c.requires.header.has_len)) c.requires.header.is_header room c.in_ok-len.ensures.fills c.in_default.ensures.refused in
     passes_part _ _ _ left _ _ _ _ _ (part_with (first ++ reads.bytes) (block_copy (first ++ reads.bytes)) c.in-Ok.outcome) (
       (
-        block_part c.args.parts.now c.args.file.now.reader c.taken_outcome.new.file (first ++ reads.bytes) (c.read_after.new.buffer ++ after) (Whole c.args.header.now)
+        block_part c.args.parts.now c.args.file.now.reader c.taken_outcome.new.file (first ++ reads.bytes)
+            (c.read_after.new.buffer ++ after) (Whole c.args.header.now)
             c.in-Ok.outcome whole_room reads.is_next c.in-Ok.ensures.steps,
         c.number_after-file.ensures,
       ),
       refl,
     )
     (Consumes-trans _ _ _ first reads.bytes consumed reads.consumed)
-    (subst (λ bytes. Appends (g.W.Write.contents c.args.copier.now.output) (g.W.Write.contents c.write_part.new.output) (written_by bytes c.in-Ok.outcome))
+    (subst (λ bytes. Appends (g.W.Write.contents c.args.copier.now.output) (g.W.Write.contents c.write_part.new.output)
+    (written_by bytes c.in-Ok.outcome))
     (c.forget_section_len.ensures.copy ∙ ap block_copy reads.is_next.3) c.in_ok-write_part.ensures.appends)
     refl
 

@@ -19,9 +19,11 @@ pub returns-in_err-len-clause-passes : goal.returns-in_err-len-clause-passes
 returns-in_err-len-clause-passes g c =
     λ left consumed counts.
     next_long_at (block_selection c.args.parts.now) _ _ c.args.file.now _ left _ _ _ _ _ _ c.args.first.now _ c.place-place.ensures
-    (λ bytes. long_front c.args.parts.now c.args.file.now.reader c.long_outcome-stepped.new.file c.args.first.now bytes c.args.copier.now.buffer.now
+    (λ bytes. long_front c.args.parts.now c.args.file.now.reader c.long_outcome-stepped.new.file c.args.first.now bytes
+    c.args.copier.now.buffer.now
     (c.args.first.now ++ bytes) c.args.header.now c.long_outcome-stepped.result c.kept_outcome-outcome.result c.requires.header.has_len
-    c.requires.header.is_header c.requires.room (c.long_outcome-stepped.ensures.steps c.args.copier.now.buffer.now) c.kept_outcome-outcome.ensures.refused)
+    c.requires.header.is_header c.requires.room
+    (c.long_outcome-stepped.ensures.steps c.args.copier.now.buffer.now) c.kept_outcome-outcome.ensures.refused)
     consumed c.in_err-len.ensures.passes (search rules)
 
 pub returns-then-len-middle_len-clause-passes : goal.returns-then-len-middle_len-clause-passes
@@ -34,15 +36,19 @@ returns-then-len-middle_len-clause-passes g c =
     let len = 12 + c.in_ok-len.len in
     let section = c.args.file.now.reader.section.byte_order in
     let has_room : length c.args.copier.now.buffer.now ≡ max_packet_len = search rules in
-    let long = long_front c.args.parts.now c.args.file.now.reader c.long_outcome-stepped.new.file first middle.bytes c.args.copier.now.buffer.now
-    (first ++ middle.bytes) header c.long_outcome-stepped.result outcome c.requires.header.has_len c.requires.header.is_header c.requires.room
+    let long = long_front c.args.parts.now c.args.file.now.reader c.long_outcome-stepped.new.file first middle.bytes
+    c.args.copier.now.buffer.now
+    (first ++ middle.bytes) header c.long_outcome-stepped.result outcome c.requires.header.has_len c.requires.header.is_header
+    c.requires.room
     (c.long_outcome-stepped.ensures.steps c.args.copier.now.buffer.now) c.kept_outcome-outcome.ensures.refused in
     ends_refused c.args.parts.now _ c.args.file.now (CutOff header.total_len len) left _ _ _ _ (first ++ middle.bytes)
-    (written_by (first ++ middle.bytes) outcome) c.args.copier.now.buffer.now (c.cut_off.ensures ∙ ap (λ place. cut_at place header.total_len len) c.place-place.ensures) has_room
+    (written_by (first ++ middle.bytes) outcome) c.args.copier.now.buffer.now
+    (c.cut_off.ensures ∙ ap (λ place. cut_at place header.total_len len) c.place-place.ensures) has_room
     (Consumes-trans _ _ _ first middle.bytes consumed middle.consumed) middle.appended
     (front_of outcome (first ++ middle.bytes) (IsLongBlock c.args.file.now.reader (first ++ middle.bytes)) long)
     (next_of section first middle.bytes c.args.copier.now.buffer.now (Refused (CutOff header.total_len len))
-    (cut_off_after section first middle.bytes (Some middle.bytes) (Some []) c.args.copier.now.buffer.now header len (omega (arith, c.requires.header.has_len))
+    (cut_off_after section first middle.bytes (Some middle.bytes) (Some []) c.args.copier.now.buffer.now header len
+    (omega (arith, c.requires.header.has_len))
     c.requires.header.accepted c.requires.header.is_header (alone middle.bytes)
     (omega (arith, c.requires.header.has_len, middle.has_len, length-append first middle.bytes))
     (omega (arith, c.requires.room, c.if-len-middle_len.true)) refl))
@@ -56,9 +62,13 @@ returns-in_err-len-2-clause-passes g c =
     let outcome = c.kept_outcome-outcome.result in
     let bytes = first ++ middle.bytes in
     next_to_read_error (block_selection c.args.parts.now) _ _ c.args.file.now _ left _ _ _ _ _ bytes (written_by bytes outcome)
-    (read_error_at _ _ _ c.place-place.ensures c.in_err-len-2.ensures.failed) (Consumes-trans _ _ _ first middle.bytes consumed middle.consumed) middle.appended
-    (front_of outcome bytes (IsLongBlock c.args.file.now.reader bytes) (long_front c.args.parts.now c.args.file.now.reader c.long_outcome-stepped.new.file first middle.bytes c.args.copier.now.buffer.now (first ++ middle.bytes)
-    c.args.header.now c.long_outcome-stepped.result c.kept_outcome-outcome.result c.requires.header.has_len c.requires.header.is_header c.requires.room
+    (read_error_at _ _ _ c.place-place.ensures c.in_err-len-2.ensures.failed)
+    (Consumes-trans _ _ _ first middle.bytes consumed middle.consumed) middle.appended
+    (front_of outcome bytes (IsLongBlock c.args.file.now.reader bytes)
+    (long_front c.args.parts.now c.args.file.now.reader c.long_outcome-stepped.new.file first middle.bytes c.args.copier.now.buffer.now
+    (first ++ middle.bytes)
+    c.args.header.now c.long_outcome-stepped.result c.kept_outcome-outcome.result c.requires.header.has_len c.requires.header.is_header
+    c.requires.room
     (c.long_outcome-stepped.ensures.steps c.args.copier.now.buffer.now) c.kept_outcome-outcome.ensures.refused))
     (search rules)
 
@@ -76,11 +86,14 @@ returns-then-len-lt-LAST_LEN-clause-passes g c =
     let len = 12 + (header.total_len - 12 - 4) + count in
     let section = c.args.file.now.reader.section.byte_order in
     let has_room : length c.args.copier.now.buffer.now ≡ max_packet_len = search rules in
-    let long = long_front c.args.parts.now c.args.file.now.reader c.long_outcome-stepped.new.file first (middle.bytes ++ last) c.args.copier.now.buffer.now
-    (first ++ middle.bytes) header c.long_outcome-stepped.result outcome c.requires.header.has_len c.requires.header.is_header c.requires.room
+    let long = long_front c.args.parts.now c.args.file.now.reader c.long_outcome-stepped.new.file first
+    (middle.bytes ++ last) c.args.copier.now.buffer.now
+    (first ++ middle.bytes) header c.long_outcome-stepped.result outcome c.requires.header.has_len c.requires.header.is_header
+    c.requires.room
     (c.long_outcome-stepped.ensures.steps c.args.copier.now.buffer.now) c.kept_outcome-outcome.ensures.refused in
     ends_refused c.args.parts.now _ c.args.file.now (CutOff header.total_len len) left _ _ _ _ (first ++ (middle.bytes ++ last))
-    (written_by (first ++ middle.bytes) outcome) c.args.copier.now.buffer.now (c.cut_off-then-len-lt-LAST_LEN.ensures ∙ ap (λ place. cut_at place header.total_len len) c.place-place.ensures) has_room
+    (written_by (first ++ middle.bytes) outcome) c.args.copier.now.buffer.now
+    (c.cut_off-then-len-lt-LAST_LEN.ensures ∙ ap (λ place. cut_at place header.total_len len) c.place-place.ensures) has_room
     (Consumes-trans _ _ _ first (middle.bytes ++ last) consumed
     (Consumes-trans _ _ _ middle.bytes last middle.consumed c.in_ok-len-2.ensures.consumed)) middle.appended
     (front_before outcome first middle.bytes last (IsLongBlock c.args.file.now.reader (first ++ (middle.bytes ++ last))) long)
@@ -88,7 +101,16 @@ returns-then-len-lt-LAST_LEN-clause-passes g c =
     (cut_off_after section first (middle.bytes ++ last) (Some (middle.bytes ++ last)) (Some []) c.args.copier.now.buffer.now header len
     (omega (arith, c.requires.header.has_len))
     c.requires.header.accepted c.requires.header.is_header (alone (middle.bytes ++ last))
-    (omega (arith, c.requires.header.has_len, middle.has_len, last_len, c.in_ok-len.ensures.within, c.if-len-middle_len.false, length-append first (middle.bytes ++ last), length-append middle.bytes last))
+    (omega (
+      arith,
+      c.requires.header.has_len,
+      middle.has_len,
+      last_len,
+      c.in_ok-len.ensures.within,
+      c.if-len-middle_len.false,
+      length-append first (middle.bytes ++ last),
+      length-append middle.bytes last,
+    ))
     (omega (arith, c.requires.room, c.if-len-lt-LAST_LEN.true)) refl))
     (c.in_ok-len-2.ensures.end (omega (arith, four, c.if-len-lt-LAST_LEN.true)))
 
@@ -104,18 +126,30 @@ returns-then-last_len-header-clause-passes g c =
     let number = c.number-last_len.result in
     let section = c.args.file.now.reader.section.byte_order in
     let has_room : length c.args.copier.now.buffer.now ≡ max_packet_len = search rules in
-    let long = long_front c.args.parts.now c.args.file.now.reader c.long_outcome-stepped.new.file first (middle.bytes ++ last) c.args.copier.now.buffer.now
-    (first ++ middle.bytes) header c.long_outcome-stepped.result outcome c.requires.header.has_len c.requires.header.is_header c.requires.room
+    let long = long_front c.args.parts.now c.args.file.now.reader c.long_outcome-stepped.new.file first
+    (middle.bytes ++ last) c.args.copier.now.buffer.now
+    (first ++ middle.bytes) header c.long_outcome-stepped.result outcome c.requires.header.has_len c.requires.header.is_header
+    c.requires.room
     (c.long_outcome-stepped.ensures.steps c.args.copier.now.buffer.now) c.kept_outcome-outcome.ensures.refused in
     let read_last = full _ _ last c.in_ok-len-2.len (omega (arith, four, c.if-len-lt-LAST_LEN.false)) c.in_ok-len-2.ensures.consumed in
     ends_refused c.args.parts.now _ c.args.file.now (LastLength header.total_len number) left _ _ _ _ (first ++ (middle.bytes ++ last))
-    (written_by (first ++ middle.bytes) outcome) c.args.copier.now.buffer.now (c.refused.ensures ∙ ap (λ place. refused_by place (LastLength header.total_len number)) c.place-place.ensures) has_room
-    (Consumes-trans _ _ _ first (middle.bytes ++ last) consumed (Consumes-trans _ _ _ middle.bytes last middle.consumed read_last)) middle.appended
+    (written_by (first ++ middle.bytes) outcome) c.args.copier.now.buffer.now
+    (c.refused.ensures ∙ ap (λ place. refused_by place (LastLength header.total_len number)) c.place-place.ensures) has_room
+    (Consumes-trans _ _ _ first (middle.bytes ++ last) consumed (Consumes-trans _ _ _ middle.bytes last middle.consumed read_last))
+    middle.appended
     (front_before outcome first middle.bytes last (IsLongBlock c.args.file.now.reader (first ++ (middle.bytes ++ last))) long)
     (next_of section first (middle.bytes ++ last) c.args.copier.now.buffer.now (Refused (LastLength header.total_len number))
     (differs_after section first middle.bytes last (Some (middle.bytes ++ last)) (Some []) c.args.copier.now.buffer.now header number
     (omega (arith, c.requires.header.has_len)) c.requires.header.accepted c.requires.header.is_header (alone (middle.bytes ++ last)) four
-    (omega (arith, c.requires.header.has_len, middle.has_len, c.in_ok-len.ensures.within, c.if-len-middle_len.false, c.requires.room, length-append first middle.bytes))
+    (omega (
+      arith,
+      c.requires.header.has_len,
+      middle.has_len,
+      c.in_ok-len.ensures.within,
+      c.if-len-middle_len.false,
+      c.requires.room,
+      length-append first middle.bytes,
+    ))
     c.number-last_len.ensures (λ same. omega (arith, same, c.if-last_len-header.true))))
     tt
 
@@ -130,16 +164,28 @@ returns-in-Err-clause-passes g c =
     let four : length last ≡ 4 = omega (arith, c.read_into.auto.buffer) in
     let section = c.args.file.now.reader.section.byte_order in
     let has_room : length c.args.copier.now.buffer.now ≡ max_packet_len = search rules in
-    let long = long_front c.args.parts.now c.args.file.now.reader c.long_outcome-stepped.new.file first (middle.bytes ++ last) c.args.copier.now.buffer.now
-    (first ++ middle.bytes) header c.long_outcome-stepped.result outcome c.requires.header.has_len c.requires.header.is_header c.requires.room
+    let long = long_front c.args.parts.now c.args.file.now.reader c.long_outcome-stepped.new.file first
+    (middle.bytes ++ last) c.args.copier.now.buffer.now
+    (first ++ middle.bytes) header c.long_outcome-stepped.result outcome c.requires.header.has_len c.requires.header.is_header
+    c.requires.room
     (c.long_outcome-stepped.ensures.steps c.args.copier.now.buffer.now) c.kept_outcome-outcome.ensures.refused in
     let read_last = full _ _ last c.in_ok-len-2.len (omega (arith, four, c.if-len-lt-LAST_LEN.false)) c.in_ok-len-2.ensures.consumed in
     let is_next = next_of section first (middle.bytes ++ last) c.args.copier.now.buffer.now (TooLong header)
-    (passed_over section first middle.bytes last (Some (middle.bytes ++ last)) (Some []) c.args.copier.now.buffer.now header c.number-last_len.result
+    (passed_over section first middle.bytes last (Some (middle.bytes ++ last))
+    (Some []) c.args.copier.now.buffer.now header c.number-last_len.result
     (omega (arith, c.requires.header.has_len)) c.requires.header.accepted c.requires.header.is_header (alone (middle.bytes ++ last)) four
-    (omega (arith, c.requires.header.has_len, middle.has_len, c.in_ok-len.ensures.within, c.if-len-middle_len.false, c.requires.room, length-append first middle.bytes))
+    (omega (
+      arith,
+      c.requires.header.has_len,
+      middle.has_len,
+      c.in_ok-len.ensures.within,
+      c.if-len-middle_len.false,
+      c.requires.room,
+      length-append first middle.bytes,
+    ))
     c.number-last_len.ensures (omega (arith, c.if-last_len-header.false)) (omega (arith, has_room, c.requires.room))) in
-    let steps = subst (StepsTo c.args.parts.now c.args.file.now.reader c.args.copier.now.buffer.now (TooLong header) c.long_outcome-stepped.new.file) c.in-Err.is
+    let steps = subst (StepsTo c.args.parts.now c.args.file.now.reader c.args.copier.now.buffer.now
+    (TooLong header) c.long_outcome-stepped.new.file) c.in-Err.is
     (c.long_outcome-stepped.ensures.steps c.args.copier.now.buffer.now) in
     inr (record {
       then_left = _;
@@ -147,10 +193,12 @@ returns-in-Err-clause-passes g c =
       is_end = (
         refl,
         front_before outcome first middle.bytes last (IsLongBlock c.args.file.now.reader (first ++ (middle.bytes ++ last))) long,
-        refused_block c.args.parts.now c.args.file.now.reader c.long_outcome-stepped.new.file (first ++ (middle.bytes ++ last)) c.args.copier.now.buffer.now
+        refused_block c.args.parts.now c.args.file.now.reader c.long_outcome-stepped.new.file
+            (first ++ (middle.bytes ++ last)) c.args.copier.now.buffer.now
             (TooLong header) c.in-Err.error has_room is_next steps,
       );
-      consumed = Consumes-trans _ _ _ first (middle.bytes ++ last) consumed (Consumes-trans _ _ _ middle.bytes last middle.consumed read_last);
+      consumed = Consumes-trans _ _ _ first (middle.bytes ++ last) consumed
+          (Consumes-trans _ _ _ middle.bytes last middle.consumed read_last);
       appended = middle.appended;
       counted = refl;
       leaves = refl;
@@ -169,32 +217,49 @@ returns-clause-passes g c =
     let has_room : length c.args.copier.now.buffer.now ≡ max_packet_len = search rules in
     let read_last = full _ _ last c.in_ok-len-2.len (omega (arith, four, c.if-len-lt-LAST_LEN.false)) c.in_ok-len-2.ensures.consumed in
     let is_next = next_of section first (middle.bytes ++ last) c.args.copier.now.buffer.now (TooLong header)
-    (passed_over section first middle.bytes last (Some (middle.bytes ++ last)) (Some []) c.args.copier.now.buffer.now header c.number-last_len.result
+    (passed_over section first middle.bytes last (Some (middle.bytes ++ last))
+    (Some []) c.args.copier.now.buffer.now header c.number-last_len.result
     (omega (arith, c.requires.header.has_len)) c.requires.header.accepted c.requires.header.is_header (alone (middle.bytes ++ last)) four
-    (omega (arith, c.requires.header.has_len, middle.has_len, c.in_ok-len.ensures.within, c.if-len-middle_len.false, c.requires.room, length-append first middle.bytes))
+    (omega (
+      arith,
+      c.requires.header.has_len,
+      middle.has_len,
+      c.in_ok-len.ensures.within,
+      c.if-len-middle_len.false,
+      c.requires.room,
+      length-append first middle.bytes,
+    ))
     c.number-last_len.ensures (omega (arith, c.if-last_len-header.false)) (omega (arith, has_room, c.requires.room))) in
-    let stepped : c.long_outcome-stepped.result ≡ Ok outcome = c.in_default.is ∙ ap Ok (sym (c.kept_outcome-outcome.ensures.kept c.in_default.field-0 c.in_default.is)) in
-    let steps = subst (StepsTo c.args.parts.now c.args.file.now.reader c.args.copier.now.buffer.now (TooLong header) c.long_outcome-stepped.new.file) stepped
+    let stepped : c.long_outcome-stepped.result ≡ Ok outcome =
+    c.in_default.is ∙ ap Ok (sym (c.kept_outcome-outcome.ensures.kept c.in_default.field-0 c.in_default.is)) in
+    let steps = subst (StepsTo c.args.parts.now c.args.file.now.reader c.args.copier.now.buffer.now
+    (TooLong header) c.long_outcome-stepped.new.file) stepped
     (c.long_outcome-stepped.ensures.steps c.args.copier.now.buffer.now) in
     passes_part _ _ _ left _ _ _ _ _ (part_of (first ++ (middle.bytes ++ last)) outcome) (
       (
-        block_part c.args.parts.now c.args.file.now.reader c.long_outcome-stepped.new.file (first ++ (middle.bytes ++ last)) c.args.copier.now.buffer.now (TooLong header)
+        block_part c.args.parts.now c.args.file.now.reader c.long_outcome-stepped.new.file
+            (first ++ (middle.bytes ++ last)) c.args.copier.now.buffer.now (TooLong header)
             outcome has_room is_next steps,
         c.number_after-file.ensures,
       ),
       ap (λ copy. written_by copy outcome)
-          (sym (long_copy c.args.parts.now c.args.file.now.reader c.long_outcome-stepped.new.file first (middle.bytes ++ last) c.args.copier.now.buffer.now header
+          (sym (long_copy c.args.parts.now c.args.file.now.reader c.long_outcome-stepped.new.file first
+          (middle.bytes ++ last) c.args.copier.now.buffer.now header
           outcome (λ place. (c.type_inv.first place).fits) c.requires.header.has_len c.requires.header.is_header steps)),
     )
     (Consumes-trans _ _ _ first (middle.bytes ++ last) consumed (Consumes-trans _ _ _ middle.bytes last middle.consumed read_last))
-    (subst (Appends (g.W.Write.contents c.args.copier.now.output) (g.W.Write.contents c.write_part.new.output)) (sym (written_append outcome first middle.bytes last))
-    (Appends-trans _ _ _ (written_by (first ++ middle.bytes) outcome) (written_by last outcome) middle.appended c.in_ok-write_part.ensures.appends))
+    (subst (Appends (g.W.Write.contents c.args.copier.now.output) (g.W.Write.contents c.write_part.new.output))
+    (sym (written_append outcome first middle.bytes last))
+    (Appends-trans _ _ _ (written_by (first ++ middle.bytes) outcome)
+    (written_by last outcome) middle.appended c.in_ok-write_part.ensures.appends))
     refl
 
 pub returns-clause-begun : goal.returns-clause-begun
 returns-clause-begun g c =
     let outcome = c.kept_outcome-outcome.result in
-    let stepped : c.long_outcome-stepped.result ≡ Ok outcome = c.in_default.is ∙ ap Ok (sym (c.kept_outcome-outcome.ensures.kept c.in_default.field-0 c.in_default.is)) in
-    let steps = subst (StepsTo c.args.parts.now c.args.file.now.reader c.args.copier.now.buffer.now (TooLong c.args.header.now) c.long_outcome-stepped.new.file) stepped
+    let stepped : c.long_outcome-stepped.result ≡ Ok outcome =
+    c.in_default.is ∙ ap Ok (sym (c.kept_outcome-outcome.ensures.kept c.in_default.field-0 c.in_default.is)) in
+    let steps = subst (StepsTo c.args.parts.now c.args.file.now.reader c.args.copier.now.buffer.now
+    (TooLong c.args.header.now) c.long_outcome-stepped.new.file) stepped
     (c.long_outcome-stepped.ensures.steps c.args.copier.now.buffer.now) in
     begun_past _ _ _ c.requires.header.len.0 steps.1.0

@@ -22,7 +22,8 @@ returns-in_err-is_block-clause-passes g c =
 
 pub returns-in_err-is_block-clause-limit : goal.returns-in_err-is_block-clause-limit
 returns-in_err-is_block-clause-limit g c =
-    ends_below (block_selection c.args.parts.now) c.args.parts.now.limit _ _ _ _ _ _ _ _ _ (sym c.is_full.ensures ∙ c.if-is_full.false) c.in_err-is_block.ensures.passes (search rules)
+    ends_below (block_selection c.args.parts.now) c.args.parts.now.limit _ _ _ _ _ _ _ _ _
+    (sym c.is_full.ensures ∙ c.if-is_full.false) c.in_err-is_block.ensures.passes (search rules)
 
 pub returns-then-not-is_block-clause-passes : goal.returns-then-not-is_block-clause-passes
 returns-then-not-is_block-clause-passes g c =
@@ -30,7 +31,8 @@ returns-then-not-is_block-clause-passes g c =
 
 pub returns-then-not-is_block-clause-limit : goal.returns-then-not-is_block-clause-limit
 returns-then-not-is_block-clause-limit g c =
-    none_below (block_selection c.args.parts.now) c.args.parts.now.limit _ _ _ _ _ _ _ _ _ (sym c.is_full.ensures ∙ c.if-is_full.false) c.in_ok-is_block.ensures.passes
+    none_below (block_selection c.args.parts.now) c.args.parts.now.limit _ _ _ _ _ _ _ _ _
+    (sym c.is_full.ensures ∙ c.if-is_full.false) c.in_ok-is_block.ensures.passes
     (search rules)
 
 pub loop-block-preserved : goal.loop-block-preserved
@@ -38,7 +40,8 @@ loop-block-preserved g c =
     let more = passes_more _ _ _ _ _ _ _ _ _ _ _ _ _ _ c.loop-block.invariant.passes.0 c.in_ok-is_block.ensures.passes (search rules) in
     record {
       passes = (more.0, omega (arith, more.1, c.loop-block.invariant.passes.1));
-      past = λ past. passes_past c.args.parts.now _ _ _ _ _ _ _ _ (passes_any _ _ _ _ _ _ _ _ _ _ c.in_ok-is_block.ensures.passes) (c.loop-block.invariant.past past);
+      past = λ past. passes_past c.args.parts.now _ _ _ _ _ _ _ _ (passes_any _ _ _ _ _ _ _ _ _ _ c.in_ok-is_block.ensures.passes)
+          (c.loop-block.invariant.past past);
       within = λ within. within_one _ _ _ (sym c.is_full.ensures ∙ c.if-is_full.false) c.select_next.ensures.one;
     }
 

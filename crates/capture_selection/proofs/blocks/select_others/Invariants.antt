@@ -8,7 +8,8 @@ use Rattle.capture_selection.proofs.blocks.select_others.Given as goal
 -- than requested
 abbrev pub invariant-loop-block : goal.invariant-loop-block
 invariant-loop-block g l = record {
-  passes : (passes : Passes (blocks_of l.parts) l.initial.file l.file (g.R.Read.remaining l.initial.copier.input) (g.R.Read.remaining l.copier.input)
+  passes : (passes : Passes (blocks_of l.parts) l.initial.file l.file (g.R.Read.remaining l.initial.copier.input)
+      (g.R.Read.remaining l.copier.input)
       (g.W.Write.contents l.initial.copier.output) (g.W.Write.contents l.copier.output) l.initial.counts l.counts)
       × (l._block ≤ length passes.parts);
   past : 1 ≤ l.initial.file.reader.offset → 1 ≤ l.file.reader.offset;

@@ -16,7 +16,8 @@ use Rattle.capture_selection.proofs.records.select_kept.Goals as goal
 pub returns-in_err-len : goal.returns-in_err-len
 returns-in_err-len g c = record {
   passes =
-      λ left consumed counts. next_to_read_error (record_selection c.args.parts.now) _ _ _ _ left _ _ _ _ _ _ [] c.in_err-len.ensures.failed consumed (Appends-nil _) (inl refl) (search rules);
+      λ left consumed counts. next_to_read_error (record_selection c.args.parts.now) _ _ _ _ left _ _ _ _ _ _
+      [] c.in_err-len.ensures.failed consumed (Appends-nil _) (inl refl) (search rules);
 }
 
 pub returns-then-len-frame : goal.returns-then-len-frame
@@ -48,8 +49,10 @@ returns g c = record {
       let outcome = Some c.outcome_in_frame.result in
       let captured_len = ap (λ header. header.captured_len) c.requires.header in
       let room = length-take c.args.header.now.captured_len c.args.copier.now.buffer.now in
-      let has = subst (λ header. HasOutcome c.args.parts.now (IsPacketOf (kept (packet_of_record capture header) frame)) outcome) c.requires.header
-      (subst (λ captured. HasOutcome c.args.parts.now (IsPacketOf (kept captured frame)) outcome) c.from_record-captured.ensures c.outcome_in_frame.ensures) in
+      let has = subst (λ header. HasOutcome c.args.parts.now (IsPacketOf (kept (packet_of_record capture header) frame)) outcome)
+      c.requires.header
+      (subst (λ captured. HasOutcome c.args.parts.now (IsPacketOf (kept captured frame)) outcome) c.from_record-captured.ensures
+      c.outcome_in_frame.ensures) in
       let sixteen : length first ≡ 16 = search rules in
       let whole : length (first ++ frame) ≡ 16 + c.args.header.now.captured_len =
       omega (arith, length-append first frame, sixteen, room, c.read_into.auto.buffer, c.requires.room) in
@@ -63,6 +66,7 @@ returns g c = record {
         ),
         refl,
       )
-      (Consumes-trans _ _ _ first frame consumed (full _ _ frame c.in_ok-len.len (omega (arith, c.if-len-frame.false)) c.in_ok-len.ensures.consumed))
+      (Consumes-trans _ _ _ first frame consumed
+      (full _ _ frame c.in_ok-len.len (omega (arith, c.if-len-frame.false)) c.in_ok-len.ensures.consumed))
       c.in_ok-write_part.ensures.appends refl;
 }

@@ -18,7 +18,8 @@ returns-in_err-len g c = record {
       λ left consumed counts.
       let captured_len = ap (λ header. header.captured_len) c.requires.header in
       next_long_to_error (record_selection c.args.parts.now) _ _ _ _ left _ _ _ _ _ _ c.args.first.now
-      (λ bytes. inr (long_record_front c.args.records.now.header c.args.first.now bytes (search rules) (omega (arith, captured_len, c.requires.room))))
+      (λ bytes. inr (long_record_front c.args.records.now.header c.args.first.now bytes (search rules)
+      (omega (arith, captured_len, c.requires.room))))
       consumed c.in_err-len.ensures.passes (search rules);
 }
 
@@ -30,8 +31,10 @@ returns-then-len-captured_len g c = record {
       let rest = c.in_ok-len.ensures.passes in
       let outcome = Some c.outcome_of.result in
       let captured_len = ap (λ header. header.captured_len) c.requires.header in
-      let long = long_record_front c.args.records.now.header first rest.bytes (search rules) (omega (arith, captured_len, c.requires.room)) in
-      ends_cut (record_selection c.args.parts.now) _ _ _ _ left _ _ _ _ (first ++ rest.bytes) (written_by (first ++ rest.bytes) outcome) c.cut_off.ensures
+      let long = long_record_front c.args.records.now.header first rest.bytes (search rules)
+      (omega (arith, captured_len, c.requires.room)) in
+      ends_cut (record_selection c.args.parts.now) _ _ _ _ left _ _ _ _ (first ++ rest.bytes)
+      (written_by (first ++ rest.bytes) outcome) c.cut_off.ensures
       (Consumes-trans _ _ _ first rest.bytes consumed rest.consumed) rest.appended
       (front_of outcome (first ++ rest.bytes) (IsLongRecord c.args.records.now.header (first ++ rest.bytes)) (inr long))
       (cut_captured c.args.records.now.header.byte_order first rest.bytes _ _ (search rules)
@@ -62,7 +65,8 @@ returns g c = record {
               (record_packet_long max_packet_len capture first rest.bytes (search rules) (omega (arith, captured_len, c.requires.room)))
               (record {
                 packet = packet;
-                is_packet = subst (λ header. IsPacketOf (too_long (long_record capture header)) packet) c.requires.header c.packet_without_room.ensures;
+                is_packet = subst (λ header. IsPacketOf (too_long (long_record capture header)) packet) c.requires.header
+                    c.packet_without_room.ensures;
                 given = outcome;
                 is_outcome = c.outcome_of.ensures;
                 has = refl;

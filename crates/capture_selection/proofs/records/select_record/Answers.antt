@@ -15,7 +15,8 @@ returns-in_err-len-clause-passes g c =
 pub returns-then-len-eq0-clause-passes : goal.returns-then-len-eq0-clause-passes
 returns-then-len-eq0-clause-passes g c = (
   refl,
-  subst (λ n. Consumes (g.R.Read.remaining c.args.copier.now.input) (g.R.Read.remaining c.read_into.new.input) (take n c.read_into.new.buffer)) c.if-len-eq0.true
+  subst (λ n. Consumes (g.R.Read.remaining c.args.copier.now.input) (g.R.Read.remaining c.read_into.new.input)
+      (take n c.read_into.new.buffer)) c.if-len-eq0.true
       c.in_ok-len.ensures.consumed,
   refl,
   refl,
@@ -25,15 +26,20 @@ pub returns-then-len-lt-LEN-clause-passes : goal.returns-then-len-lt-LEN-clause-
 returns-then-len-lt-LEN-clause-passes g c =
     let first = c.read_into.new.buffer in
     let len = c.in_ok-len.len in
-    ends_cut (record_selection c.args.parts.now) _ _ _ _ _ _ _ _ _ (take len first) [] c.cut_off.ensures c.in_ok-len.ensures.consumed (Appends-nil _) (inl refl)
+    ends_cut (record_selection c.args.parts.now) _ _ _ _ _ _ _ _ _ (take len first) [] c.cut_off.ensures c.in_ok-len.ensures.consumed
+    (Appends-nil _) (inl refl)
     (cut_header c.args.records.now.header.byte_order first len (search rules) (λ none. search rules) (omega (arith, c.if-len-lt-LEN.true)))
     (c.in_ok-len.ensures.end (search rules))
 
 pub returns-in_err-outcome-clause-passes : goal.returns-in_err-outcome-clause-passes
 returns-in_err-outcome-clause-passes g c =
-    any_to_end (records_of c.args.parts.now) _ _ _ _ _ _ _ _ _ _ (c.in_err-outcome.ensures.passes _ (full _ _ c.read_into.new.buffer c.in_ok-len.len (omega (arith, c.read_into.auto.buffer, c.if-len-lt-LEN.false)) c.in_ok-len.ensures.consumed) c.args.counts.now) (search rules)
+    any_to_end (records_of c.args.parts.now) _ _ _ _ _ _ _ _ _ _
+    (c.in_err-outcome.ensures.passes _ (full _ _ c.read_into.new.buffer c.in_ok-len.len
+    (omega (arith, c.read_into.auto.buffer, c.if-len-lt-LEN.false)) c.in_ok-len.ensures.consumed) c.args.counts.now) (search rules)
 
 pub returns-clause-passes : goal.returns-clause-passes
 returns-clause-passes g c =
-    one_given (records_of c.args.parts.now) c.in_ok-outcome.outcome _ _ _ _ _ _ _ _ (c.in_ok-outcome.ensures.passes _ (full _ _ c.read_into.new.buffer c.in_ok-len.len (omega (arith, c.read_into.auto.buffer, c.if-len-lt-LEN.false)) c.in_ok-len.ensures.consumed))
+    one_given (records_of c.args.parts.now) c.in_ok-outcome.outcome _ _ _ _ _ _ _ _
+    (c.in_ok-outcome.ensures.passes _ (full _ _ c.read_into.new.buffer c.in_ok-len.len
+    (omega (arith, c.read_into.auto.buffer, c.if-len-lt-LEN.false)) c.in_ok-len.ensures.consumed))
     c.add_if.ensures.counted

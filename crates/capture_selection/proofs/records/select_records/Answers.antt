@@ -21,7 +21,8 @@ returns-in_err-is_record-clause-passes g c =
 
 pub returns-in_err-is_record-clause-limit : goal.returns-in_err-is_record-clause-limit
 returns-in_err-is_record-clause-limit g c =
-    ends_below (record_selection c.args.parts.now) c.args.parts.now.limit _ _ _ _ _ _ _ _ _ (sym c.is_full.ensures ∙ c.if-is_full.false) c.in_err-is_record.ensures.passes (search rules)
+    ends_below (record_selection c.args.parts.now) c.args.parts.now.limit _ _ _ _ _ _ _ _ _
+    (sym c.is_full.ensures ∙ c.if-is_full.false) c.in_err-is_record.ensures.passes (search rules)
 
 pub returns-in_err-is_record-clause-full : goal.returns-in_err-is_record-clause-full
 returns-in_err-is_record-clause-full g c =
@@ -33,7 +34,8 @@ returns-then-not-is_record-clause-passes g c =
 
 pub returns-then-not-is_record-clause-limit : goal.returns-then-not-is_record-clause-limit
 returns-then-not-is_record-clause-limit g c =
-    none_below (record_selection c.args.parts.now) c.args.parts.now.limit _ _ _ _ _ _ _ _ _ (sym c.is_full.ensures ∙ c.if-is_full.false) c.in_ok-is_record.ensures.passes
+    none_below (record_selection c.args.parts.now) c.args.parts.now.limit _ _ _ _ _ _ _ _ _
+    (sym c.is_full.ensures ∙ c.if-is_full.false) c.in_ok-is_record.ensures.passes
     (search rules)
 
 pub returns-then-not-is_record-clause-full : goal.returns-then-not-is_record-clause-full
@@ -45,7 +47,8 @@ loop-record-preserved g c =
     let more = passes_more _ _ _ _ _ _ _ _ _ _ _ _ _ _ c.loop-record.invariant.passes.0 c.in_ok-is_record.ensures.passes (search rules) in
     record {
       passes = (more.0, omega (arith, more.1, c.loop-record.invariant.passes.1));
-      full = λ full. absurd (still_full c.args.parts.now.limit _ _ c.loop-record.invariant.full (sym c.is_full.ensures ∙ c.if-is_full.false) full);
+      full = λ full. absurd (still_full c.args.parts.now.limit _ _ c.loop-record.invariant.full
+          (sym c.is_full.ensures ∙ c.if-is_full.false) full);
       within = λ within. within_one _ _ _ (sym c.is_full.ensures ∙ c.if-is_full.false) c.select_record.ensures.one;
     }
 

@@ -22,13 +22,16 @@ returns g c =
     let packet = c.args.packet.now in
     let tunnels = rw c.as_slice.ensures.value at c.in_ok-write_tunnels.ensures in
     one_then _ _ _ _ _ _ _
-    (Appends-trans _ _ _ _ _ (Appends-trans _ _ _ _ _ (Appends-trans _ _ _ _ _ (Appends-trans _ _ _ _ _ (Appends-trans _ _ _ _ _ (Appends-trans _ _ _ _ _ (Appends-trans _ _ _ _ _
+    (Appends-trans _ _ _ _ _ (Appends-trans _ _ _ _ _
+    (Appends-trans _ _ _ _ _ (Appends-trans _ _ _ _ _ (Appends-trans _ _ _ _ _ (Appends-trans _ _ _ _ _ (Appends-trans _ _ _ _ _
     (Appends-trans _ _ _ _ _ (Appends-trans _ _ _ _ _ c.in_ok-write.ensures.bytes c.in_ok-write_time.ensures)
-    c.in_ok-write_interface.ensures) c.in_ok-write_frame_len.ensures) tunnels) appends) c.in_ok-write_arp.ensures) c.in_ok-write_fragment.ensures) c.in_ok-write_details.ensures) c.in_ok-write_end.ensures) (
+    c.in_ok-write_interface.ensures) c.in_ok-write_frame_len.ensures) tunnels) appends) c.in_ok-write_arp.ensures)
+    c.in_ok-write_fragment.ensures) c.in_ok-write_details.ensures) c.in_ok-write_end.ensures) (
       what,
       is,
       line_text (decimal info.number) (codes " ") (time_text c.args.times info.first info.capture.time) (interface_text info.interface)
-          (frame_text info.capture.len) (flat_map tunnel_text packet.tunnels.items) what (arp_text packet.arp) (fragment_text packet.fragment)
+          (frame_text info.capture.len) (flat_map tunnel_text packet.tunnels.items) what (arp_text packet.arp)
+          (fragment_text packet.fragment)
           (details_text c.args.verbose packet) (end_text packet.content packet.verdict) (codes "\n"),
     )
     c.writeln.ensures.bytes

@@ -7,7 +7,8 @@ use Rattle.capture_text.proofs.tables.conversation_name.Goals as goal
 
 -- the name consists of these parts
 joined : (written protocol source destination : List ℕ) → written ≡ protocol
-    → written ++ (codes " " ++ (source ++ (codes " <> " ++ destination))) ≡ (((protocol ++ codes " ") ++ source) ++ codes " <> ") ++ destination
+    → written ++ (codes " " ++ (source ++ (codes " <> " ++ destination))) ≡ (((protocol ++ codes " ") ++ source) ++ codes " <> ")
+    ++ destination
 joined written protocol source destination same =
     ap (λ text. text ++ (codes " " ++ (source ++ (codes " <> " ++ destination)))) same
     ∙ sym (append_assoc protocol (codes " ") (source ++ (codes " <> " ++ destination)))

@@ -6,5 +6,6 @@ use Rattle.capture_words.proofs.texts.write_texts.Goals as goal
 pub returns : goal.returns
 returns g c =
     written_3 _ _ _ _ _ _ _ _ _
-    (Appends-trans _ _ _ _ _ c.in_ok-write_labelled.ensures (Appends-trans _ _ _ _ _ c.in_ok-write_labelled-2.ensures c.in_ok-write_labelled-3.ensures))
+    (Appends-trans _ _ _ _ _ c.in_ok-write_labelled.ensures
+    (Appends-trans _ _ _ _ _ c.in_ok-write_labelled-2.ensures c.in_ok-write_labelled-3.ensures))
     c.in_ok-write_labelled-4.ensures c.write_commented.ensures (simp append_assoc)

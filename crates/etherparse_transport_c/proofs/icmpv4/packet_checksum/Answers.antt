@@ -11,7 +11,8 @@ returns-clause-sum c =
     rw c.slice.ensures.bytes (from_place 8 c.args.packet.now) in
     c.calc_checksum.ensures.sum
     ∙ ap checksum_of
-    (total_written c.args.packet.now c.bytes5to8.result _ c.type_u8.result c.code_u8.result 0 c.requires.shortest c.type_u8.ensures c.code_u8.ensures
+    (total_written c.args.packet.now c.bytes5to8.result _ c.type_u8.result c.code_u8.result 0 c.requires.shortest c.type_u8.ensures
+    c.code_u8.ensures
     c.bytes5to8.ensures payload (search rules))
 
 pub returns-clause-valid : goal.returns-clause-valid
@@ -19,6 +20,7 @@ returns-clause-valid c =
     let payload : take (length c.slice.result.now - 8) (drop 8 c.slice.result.now) ≡ drop 8 c.args.packet.now =
     rw c.slice.ensures.bytes (from_place 8 c.args.packet.now) in
     subst IsValidIcmpv4
-    (packet_written c.args.packet.now c.bytes5to8.result _ c.type_u8.result c.code_u8.result c.calc_checksum.result c.requires.shortest c.type_u8.ensures
+    (packet_written c.args.packet.now c.bytes5to8.result _ c.type_u8.result c.code_u8.result c.calc_checksum.result c.requires.shortest
+    c.type_u8.ensures
     c.code_u8.ensures c.bytes5to8.ensures payload)
     c.calc_checksum.ensures.valid

@@ -9,4 +9,5 @@ returns-in-Ok-clause-stored c = rw (c.in-Ok.ensures.refused, c.store.ensures, c.
 
 pub returns-in-Ok-clause-passes : goal.returns-in-Ok-clause-passes
 returns-in-Ok-clause-passes c accepted =
-    subst (λ bytes. Answers (TestTells c.args.source.now c.args.destination.now bytes) numbers.status_ok) (sym c.store.ensures) c.in-Ok.ensures.passes
+    subst (λ bytes. Answers (TestTells c.args.source.now c.args.destination.now bytes) numbers.status_ok)
+    (sym c.store.ensures) c.in-Ok.ensures.passes

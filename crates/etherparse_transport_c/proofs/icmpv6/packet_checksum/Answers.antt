@@ -10,7 +10,8 @@ pub returns-clause-sum : goal.returns-clause-sum
 returns-clause-sum c =
     let payload : take (length c.slice.result.now - 8) (drop 8 c.slice.result.now) ≡ drop 8 c.args.packet.now =
     rw c.slice.ensures.bytes (from_place 8 c.args.packet.now) in
-    let same = summed_icmpv6 c.args.source c.args.destination c.args.packet.now c.bytes5to8.result _ c.type_u8.result c.code_u8.result c.requires.shortest
+    let same = summed_icmpv6 c.args.source c.args.destination c.args.packet.now c.bytes5to8.result _ c.type_u8.result c.code_u8.result
+    c.requires.shortest
     c.type_u8.ensures c.code_u8.ensures c.bytes5to8.ensures payload (search rules) in
     IfOk-weaker c.calc_checksum.result _ _ (λ checksum is. is ∙ ap checksum_of same) c.calc_checksum.ensures.sum
 

@@ -15,5 +15,6 @@ returns-in-Ok-clause-transport c =
 pub returns-in-Ok-clause-payload : goal.returns-in-Ok-clause-payload
 returns-in-Ok-clause-payload c = λ accepted.
     subst (λ missing. HasPayload missing c.args.bytes.now c.fields.result) c.in-Ok.ensures.stated
-    (subst (HasPayload c.in-Ok.carried.is_length_missing c.args.bytes.now) (sym (c.fields.ensures c.in-Ok.ensures.found c.args.transport.now))
+    (subst (HasPayload c.in-Ok.carried.is_length_missing c.args.bytes.now)
+    (sym (c.fields.ensures c.in-Ok.ensures.found c.args.transport.now))
     (has_payload c.args.bytes.now c.in-Ok.carried c.args.transport.now c.in-Ok.ensures.found))

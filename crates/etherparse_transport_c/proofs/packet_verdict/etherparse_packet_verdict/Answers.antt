@@ -17,5 +17,6 @@ returns-in-Ok-clause-error c =
     rw c.in-Ok.ensures.refused (
       left.0,
       left.1
-          ∙ ap (λ missing. unwrap_or (transport_refusal missing bytes (headers_of missing bytes)) c.args.error.before) c.in-Ok.ensures.stated,
+          ∙ ap (λ missing. unwrap_or (transport_refusal missing bytes (headers_of missing bytes)) c.args.error.before)
+          c.in-Ok.ensures.stated,
     )

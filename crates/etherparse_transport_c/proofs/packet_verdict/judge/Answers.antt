@@ -23,8 +23,14 @@ returns-in-Ok-clause-packet c =
       length = refl;
       verdict = c.in-Ok.verdict;
       judges = c.in-Ok.ensures.judged;
-      tells = rw (told_of_carried packet carried carries told (c.fields-transport.ensures carries), c.header_protocol.ensures accepted, c.number_of_verdict.ensures, c.expected_checksum.ensures) refl;
-      payload = subst (HasPayload carried.is_length_missing packet) (sym (c.fields-transport.ensures carries told)) (has_payload packet carried told carries);
+      tells = rw (
+        told_of_carried packet carried carries told (c.fields-transport.ensures carries),
+        c.header_protocol.ensures accepted,
+        c.number_of_verdict.ensures,
+        c.expected_checksum.ensures,
+      ) refl;
+      payload = subst (HasPayload carried.is_length_missing packet) (sym (c.fields-transport.ensures carries told))
+          (has_payload packet carried told carries);
     })
 
 pub returns-in-Err-clause-error : goal.returns-in-Err-clause-error
@@ -33,5 +39,8 @@ returns-in-Err-clause-error c =
     let carries = c.requires in
     let carried = c.args.carried.now in
     let told = told_of_carried packet carried carries c.fields-transport.result (c.fields-transport.ensures carries) in
-    rw (refusal_by_headers packet carried carries, c.in-Err.ensures.refused)
-    (c.refuse.ensures.pointer, c.refuse.ensures.error ∙ c.of_transport.ensures ∙ ap (λ transport. of_transport transport.payload_offset c.in-Err.refused) told)
+    rw (refusal_by_headers packet carried carries, c.in-Err.ensures.refused) (
+      c.refuse.ensures.pointer,
+      c.refuse.ensures.error ∙ c.of_transport.ensures
+          ∙ ap (λ transport. of_transport transport.payload_offset c.in-Err.refused) told,
+    )

@@ -5,4 +5,5 @@ use Rattle.etherparse_transport_c.proofs.sum.added.Goals as goal
 
 pub returns : goal.returns
 returns c =
-    rw (c.ones_complement.ensures, c.add_slice.ensures.sum, c.sum_of.ensures) (omega (arith, folded-lt (c.args.value + total c.args.bytes.now)))
+    rw (c.ones_complement.ensures, c.add_slice.ensures.sum, c.sum_of.ensures)
+    (omega (arith, folded-lt (c.args.value + total c.args.bytes.now)))

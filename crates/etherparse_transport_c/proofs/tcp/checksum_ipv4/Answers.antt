@@ -50,5 +50,6 @@ returns-in-Ok-calc_checksum_ipv4_raw-clause-valid c =
 pub returns-in-Ok-calc_checksum_ipv4_raw-clause-passes : goal.returns-in-Ok-calc_checksum_ipv4_raw-clause-passes
 returns-in-Ok-calc_checksum_ipv4_raw-clause-passes c =
     let bytes = c.args.bytes.now in
-    passes_ipv4 c.args.source.now c.args.destination.now bytes c.in-Ok-calc_checksum_ipv4_raw.computed (enough bytes c.in-Ok.ensures.refused)
+    passes_ipv4 c.args.source.now c.args.destination.now bytes c.in-Ok-calc_checksum_ipv4_raw.computed
+    (enough bytes c.in-Ok.ensures.refused)
     (returns-in-Ok-calc_checksum_ipv4_raw-clause-refused c) (returns-in-Ok-calc_checksum_ipv4_raw-clause-valid c)

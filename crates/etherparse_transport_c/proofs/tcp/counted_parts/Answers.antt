@@ -11,7 +11,8 @@ pub returns-in-Err-check_payload_len-clause-refused : goal.returns-in-Err-check_
 returns-in-Err-check_payload_len-clause-refused c =
     let bytes = c.args.bytes.now in
     let front = c.slice-header_len.ensures ∙ c.in-Ok.ensures.kept in
-    refused_by c.args.value_type c.args.limit bytes c.slice-header_len.result.now _ (Some c.in-Err-check_payload_len.refused) c.in-Ok.ensures.refused front
+    refused_by c.args.value_type c.args.limit bytes c.slice-header_len.result.now _
+    (Some c.in-Err-check_payload_len.refused) c.in-Ok.ensures.refused front
     (payload_after bytes c.slice-header_len.result.now c.in-Ok.ensures.refused front) c.in-Err-check_payload_len.ensures
     ∙ ap Some (sym c.of_value.ensures.numbers)
 
@@ -26,4 +27,5 @@ pub returns-in-Ok-check_payload_len-clause-whole : goal.returns-in-Ok-check_payl
 returns-in-Ok-check_payload_len-clause-whole c =
     let bytes = c.args.bytes.now in
     let front = c.slice-header_len.ensures ∙ c.in-Ok.ensures.kept in
-    parts_whole bytes c.in-Ok.header _ c.in-Ok.ensures.kept (payload_after bytes c.slice-header_len.result.now c.in-Ok.ensures.refused front)
+    parts_whole bytes c.in-Ok.header _ c.in-Ok.ensures.kept
+    (payload_after bytes c.slice-header_len.result.now c.in-Ok.ensures.refused front)

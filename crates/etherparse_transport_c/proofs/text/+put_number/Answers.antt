@@ -7,7 +7,8 @@ use Rattle.etherparse_transport_c.proofs.text.+put_number.Goals as goal
 
 pub returns-then-number-lt10 : goal.returns-then-number-lt10
 returns-then-number-lt10 d c before cut =
-    subst (λ digits. IsCut c.put_digit.new.text.items (before ++ digits)) (sym (decimal_digit c.args.number (search rules))) (c.put_digit.ensures before cut)
+    subst (λ digits. IsCut c.put_digit.new.text.items (before ++ digits)) (sym (decimal_digit c.args.number (search rules)))
+    (c.put_digit.ensures before cut)
 
 pub returns : goal.returns
 returns d c before cut =

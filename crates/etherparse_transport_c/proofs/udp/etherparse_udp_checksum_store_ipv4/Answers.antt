@@ -6,7 +6,8 @@ use Rattle.etherparse_transport_c.proofs.udp.etherparse_udp_checksum_store_ipv4.
 
 pub returns-in-Ok-clause-passes : goal.returns-in-Ok-clause-passes
 returns-in-Ok-clause-passes c accepted =
-    subst (λ bytes. Answers (TestTellsIpv4 c.args.source.now c.args.destination.now bytes) numbers.status_ok) (sym c.store.ensures) c.in-Ok.ensures.passes
+    subst (λ bytes. Answers (TestTellsIpv4 c.args.source.now c.args.destination.now bytes) numbers.status_ok)
+    (sym c.store.ensures) c.in-Ok.ensures.passes
 
 pub returns-in-Ok-clause-stored : goal.returns-in-Ok-clause-stored
 returns-in-Ok-clause-stored c = rw (c.in-Ok.ensures.refused, c.store.ensures, c.in-Ok.ensures.sum) refl

@@ -7,4 +7,5 @@ pub returns-clause-reads_back : goal.returns-clause-reads_back
 returns-clause-reads_back c accepted =
     let rest = drop 8 c.args.buffer.now in
     let decodes = subst (λ header. DecodesAs (wire header ++ rest) header rest) c.header.ensures (c.to_bytes.ensures.reads_back rest) in
-    rw (c.write.ensures.buffer, c.to_bytes.ensures.written, c.header.ensures, accepted) (reads_back c.args.fields.now c.args.buffer.now decodes)
+    rw (c.write.ensures.buffer, c.to_bytes.ensures.written, c.header.ensures, accepted)
+    (reads_back c.args.fields.now c.args.buffer.now decodes)

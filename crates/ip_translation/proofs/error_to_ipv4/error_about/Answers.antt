@@ -27,7 +27,8 @@ returns-clause-written c =
     let word : List ℕ = specs.word c.args.kind message in
     let header : List ℕ = headers.quoted_header c.args.prefixes.now quoted in
     let header_is : c.as_slice.result.now ≡ header = search rules in
-    let quote_is : c.write_quote.new.translated ≡ specs.translated_quote c.args.prefixes.now quoted (specs.quoted_message quoted (quote_of message)) =
+    let quote_is : c.write_quote.new.translated
+    ≡ specs.translated_quote c.args.prefixes.now quoted (specs.quoted_message quoted (quote_of message)) =
     c.write_quote.ensures ∙ ap (specs.translated_quote c.args.prefixes.now quoted) c.in_ok-bytes.ensures.bytes in
     c.joined.ensures.bytes
     ∙ ap (λ word. joined c.args.kind word c.as_slice.result.now c.write_quote.new.translated) c.in_ok-word.ensures.word

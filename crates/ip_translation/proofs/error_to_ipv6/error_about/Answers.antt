@@ -30,7 +30,8 @@ returns-clause-written c =
     let word_is : c.to_be_bytes.result ≡ word =
     c.to_be_bytes.ensures ∙ ap (to_be_bytes w32) (c.in_ok-word.ensures.word ∙ ap (specs.word c.args.kind message) c.total_len.ensures) in
     let header_is : c.as_slice.result.now ≡ header = search rules in
-    let quote_is : c.write_quote.new.translated ≡ specs.translated_quote c.args.prefixes.now quoted (specs.quoted_message quoted (quote_of message)) =
+    let quote_is : c.write_quote.new.translated
+    ≡ specs.translated_quote c.args.prefixes.now quoted (specs.quoted_message quoted (quote_of message)) =
     c.write_quote.ensures ∙ ap (specs.translated_quote c.args.prefixes.now quoted) c.in_ok-bytes.ensures.bytes in
     c.joined.ensures.bytes
     ∙ ap (λ word. joined c.args.kind word c.as_slice.result.now c.write_quote.new.translated) word_is

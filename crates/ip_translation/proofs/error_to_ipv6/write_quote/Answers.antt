@@ -13,5 +13,6 @@ returns c =
     let no_tcp : protocol header ≢ 6 = grind (arith, c.if-protocol-3.false, c.protocol-3.ensures) in
     c.copy_from_slice.ensures.after
     ∙ sym (
-    no_protocol 1 (protocol header) (specs.quoted_icmp c.args.prefixes.now header message) (specs.quoted_udp c.args.prefixes.now header message)
+    no_protocol 1 (protocol header) (specs.quoted_icmp c.args.prefixes.now header message)
+    (specs.quoted_udp c.args.prefixes.now header message)
     (specs.quoted_tcp c.args.prefixes.now header message) message no_icmp no_udp no_tcp)

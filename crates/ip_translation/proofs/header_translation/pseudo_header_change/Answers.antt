@@ -30,7 +30,8 @@ returns-clause-added c =
 
 pub returns-clause-some : goal.returns-clause-some
 returns-clause-some c = λ protocol len some. (
-  subst₂ (λ source destination. 0 < total (ipv4_pseudo_header source destination protocol len)) c.source-source.ensures c.destination-destination.ensures
+  subst₂ (λ source destination. 0 < total (ipv4_pseudo_header source destination protocol len)) c.source-source.ensures
+      c.destination-destination.ensures
       (ipv4_pseudo_header_some c.source-source.result c.destination-destination.result protocol len (search rules) (search rules) some),
   subst₂ (λ source destination. 0 < total (ipv6_pseudo_header source destination protocol len))
       (c.embed-new_source.ensures.embedded ∙ ap (embedded c.args.prefixes.now.source) c.source-source.ensures)
@@ -41,7 +42,8 @@ returns-clause-some c = λ protocol len some. (
 pub returns-clause-turns : goal.returns-clause-turns
 returns-clause-turns c = λ protocol len rest short.
     subst₂ (λ source destination. TurnsInto c.replace_slice-2.result (total (ipv4_pseudo_header source destination protocol len) + rest)
-    (total (ipv6_pseudo_header (embedded c.args.prefixes.now.source source) (embedded c.args.prefixes.now.destination destination) protocol len) + rest))
+    (total (ipv6_pseudo_header (embedded c.args.prefixes.now.source source)
+    (embedded c.args.prefixes.now.destination destination) protocol len) + rest))
     c.source-source.ensures c.destination-destination.ensures
     (subst₂ (λ source destination. TurnsInto c.replace_slice-2.result
     (total (ipv4_pseudo_header c.source-source.result c.destination-destination.result protocol len) + rest)

@@ -6,6 +6,7 @@ use Rattle.ip_translation.proofs.ipv4_header_translation.ipv4_header.Goals as go
 
 pub returns-clause-verifies : goal.returns-clause-verifies
 returns-clause-verifies c =
-    let right : c.checksum_of-checksum.result ≡ checksum_of (total (with_header_checksum c.args.start 0 c.args.source c.args.destination)) = search rules in
+    let right : c.checksum_of-checksum.result ≡ checksum_of (total (with_header_checksum c.args.start 0 c.args.source c.args.destination)) =
+    search rules in
     subst (λ header. Verifies [] header) (sym c.with_checksum-2.ensures.bytes)
     (header_verifies c.args.start c.args.source c.args.destination c.checksum_of-checksum.result (search rules) (search rules) right)

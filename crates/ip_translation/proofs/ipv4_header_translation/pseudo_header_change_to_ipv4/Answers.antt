@@ -34,7 +34,8 @@ returns-clause-added c =
 pub returns-clause-turned : goal.returns-clause-turned
 returns-clause-turned c = λ protocol some.
     let is_source = c.front.ensures.ipv4 ∙ ap (extracted c.args.prefixes.now.source) c.source-source.ensures in
-    let is_destination = c.front-2.ensures.ipv4 ∙ ap (extracted c.args.prefixes.now.destination) c.destination-destination.ensures in record {
+    let is_destination = c.front-2.ensures.ipv4 ∙ ap (extracted c.args.prefixes.now.destination) c.destination-destination.ensures in
+    record {
       turns = λ len rest short.
           subst₂ (λ source destination. TurnsInto c.reversed.result (total (ipv6_pseudo_header source destination protocol len) + rest)
           (total (specs.new_pseudo_header c.args.prefixes.now c.args.header.now protocol len) + rest))
@@ -50,7 +51,8 @@ returns-clause-turned c = λ protocol some.
           (search rules) (search rules) (search rules) (search rules) short
           c.new.ensures.unchanged c.replace_slice.ensures.extends c.replace_slice-2.ensures.extends)));
       old_some = λ len.
-          subst₂ (λ source destination. 0 < total (ipv6_pseudo_header source destination protocol len)) c.source-source.ensures c.destination-destination.ensures
+          subst₂ (λ source destination. 0 < total (ipv6_pseudo_header source destination protocol len)) c.source-source.ensures
+          c.destination-destination.ensures
           (ipv6_pseudo_header_some c.source-source.result c.destination-destination.result protocol len (search rules) (search rules) some);
       new_some = λ len.
           subst₂ (λ source destination. 0 < total (ipv4_pseudo_header source destination protocol len)) is_source is_destination

@@ -23,28 +23,38 @@ returns-clause-udp c = λ packet fits there some.
     let is_destination : c.embed-2.result ≡ embedded prefixes.destination (headers.destination header) =
     c.embed-2.ensures.embedded ∙ ap (embedded prefixes.destination) c.destination.ensures in
     let source_len : length (embedded prefixes.source (headers.source header)) ≡ 16 = ap length (sym is_source) ∙ search rules in
-    let destination_len : length (embedded prefixes.destination (headers.destination header)) ≡ 16 = ap length (sym is_destination) ∙ search rules in
+    let destination_len : length (embedded prefixes.destination (headers.destination header)) ≡ 16 =
+    ap length (sym is_destination) ∙ search rules in
     let old_source : back.source (headers.translated_header prefixes header) ≡ embedded prefixes.source (headers.source header) =
-    source_of (headers.type_of_service header) (headers.total_len header - ipv4_header_len header) (headers.next_header (headers.protocol header))
-    (headers.time_to_live header - 1) (embedded prefixes.source (headers.source header)) (embedded prefixes.destination (headers.destination header)) source_len in
-    let old_destination : back.destination (headers.translated_header prefixes header) ≡ embedded prefixes.destination (headers.destination header) =
-    destination_of (headers.type_of_service header) (headers.total_len header - ipv4_header_len header) (headers.next_header (headers.protocol header))
-    (headers.time_to_live header - 1) (embedded prefixes.source (headers.source header)) (embedded prefixes.destination (headers.destination header)) source_len destination_len in
+    source_of (headers.type_of_service header) (headers.total_len header - ipv4_header_len header)
+    (headers.next_header (headers.protocol header))
+    (headers.time_to_live header - 1) (embedded prefixes.source (headers.source header))
+    (embedded prefixes.destination (headers.destination header)) source_len in
+    let old_destination : back.destination (headers.translated_header prefixes header)
+    ≡ embedded prefixes.destination (headers.destination header) =
+    destination_of (headers.type_of_service header) (headers.total_len header - ipv4_header_len header)
+    (headers.next_header (headers.protocol header))
+    (headers.time_to_live header - 1) (embedded prefixes.source (headers.source header))
+    (embedded prefixes.destination (headers.destination header)) source_len destination_len in
     let same : back.removed_addresses (headers.translated_header prefixes header) ≡ added_addresses prefixes header =
     ap₂ (λ source destination. folded (total source + total destination)) old_source old_destination in
     let same_too : back.added_addresses prefixes (headers.translated_header prefixes header) ≡ removed_addresses header =
-    ap₂ (λ source destination. folded (total (extracted prefixes.source source) + total (extracted prefixes.destination destination))) old_source old_destination
+    ap₂ (λ source destination. folded (total (extracted prefixes.source source) + total (extracted prefixes.destination destination)))
+    old_source old_destination
     ∙ ap₂ (λ source destination. folded (total source + total destination))
     (ap (extracted prefixes.source) (sym is_source) ∙ c.embed.ensures.extracted ∙ c.source.ensures)
     (ap (extracted prefixes.destination) (sym is_destination) ∙ c.embed-2.ensures.extracted ∙ c.destination.ensures) in
     let test : (udp_checksum packet == 0) ≡ false = grind (arith, nat_tests) in
-    let updated : new_udp_checksum prefixes header packet ≡ updated_udp_checksum_of (udp_checksum packet) (removed_addresses header) (added_addresses prefixes header) =
-    ap (λ test. if test then udp_checksum_of (total (headers.new_pseudo_header prefixes header udp_number (udp_length packet)) + total (take (udp_length packet) packet))
+    let updated : new_udp_checksum prefixes header packet
+    ≡ updated_udp_checksum_of (udp_checksum packet) (removed_addresses header) (added_addresses prefixes header) =
+    ap (λ test. if test then udp_checksum_of (total (headers.new_pseudo_header prefixes header udp_number (udp_length packet))
+    + total (take (udp_length packet) packet))
     else updated_udp_checksum_of (udp_checksum packet) (removed_addresses header) (added_addresses prefixes header)) test in
     ap (λ checksum. ipv4.translated_udp prefixes (headers.translated_header prefixes header) (with_checksum 6 packet checksum)) updated
     ∙ udp_same packet (removed_addresses header) (added_addresses prefixes header) _ _ fits there
     (folded-lt (total (headers.source header) + total (headers.destination header)))
-    (folded-lt (total (embedded prefixes.source (headers.source header)) + total (embedded prefixes.destination (headers.destination header))))
+    (folded-lt (total (embedded prefixes.source (headers.source header))
+    + total (embedded prefixes.destination (headers.destination header))))
     same same_too
 
 pub returns-clause-tcp : goal.returns-clause-tcp
@@ -56,21 +66,29 @@ returns-clause-tcp c = λ segment fits there some.
     let is_destination : c.embed-2.result ≡ embedded prefixes.destination (headers.destination header) =
     c.embed-2.ensures.embedded ∙ ap (embedded prefixes.destination) c.destination.ensures in
     let source_len : length (embedded prefixes.source (headers.source header)) ≡ 16 = ap length (sym is_source) ∙ search rules in
-    let destination_len : length (embedded prefixes.destination (headers.destination header)) ≡ 16 = ap length (sym is_destination) ∙ search rules in
+    let destination_len : length (embedded prefixes.destination (headers.destination header)) ≡ 16 =
+    ap length (sym is_destination) ∙ search rules in
     let old_source : back.source (headers.translated_header prefixes header) ≡ embedded prefixes.source (headers.source header) =
-    source_of (headers.type_of_service header) (headers.total_len header - ipv4_header_len header) (headers.next_header (headers.protocol header))
-    (headers.time_to_live header - 1) (embedded prefixes.source (headers.source header)) (embedded prefixes.destination (headers.destination header)) source_len in
-    let old_destination : back.destination (headers.translated_header prefixes header) ≡ embedded prefixes.destination (headers.destination header) =
-    destination_of (headers.type_of_service header) (headers.total_len header - ipv4_header_len header) (headers.next_header (headers.protocol header))
-    (headers.time_to_live header - 1) (embedded prefixes.source (headers.source header)) (embedded prefixes.destination (headers.destination header)) source_len destination_len in
+    source_of (headers.type_of_service header) (headers.total_len header - ipv4_header_len header)
+    (headers.next_header (headers.protocol header))
+    (headers.time_to_live header - 1) (embedded prefixes.source (headers.source header))
+    (embedded prefixes.destination (headers.destination header)) source_len in
+    let old_destination : back.destination (headers.translated_header prefixes header)
+    ≡ embedded prefixes.destination (headers.destination header) =
+    destination_of (headers.type_of_service header) (headers.total_len header - ipv4_header_len header)
+    (headers.next_header (headers.protocol header))
+    (headers.time_to_live header - 1) (embedded prefixes.source (headers.source header))
+    (embedded prefixes.destination (headers.destination header)) source_len destination_len in
     let same : back.removed_addresses (headers.translated_header prefixes header) ≡ added_addresses prefixes header =
     ap₂ (λ source destination. folded (total source + total destination)) old_source old_destination in
     let same_too : back.added_addresses prefixes (headers.translated_header prefixes header) ≡ removed_addresses header =
-    ap₂ (λ source destination. folded (total (extracted prefixes.source source) + total (extracted prefixes.destination destination))) old_source old_destination
+    ap₂ (λ source destination. folded (total (extracted prefixes.source source) + total (extracted prefixes.destination destination)))
+    old_source old_destination
     ∙ ap₂ (λ source destination. folded (total source + total destination))
     (ap (extracted prefixes.source) (sym is_source) ∙ c.embed.ensures.extracted ∙ c.source.ensures)
     (ap (extracted prefixes.destination) (sym is_destination) ∙ c.embed-2.ensures.extracted ∙ c.destination.ensures) in
     tcp_same segment (removed_addresses header) (added_addresses prefixes header) _ _ fits (omega (arith, there)) some
     (folded-lt (total (headers.source header) + total (headers.destination header)))
-    (folded-lt (total (embedded prefixes.source (headers.source header)) + total (embedded prefixes.destination (headers.destination header))))
+    (folded-lt (total (embedded prefixes.source (headers.source header))
+    + total (embedded prefixes.destination (headers.destination header))))
     same same_too

@@ -23,7 +23,8 @@ returns c =
     (c.embed-destination.ensures.embedded ∙ ap (embedded c.args.prefixes.now.destination) c.destination.ensures)
     ∙ ap (λ len. total (ipv6_pseudo_header from to udp_number len)) (c.from-2.ensures ∙ c.number-length.ensures) in
     let counted : take c.min.result packet ≡ take len packet =
-    ap (λ n. take n packet) (c.min.ensures ∙ ap (λ n. min n (length packet)) (c.from.ensures ∙ c.number-length.ensures)) ∙ take_min len packet in
+    ap (λ n. take n packet) (c.min.ensures ∙ ap (λ n. min n (length packet)) (c.from.ensures ∙ c.number-length.ensures))
+    ∙ take_min len packet in
     c.to_ones_complement_with_no_zero.ensures
     ∙ ap (λ n. zero_as_all_ones (complement n)) (
     c.add_slice.ensures.sum

@@ -15,6 +15,8 @@ returns-clause-alike c = λ len count missing short counted.
     let old : ℕ = total (old_pseudo_header c.args.header.now tcp_number len) in
     let new : ℕ = total (new_pseudo_header c.args.prefixes.now c.args.header.now tcp_number len) in
     let stored : c.store_checksum.new.message ≡ with_checksum 16 segment c.tcp_checksum-checksum.result = search rules in
-    subst (λ translated. (IsAllOnes (new + total (take count translated ++ missing))) ↔ (IsAllOnes (old + total (take count segment ++ missing)))) (sym stored)
-    (messages.alike old new 16 c.tcp_checksum-checksum.result count segment missing fits refl (search rules) counted (omega (arith, c.requires.there))
+    subst (λ translated. (IsAllOnes (new + total (take count translated ++ missing)))
+    ↔ (IsAllOnes (old + total (take count segment ++ missing)))) (sym stored)
+    (messages.alike old new 16 c.tcp_checksum-checksum.result count segment missing fits refl (search rules) counted
+    (omega (arith, c.requires.there))
     (λ rest. c.tcp_checksum-checksum.ensures.verifies len rest short))

@@ -17,7 +17,8 @@ returns-clause-alike c = λ some len count missing short counted.
     let old : ℕ = total (old_pseudo_header c.args.header.now udp_number len) in
     let new : ℕ = total (new_pseudo_header c.args.prefixes.now c.args.header.now udp_number len) in
     let stored : c.store_checksum.new.message ≡ with_checksum 6 packet c.udp_checksum-checksum.result = search rules in
-    subst (λ translated. (IsAllOnes (new + total (take count translated ++ missing))) ↔ (IsAllOnes (old + total (take count packet ++ missing)))) (sym stored)
+    subst (λ translated. (IsAllOnes (new + total (take count translated ++ missing)))
+    ↔ (IsAllOnes (old + total (take count packet ++ missing)))) (sym stored)
     (messages.alike old new 6 c.udp_checksum-checksum.result count packet missing fits refl (search rules) counted c.requires.whole.there
     (λ rest. c.udp_checksum-checksum.ensures.verifies some len rest short))
 
@@ -34,4 +35,5 @@ returns-clause-computed c = λ none.
     ∙ ap (λ checksum. if checksum == 0 then udp_checksum_of (new + total (take len packet))
     else updated_udp_checksum_of checksum (specs.removed_addresses header) (specs.added_addresses c.args.prefixes.now header)) none in
     subst (λ translated. IsAllOnes (new + total (take len translated))) (sym stored)
-    (messages.computed new 6 len c.udp_checksum-checksum.result packet fits refl (search rules) (c.requires.whole.counted none) c.requires.whole.there none right)
+    (messages.computed new 6 len c.udp_checksum-checksum.result packet fits refl (search rules)
+    (c.requires.whole.counted none) c.requires.whole.there none right)

@@ -20,7 +20,8 @@ returns-clause-refused c =
     (specs.cut_off_refusal (ipv6_header packet) (length packet))
     (specs.payload_refusal (ipv6_header packet) c.args.prefixes.now (specs.payload_of packet) room)
     (ap (λ begins. refused_if (not begins) NoIpv6Header) c.in-Some.ensures.found.0) whole
-    ∙ ap (λ header. specs.payload_refusal header c.args.prefixes.now (specs.payload_after header packet) room) (sym c.in-Some.ensures.found.1)
+    ∙ ap (λ header. specs.payload_refusal header c.args.prefixes.now (specs.payload_after header packet) room)
+    (sym c.in-Some.ensures.found.1)
     ∙ ap (λ payload. specs.payload_refusal c.in-Some.header c.args.prefixes.now payload room) (sym c.in_ok-payload.ensures.payload)))
     c.translate_payload.ensures.refused
 
@@ -31,7 +32,8 @@ returns-clause-len c =
     let Holds : List ℕ → FragmentFields → List ℕ → Type 0 = λ header fields message. IfOk c.translate_payload.result
     (λ len. len ≡ specs.direct_len header c.args.prefixes.now fields.flags_and_offset message) in
     let HoldsIn : List ℕ → List ℕ → Type 0 =
-    λ header payload. Holds (specs.direct_in header payload) (specs.fields_in identification header payload) (specs.message_in header payload) in
+    λ header payload. Holds (specs.direct_in header payload) (specs.fields_in identification header payload)
+    (specs.message_in header payload) in
     subst (λ header. HoldsIn header (specs.payload_after header packet)) c.in-Some.ensures.found.1
     (subst (HoldsIn c.in-Some.header) c.in_ok-payload.ensures.payload c.translate_payload.ensures.len)
 
@@ -39,10 +41,12 @@ pub returns-clause-written : goal.returns-clause-written
 returns-clause-written c =
     let packet : List ℕ = c.args.packet.now in
     let identification : ℕ = c.args.identification in
-    let Holds : List ℕ → FragmentFields → List ℕ → Type 0 = λ header fields message. IfOk c.translate_payload.result (λ len. c.translate_payload.new.buffer
+    let Holds : List ℕ → FragmentFields → List ℕ → Type 0 =
+    λ header fields message. IfOk c.translate_payload.result (λ len. c.translate_payload.new.buffer
     ≡ specs.direct_translation header c.args.prefixes.now fields message ++ drop len c.args.buffer.now) in
     let HoldsIn : List ℕ → List ℕ → Type 0 =
-    λ header payload. Holds (specs.direct_in header payload) (specs.fields_in identification header payload) (specs.message_in header payload) in
+    λ header payload. Holds (specs.direct_in header payload) (specs.fields_in identification header payload)
+    (specs.message_in header payload) in
     subst (λ header. HoldsIn header (specs.payload_after header packet)) c.in-Some.ensures.found.1
     (subst (HoldsIn c.in-Some.header) c.in_ok-payload.ensures.payload c.translate_payload.ensures.written)
 
@@ -50,8 +54,11 @@ pub returns-clause-alike : goal.returns-clause-alike
 returns-clause-alike c =
     let packet : List ℕ = c.args.packet.now in
     let identification : ℕ = c.args.identification in
-    let Holds : List ℕ → FragmentFields → List ℕ → Type 0 = λ header fields message. IfOk c.translate_payload.result (λ _. specs.IsPacketAlike c.args.prefixes.now header fields.flags_and_offset message) in
+    let Holds : List ℕ → FragmentFields → List ℕ → Type 0 =
+    λ header fields message. IfOk c.translate_payload.result
+    (λ _. specs.IsPacketAlike c.args.prefixes.now header fields.flags_and_offset message) in
     let HoldsIn : List ℕ → List ℕ → Type 0 =
-    λ header payload. Holds (specs.direct_in header payload) (specs.fields_in identification header payload) (specs.message_in header payload) in
+    λ header payload. Holds (specs.direct_in header payload) (specs.fields_in identification header payload)
+    (specs.message_in header payload) in
     subst (λ header. HoldsIn header (specs.payload_after header packet)) c.in-Some.ensures.found.1
     (subst (HoldsIn c.in-Some.header) c.in_ok-payload.ensures.payload c.translate_payload.ensures.alike)

@@ -17,7 +17,8 @@ returns-clause-written c =
     copied ∙ c.header_with-ipv4_header.ensures.written
     ∙ ap₂ (λ len hop. header_with c.args.prefixes.now c.args.fields len hop header) (search rules) hop in
     c.write_error_parts.ensures.written
-    ∙ ap₂ (λ front error. (front ++ with_new_checksum header message error) ++ drop (length front + length error) c.args.buffer.now) front_is same
+    ∙ ap₂ (λ front error. (front ++ with_new_checksum header message error) ++ drop (length front + length error) c.args.buffer.now)
+    front_is same
     ∙ ap (λ len. specs.error_packet header c.args.prefixes.now c.args.fields message ++ drop len c.args.buffer.now) (search rules)
 
 pub returns-clause-alike : goal.returns-clause-alike

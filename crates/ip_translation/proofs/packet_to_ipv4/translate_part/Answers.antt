@@ -18,7 +18,8 @@ returns-then-is_later-clause-refused c =
     let room : ℕ = length c.args.buffer.now in
     let later : is_later c.args.fields.flags_and_offset ≡ true = sym c.is_later.ensures ∙ c.if-is_later.true in
     let other : refused_if (headers.next_header header == icmpv6_number) IcmpFragment ≡ None =
-    ap (λ number. refused_if (number == icmpv6_number) IcmpFragment) (sym c.next_header.ensures) ∙ c.in_ok-check_protocol_of_part.ensures.refused in
+    ap (λ number. refused_if (number == icmpv6_number) IcmpFragment) (sym c.next_header.ensures)
+    ∙ c.in_ok-check_protocol_of_part.ensures.refused in
     subst (RefusesExactly c.copy_message.result)
     (sym (
     last_of_three (option_map Header (headers.header_refusal c.args.prefixes.now header))
@@ -26,7 +27,8 @@ returns-then-is_later-clause-refused c =
     (if is_later c.args.fields.flags_and_offset then specs.space_refusal (length message) room
     else specs.other_refusal (headers.next_header header) message room)
     c.in_ok-ipv4_header.ensures.refused other
-    ∙ ap (λ test. if test then specs.space_refusal (length message) room else specs.other_refusal (headers.next_header header) message room) later))
+    ∙ ap (λ test. if test then specs.space_refusal (length message) room else specs.other_refusal (headers.next_header header) message room)
+    later))
     c.copy_message.ensures.refused
 
 pub returns-then-is_later-clause-written : goal.returns-then-is_later-clause-written
@@ -60,7 +62,8 @@ returns-clause-refused c =
     let room : ℕ = length c.args.buffer.now in
     let first : is_later c.args.fields.flags_and_offset ≡ false = sym c.is_later.ensures ∙ c.if-is_later.false in
     let other : refused_if (headers.next_header header == icmpv6_number) IcmpFragment ≡ None =
-    ap (λ number. refused_if (number == icmpv6_number) IcmpFragment) (sym c.next_header.ensures) ∙ c.in_ok-check_protocol_of_part.ensures.refused in
+    ap (λ number. refused_if (number == icmpv6_number) IcmpFragment) (sym c.next_header.ensures)
+    ∙ c.in_ok-check_protocol_of_part.ensures.refused in
     subst (RefusesExactly c.translate_message.result)
     (sym (
     last_of_three (option_map Header (headers.header_refusal c.args.prefixes.now header))
@@ -68,7 +71,8 @@ returns-clause-refused c =
     (if is_later c.args.fields.flags_and_offset then specs.space_refusal (length message) room
     else specs.other_refusal (headers.next_header header) message room)
     c.in_ok-ipv4_header.ensures.refused other
-    ∙ ap (λ test. if test then specs.space_refusal (length message) room else specs.other_refusal (headers.next_header header) message room) first))
+    ∙ ap (λ test. if test then specs.space_refusal (length message) room else specs.other_refusal (headers.next_header header) message room)
+    first))
     c.translate_message.ensures.refused
 
 pub returns-clause-written : goal.returns-clause-written
@@ -81,7 +85,8 @@ returns-clause-written c =
     let first : is_later c.args.fields.flags_and_offset ≡ false = sym c.is_later.ensures ∙ c.if-is_later.false in
     subst (λ test. IfOk c.translate_message.result (λ len. c.translate_message.new.buffer
     ≡ (translated ++ (if test then message else updated)) ++ drop len c.args.buffer.now)) (sym first)
-    (subst (λ front. IfOk c.translate_message.result (λ len. c.translate_message.new.buffer ≡ (front ++ updated) ++ drop len c.args.buffer.now))
+    (subst (λ front. IfOk c.translate_message.result
+    (λ len. c.translate_message.new.buffer ≡ (front ++ updated) ++ drop len c.args.buffer.now))
     same c.translate_message.ensures.written)
 
 pub returns-clause-alike : goal.returns-clause-alike

@@ -19,8 +19,10 @@ returns-clause-refused c =
     let copied : c.as_slice.result.now ≡ c.header_before-direct.result.items = search rules in
     let direct : IsDirect c.args.identification header payload c.whole_header.result _ c.fields_or.result =
     is_direct c.args.identification header payload c.whole_header.result _ c.fields_or.result c.in_ok-skipped.skipped is
-    (take_rest payload c.in_ok-skipped.skipped.len) (c.whole_header.ensures ∙ copied ∙ c.header_before-direct.ensures.bytes) c.fields_or.ensures in
-    let refusal : List ℕ → Option ℕ → List ℕ → _ = λ header flags message. specs.direct_refusal header c.args.prefixes.now flags message room in
+    (take_rest payload c.in_ok-skipped.skipped.len)
+    (c.whole_header.ensures ∙ copied ∙ c.header_before-direct.ensures.bytes) c.fields_or.ensures in
+    let refusal : List ℕ → Option ℕ → List ℕ → _ =
+    λ header flags message. specs.direct_refusal header c.args.prefixes.now flags message room in
     subst (RefusesExactly c.translate_direct.result)
     (sym (
     last_of_two (error_of (specs.skipped_in header payload))
@@ -38,8 +40,10 @@ returns-clause-len c =
     let copied : c.as_slice.result.now ≡ c.header_before-direct.result.items = search rules in
     let direct : IsDirect c.args.identification header payload c.whole_header.result _ c.fields_or.result =
     is_direct c.args.identification header payload c.whole_header.result _ c.fields_or.result c.in_ok-skipped.skipped is
-    (take_rest payload c.in_ok-skipped.skipped.len) (c.whole_header.ensures ∙ copied ∙ c.header_before-direct.ensures.bytes) c.fields_or.ensures in
-    moved (λ header fields message. IfOk c.translate_direct.result (λ len. len ≡ specs.direct_len header c.args.prefixes.now fields.flags_and_offset message))
+    (take_rest payload c.in_ok-skipped.skipped.len)
+    (c.whole_header.ensures ∙ copied ∙ c.header_before-direct.ensures.bytes) c.fields_or.ensures in
+    moved (λ header fields message. IfOk c.translate_direct.result
+    (λ len. len ≡ specs.direct_len header c.args.prefixes.now fields.flags_and_offset message))
     c.args.identification header payload c.whole_header.result _ c.fields_or.result direct c.translate_direct.ensures.len
 
 pub returns-clause-written : goal.returns-clause-written
@@ -51,7 +55,8 @@ returns-clause-written c =
     let copied : c.as_slice.result.now ≡ c.header_before-direct.result.items = search rules in
     let direct : IsDirect c.args.identification header payload c.whole_header.result _ c.fields_or.result =
     is_direct c.args.identification header payload c.whole_header.result _ c.fields_or.result c.in_ok-skipped.skipped is
-    (take_rest payload c.in_ok-skipped.skipped.len) (c.whole_header.ensures ∙ copied ∙ c.header_before-direct.ensures.bytes) c.fields_or.ensures in
+    (take_rest payload c.in_ok-skipped.skipped.len)
+    (c.whole_header.ensures ∙ copied ∙ c.header_before-direct.ensures.bytes) c.fields_or.ensures in
     moved (λ header fields message. IfOk c.translate_direct.result (λ len. c.translate_direct.new.buffer
     ≡ specs.direct_translation header c.args.prefixes.now fields message ++ drop len c.args.buffer.now))
     c.args.identification header payload c.whole_header.result _ c.fields_or.result direct c.translate_direct.ensures.written
@@ -65,6 +70,8 @@ returns-clause-alike c =
     let copied : c.as_slice.result.now ≡ c.header_before-direct.result.items = search rules in
     let direct : IsDirect c.args.identification header payload c.whole_header.result _ c.fields_or.result =
     is_direct c.args.identification header payload c.whole_header.result _ c.fields_or.result c.in_ok-skipped.skipped is
-    (take_rest payload c.in_ok-skipped.skipped.len) (c.whole_header.ensures ∙ copied ∙ c.header_before-direct.ensures.bytes) c.fields_or.ensures in
-    moved (λ header fields message. IfOk c.translate_direct.result (λ _. specs.IsPacketAlike c.args.prefixes.now header fields.flags_and_offset message))
+    (take_rest payload c.in_ok-skipped.skipped.len)
+    (c.whole_header.ensures ∙ copied ∙ c.header_before-direct.ensures.bytes) c.fields_or.ensures in
+    moved (λ header fields message. IfOk c.translate_direct.result
+    (λ _. specs.IsPacketAlike c.args.prefixes.now header fields.flags_and_offset message))
     c.args.identification header payload c.whole_header.result _ c.fields_or.result direct c.translate_direct.ensures.alike

@@ -23,7 +23,8 @@ returns-then-is_icmp_error-clause-refused c =
     last_of_two (option_map Header (headers.header_refusal c.args.prefixes.now header))
     (specs.refusal_of (headers.next_header header) c.args.prefixes.now message room)
     c.in_ok-ipv4_header.ensures.refused
-    ∙ ap (λ test. if test then specs.error_packet_refusal c.args.prefixes.now message room else specs.other_refusal (headers.next_header header) message room) is_error))
+    ∙ ap (λ test. if test then specs.error_packet_refusal c.args.prefixes.now message room
+    else specs.other_refusal (headers.next_header header) message room) is_error))
     c.translate_error.ensures.refused
 
 pub returns-then-is_icmp_error-clause-len : goal.returns-then-is_icmp_error-clause-len
@@ -33,7 +34,8 @@ returns-then-is_icmp_error-clause-len c =
     let is_error : specs.is_icmp_error (headers.next_header header) message ≡ true =
     ap (λ protocol. specs.is_icmp_error protocol message) (sym c.next_header.ensures)
     ∙ sym c.is_icmp_error.ensures ∙ c.if-is_icmp_error.true in
-    subst (λ test. IfOk c.translate_error.result (λ len. len ≡ 20 + (if test then length (error_without_checksum c.args.prefixes.now message) else length message)))
+    subst (λ test. IfOk c.translate_error.result
+    (λ len. len ≡ 20 + (if test then length (error_without_checksum c.args.prefixes.now message) else length message)))
     (sym is_error)
     c.translate_error.ensures.len
 
@@ -46,7 +48,8 @@ returns-then-is_icmp_error-clause-written c =
     ∙ sym c.is_icmp_error.ensures ∙ c.if-is_icmp_error.true in
     subst (λ test. IfOk c.translate_error.result (λ len. c.translate_error.new.buffer
     ≡ (if test then specs.error_packet header c.args.prefixes.now c.args.fields message
-    else headers.translated_header c.args.prefixes.now c.args.fields header ++ specs.updated_message c.args.prefixes.now header message) ++ drop len c.args.buffer.now))
+    else headers.translated_header c.args.prefixes.now c.args.fields header ++ specs.updated_message c.args.prefixes.now header message)
+    ++ drop len c.args.buffer.now))
     (sym is_error)
     c.translate_error.ensures.written
 
@@ -76,7 +79,8 @@ returns-clause-refused c =
     last_of_two (option_map Header (headers.header_refusal c.args.prefixes.now header))
     (specs.refusal_of (headers.next_header header) c.args.prefixes.now message room)
     c.in_ok-ipv4_header.ensures.refused
-    ∙ ap (λ test. if test then specs.error_packet_refusal c.args.prefixes.now message room else specs.other_refusal (headers.next_header header) message room) is_other))
+    ∙ ap (λ test. if test then specs.error_packet_refusal c.args.prefixes.now message room
+    else specs.other_refusal (headers.next_header header) message room) is_other))
     c.translate_message.ensures.refused
 
 pub returns-clause-len : goal.returns-clause-len
@@ -86,7 +90,8 @@ returns-clause-len c =
     let is_other : specs.is_icmp_error (headers.next_header header) message ≡ false =
     ap (λ protocol. specs.is_icmp_error protocol message) (sym c.next_header.ensures)
     ∙ sym c.is_icmp_error.ensures ∙ c.if-is_icmp_error.false in
-    subst (λ test. IfOk c.translate_message.result (λ len. len ≡ 20 + (if test then length (error_without_checksum c.args.prefixes.now message) else length message)))
+    subst (λ test. IfOk c.translate_message.result
+    (λ len. len ≡ 20 + (if test then length (error_without_checksum c.args.prefixes.now message) else length message)))
     (sym is_other)
     c.translate_message.ensures.len
 

@@ -21,7 +21,8 @@ returns-clause-refused c =
 
 pub returns-clause-len : goal.returns-clause-len
 returns-clause-len c =
-    subst (λ header. IfOk c.translate_after.result (λ len. len ≡ specs.translated_len header c.args.prefixes.now (specs.message_after header c.args.packet.now)))
+    subst (λ header. IfOk c.translate_after.result
+    (λ len. len ≡ specs.translated_len header c.args.prefixes.now (specs.message_after header c.args.packet.now)))
     c.in-Some.ensures.found.1 c.translate_after.ensures.len
 
 pub returns-clause-written : goal.returns-clause-written
@@ -32,5 +33,6 @@ returns-clause-written c =
 
 pub returns-clause-alike : goal.returns-clause-alike
 returns-clause-alike c =
-    subst (λ header. IfOk c.translate_after.result (λ _. specs.AreAcceptedAlike c.args.prefixes.now header (specs.message_after header c.args.packet.now)))
+    subst (λ header. IfOk c.translate_after.result
+    (λ _. specs.AreAcceptedAlike c.args.prefixes.now header (specs.message_after header c.args.packet.now)))
     c.in-Some.ensures.found.1 c.translate_after.ensures.alike

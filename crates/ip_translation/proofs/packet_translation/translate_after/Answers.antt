@@ -29,10 +29,12 @@ returns-then-is_icmp_error-clause-refused c =
     c.in_ok-message.ensures.message c.translate_error.ensures.refused in
     subst (RefusesExactly c.translate_error.result)
     (sym (
-    last_of_three (option_map Header (headers.header_refusal c.args.prefixes.now header)) (specs.cut_off_refusal header (length c.args.packet.now))
+    last_of_three (option_map Header (headers.header_refusal c.args.prefixes.now header))
+    (specs.cut_off_refusal header (length c.args.packet.now))
     (specs.refusal_of (headers.protocol header) c.args.prefixes.now message room)
     c.in_ok-ipv6_header.ensures.refused c.in_ok-message.ensures.refused
-    ∙ ap (λ test. if test then specs.error_packet_refusal c.args.prefixes.now message room else specs.other_refusal (headers.protocol header) message room) is_error))
+    ∙ ap (λ test. if test then specs.error_packet_refusal c.args.prefixes.now message room
+    else specs.other_refusal (headers.protocol header) message room) is_error))
     refused
 
 pub returns-then-is_icmp_error-clause-len : goal.returns-then-is_icmp_error-clause-len
@@ -43,7 +45,8 @@ returns-then-is_icmp_error-clause-len c =
     ap (λ protocol. specs.is_icmp_error protocol message) (sym c.protocol.ensures)
     ∙ ap (specs.is_icmp_error c.protocol.result.0) (sym c.in_ok-message.ensures.message)
     ∙ sym c.is_icmp_error.ensures ∙ c.if-is_icmp_error.true in
-    subst (λ test. IfOk c.translate_error.result (λ len. len ≡ 40 + (if test then length (error_without_checksum c.args.prefixes.now message) else length message)))
+    subst (λ test. IfOk c.translate_error.result
+    (λ len. len ≡ 40 + (if test then length (error_without_checksum c.args.prefixes.now message) else length message)))
     (sym is_error)
     (subst (λ message. IfOk c.translate_error.result (λ len. len ≡ 40 + length (error_without_checksum c.args.prefixes.now message)))
     c.in_ok-message.ensures.message c.translate_error.ensures.len)
@@ -58,7 +61,8 @@ returns-then-is_icmp_error-clause-written c =
     ∙ sym c.is_icmp_error.ensures ∙ c.if-is_icmp_error.true in
     subst (λ test. IfOk c.translate_error.result (λ len. c.translate_error.new.buffer
     ≡ (if test then specs.error_packet header c.args.prefixes.now message
-    else headers.translated_header c.args.prefixes.now header ++ specs.updated_message c.args.prefixes.now header message) ++ drop len c.args.buffer.now))
+    else headers.translated_header c.args.prefixes.now header ++ specs.updated_message c.args.prefixes.now header message)
+    ++ drop len c.args.buffer.now))
     (sym is_error)
     (subst (λ message. IfOk c.translate_error.result (λ len. c.translate_error.new.buffer
     ≡ specs.error_packet header c.args.prefixes.now message ++ drop len c.args.buffer.now))
@@ -93,10 +97,12 @@ returns-clause-refused c =
     c.in_ok-message.ensures.message c.translate_message.ensures.refused in
     subst (RefusesExactly c.translate_message.result)
     (sym (
-    last_of_three (option_map Header (headers.header_refusal c.args.prefixes.now header)) (specs.cut_off_refusal header (length c.args.packet.now))
+    last_of_three (option_map Header (headers.header_refusal c.args.prefixes.now header))
+    (specs.cut_off_refusal header (length c.args.packet.now))
     (specs.refusal_of (headers.protocol header) c.args.prefixes.now message room)
     c.in_ok-ipv6_header.ensures.refused c.in_ok-message.ensures.refused
-    ∙ ap (λ test. if test then specs.error_packet_refusal c.args.prefixes.now message room else specs.other_refusal (headers.protocol header) message room) is_other))
+    ∙ ap (λ test. if test then specs.error_packet_refusal c.args.prefixes.now message room
+    else specs.other_refusal (headers.protocol header) message room) is_other))
     refused
 
 pub returns-clause-len : goal.returns-clause-len
@@ -107,7 +113,8 @@ returns-clause-len c =
     ap (λ protocol. specs.is_icmp_error protocol message) (sym c.protocol.ensures)
     ∙ ap (specs.is_icmp_error c.protocol.result.0) (sym c.in_ok-message.ensures.message)
     ∙ sym c.is_icmp_error.ensures ∙ c.if-is_icmp_error.false in
-    subst (λ test. IfOk c.translate_message.result (λ len. len ≡ 40 + (if test then length (error_without_checksum c.args.prefixes.now message) else length message)))
+    subst (λ test. IfOk c.translate_message.result
+    (λ len. len ≡ 40 + (if test then length (error_without_checksum c.args.prefixes.now message) else length message)))
     (sym is_other)
     (subst (λ message. IfOk c.translate_message.result (λ len. len ≡ 40 + length message))
     c.in_ok-message.ensures.message c.translate_message.ensures.len)
@@ -145,5 +152,6 @@ returns-clause-alike c =
     (λ _. specs.IsAcceptedAlike c.args.prefixes.now header message (specs.updated_message c.args.prefixes.now header message))
     (λ _. specs.AreAcceptedAlike c.args.prefixes.now header message)
     (λ _ alike. record { error = λ error. absurd (true≢false (sym error ∙ is_other)); other = λ _. alike })
-    (subst (λ message. IfOk c.translate_message.result (λ _. specs.IsAcceptedAlike c.args.prefixes.now header message (specs.updated_message c.args.prefixes.now header message)))
+    (subst (λ message. IfOk c.translate_message.result
+    (λ _. specs.IsAcceptedAlike c.args.prefixes.now header message (specs.updated_message c.args.prefixes.now header message)))
     c.in_ok-message.ensures.message c.translate_message.ensures.alike)

@@ -20,7 +20,8 @@ returns-clause-alike c =
     let error : List ℕ = c.args.error.now in
     let new : List ℕ = new_pseudo_header c.args.prefixes.now header icmpv6_number (length error) in
     let same : c.as_slice.result.now ≡ new = search rules in
-    let written : c.store_changed_checksum.new.changed ≡ with_new_checksum c.args.prefixes.now header c.args.message.now error = search rules in
+    let written : c.store_changed_checksum.new.changed ≡ with_new_checksum c.args.prefixes.now header c.args.message.now error =
+    search rules in
     subst (λ translated. (Verifies new translated) ↔ (Verifies [] c.args.message.now)) written
     (subst (λ new. (Verifies new c.store_changed_checksum.new.changed) ↔ (Verifies [] c.args.message.now)) same
     c.store_changed_checksum.ensures.alike)

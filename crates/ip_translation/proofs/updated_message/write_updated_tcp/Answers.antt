@@ -16,7 +16,8 @@ returns-clause-alike c = λ old new turned len count missing short counted.
     let after : ℕ = total (new len) in
     let checksum : ℕ = c.apply-checksum.result in
     let stored : c.store_checksum.new.message ≡ with_checksum 16 message checksum = search rules in
-    subst (λ translated. (IsAllOnes (after + total (take count translated ++ missing))) ↔ (IsAllOnes (before + total (take count message ++ missing)))) (sym stored)
+    subst (λ translated. (IsAllOnes (after + total (take count translated ++ missing)))
+    ↔ (IsAllOnes (before + total (take count message ++ missing)))) (sym stored)
     (messages.alike before after 16 checksum count message missing fits refl (search rules) counted (omega (arith, c.requires.there))
     (λ rest.
     verifies_alike (before + rest) (after + rest) (specs.tcp_checksum message) checksum

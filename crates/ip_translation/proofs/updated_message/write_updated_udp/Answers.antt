@@ -14,8 +14,10 @@ returns-clause-alike c = λ some old new turned len count missing short counted.
     let after : ℕ = total (new len) in
     let checksum : ℕ = c.apply_udp-checksum.result in
     let stored : c.store_checksum.new.message ≡ with_checksum 6 message checksum = search rules in
-    subst (λ translated. (IsAllOnes (after + total (take count translated ++ missing))) ↔ (IsAllOnes (before + total (take count message ++ missing)))) (sym stored)
+    subst (λ translated. (IsAllOnes (after + total (take count translated ++ missing)))
+    ↔ (IsAllOnes (before + total (take count message ++ missing)))) (sym stored)
     (messages.alike before after 6 checksum count message missing fits refl (search rules) counted (omega (arith, c.requires.there))
     (λ rest.
     subst (λ old. (IsAllOnes (after + rest + checksum)) ↔ (IsAllOnes (before + rest + old))) c.number.ensures
-    (c.apply_udp-checksum.ensures.verifies (before + rest) (after + rest) (turned.turns len rest short) (λ none. some (sym c.number.ensures ∙ none)))))
+    (c.apply_udp-checksum.ensures.verifies (before + rest) (after + rest) (turned.turns len rest short)
+    (λ none. some (sym c.number.ensures ∙ none)))))

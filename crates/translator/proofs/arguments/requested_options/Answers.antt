@@ -10,7 +10,8 @@ pub returns-clause-options : goal.returns-clause-options
 returns-clause-options c =
     let words = map (λ word. string_bytes word) c.args.words.now in (
       c.in_ok-matches.matches,
-      matches_of_command_line (app_of c.in_ok-command.command) words _ c.in_ok-command.ensures c.in_ok-matches.ensures.matches c.in_ok-matches.ensures.kinds,
+      matches_of_command_line (app_of c.in_ok-command.command) words _ c.in_ok-command.ensures c.in_ok-matches.ensures.matches
+          c.in_ok-matches.ensures.kinds,
       record {
         table = c.in_ok-table.ensures;
         file = ap (option_map (λ name. name.now)) c.or.ensures ∙ (named c.get_str-read.result c.get_str-file.result

@@ -14,7 +14,8 @@ returns-then-rest_len-eq0 g c = record {
 
 pub returns-in_err-len : goal.returns-in_err-len
 returns-in_err-len g c = record {
-  copies = rest_to_error _ _ _ _ c.in_err-len.field-0.0 _ _ _ _ (omega (arith, c.kept_len-kept_len.ensures)) c.in_err-len.ensures.copies (search rules);
+  copies = rest_to_error _ _ _ _ c.in_err-len.field-0.0 _ _ _ _ (omega (arith, c.kept_len-kept_len.ensures)) c.in_err-len.ensures.copies
+      (search rules);
 }
 
 pub returns-then-len-middle_len : goal.returns-then-len-middle_len
@@ -56,7 +57,14 @@ returns-then-len-lt-LAST_LEN g c = record {
       let four : length c.read_into.new.buffer ≡ 4 = omega (arith, c.read_into.auto.buffer) in
       rest_cut _ _ (c.in_ok-len.len + count) _ _ _ _ _ _ c.cut_off-then-len-lt-LAST_LEN.ensures
       (omega (arith, c.kept_len-kept_len.ensures, c.if-rest_len-eq0.false, c.in_ok-len.ensures.within, c.if-len-middle_len.false))
-      (omega (arith, c.kept_len-kept_len.ensures, c.if-rest_len-eq0.false, c.in_ok-len.ensures.within, c.if-len-lt-LAST_LEN.true, c.requires.words))
+      (omega (
+        arith,
+        c.kept_len-kept_len.ensures,
+        c.if-rest_len-eq0.false,
+        c.in_ok-len.ensures.within,
+        c.if-len-lt-LAST_LEN.true,
+        c.requires.words,
+      ))
       (record {
         bytes = middle.bytes ++ last;
         has_len = omega (arith, length-append middle.bytes last, middle.has_len, last_len);
@@ -81,7 +89,15 @@ returns-then-last_len-header g c = record {
         copies = record {
           middle = middle.bytes;
           last = last;
-          has_len = omega (arith, middle.has_len, c.kept_len-kept_len.ensures, c.if-rest_len-eq0.false, c.in_ok-len.ensures.within, c.if-len-middle_len.false, c.requires.words);
+          has_len = omega (
+            arith,
+            middle.has_len,
+            c.kept_len-kept_len.ensures,
+            c.if-rest_len-eq0.false,
+            c.in_ok-len.ensures.within,
+            c.if-len-middle_len.false,
+            c.requires.words,
+          );
           four = four;
           is_last = c.number-last_len.ensures;
           consumed = Consumes-trans _ _ _ middle.bytes last middle.consumed read;
@@ -107,7 +123,15 @@ returns g c = record {
         record {
           middle = middle.bytes;
           last = last;
-          has_len = omega (arith, middle.has_len, c.kept_len-kept_len.ensures, c.if-rest_len-eq0.false, c.in_ok-len.ensures.within, c.if-len-middle_len.false, c.requires.words);
+          has_len = omega (
+            arith,
+            middle.has_len,
+            c.kept_len-kept_len.ensures,
+            c.if-rest_len-eq0.false,
+            c.in_ok-len.ensures.within,
+            c.if-len-middle_len.false,
+            c.requires.words,
+          );
           four = four;
           is_last = search rules;
           consumed = Consumes-trans _ _ _ middle.bytes last middle.consumed read;

@@ -12,6 +12,7 @@ returns-clause-translates c =
       after = after;
       result = c.translate_captured_frame.result;
       translates = c.translate_captured_frame.ensures.translates;
-      is_written = ap (λ back. take start bytes ++ (after ++ back)) (Post-is start (start + c.args.packet.now.captured_len) bytes (omega arith));
+      is_written = ap (λ back. take start bytes ++ (after ++ back))
+          (Post-is start (start + c.args.packet.now.captured_len) bytes (omega arith));
       outcome = refl;
     }

@@ -16,7 +16,8 @@ returns-in_err-write_error-in-Err g c = record {
 
 -- writing the capture failed
 pub returns-in-Err-Write-clause-line : goal.returns-in-Err-Write-clause-line
-returns-in-Err-Write-clause-line g c = writes_nothing _ _ (IsEndLine (option_map (λ text. text.now) c.args.name) c.args.ended) (search rules)
+returns-in-Err-Write-clause-line g c =
+    writes_nothing _ _ (IsEndLine (option_map (λ text. text.now) c.args.name) c.args.ended) (search rules)
 
 -- the capture was read to its end
 pub returns-in-Ok-clause-line : goal.returns-in-Ok-clause-line

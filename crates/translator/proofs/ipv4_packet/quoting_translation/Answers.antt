@@ -9,7 +9,8 @@ returns-in_default-clause-refused c =
 
 pub returns-in_default-from_slice-clause-refused : goal.returns-in_default-from_slice-clause-refused
 returns-in_default-from_slice-clause-refused c =
-    quoted_rules 4 c.args.quoted.now _ false _ (no_ipv4 c.args.quoted.now c.in-Ok.ensures.refused (λ begins. false_is_true (c.in_default-from_slice.ensures.found.1 begins))) refl
+    quoted_rules 4 c.args.quoted.now _ false _
+    (no_ipv4 c.args.quoted.now c.in-Ok.ensures.refused (λ begins. false_is_true (c.in_default-from_slice.ensures.found.1 begins))) refl
 
 pub returns-then-eq : goal.returns-then-eq
 returns-then-eq c =
@@ -18,7 +19,8 @@ returns-then-eq c =
     let inner = c.ipv4_translation-inner.result in
     let begins = c.in-Some.ensures.found.0 refl in
     let inner_is = ipv4_inner_given c.args.table.now quoted c.destination.result c.source.result c.ports_in.result c.exchanged.result inner
-    (c.destination.ensures ∙ ipv4_destination_kept quoted c.in-Some.header c.in-Some.ensures.kept (c.in-Some.ensures.found.0 refl).five_words)
+    (c.destination.ensures ∙ ipv4_destination_kept quoted c.in-Some.header c.in-Some.ensures.kept
+    (c.in-Some.ensures.found.0 refl).five_words)
     (c.source.ensures ∙ ipv4_source_kept quoted c.in-Some.header c.in-Some.ensures.kept (c.in-Some.ensures.found.0 refl).five_words)
     (c.ports_in.ensures ∙ ports_are quoted c.in-Ok.found c.in-Ok.ensures.found c.in-Ok.ensures.stated)
     c.exchanged.ensures c.ipv4_translation-inner.ensures in
@@ -38,7 +40,8 @@ returns-clause-refused c =
     let inner = c.ipv4_translation-inner.result in
     let begins = c.in-Some.ensures.found.0 refl in
     let inner_is = ipv4_inner_given c.args.table.now quoted c.destination.result c.source.result c.ports_in.result c.exchanged.result inner
-    (c.destination.ensures ∙ ipv4_destination_kept quoted c.in-Some.header c.in-Some.ensures.kept (c.in-Some.ensures.found.0 refl).five_words)
+    (c.destination.ensures ∙ ipv4_destination_kept quoted c.in-Some.header c.in-Some.ensures.kept
+    (c.in-Some.ensures.found.0 refl).five_words)
     (c.source.ensures ∙ ipv4_source_kept quoted c.in-Some.header c.in-Some.ensures.kept (c.in-Some.ensures.found.0 refl).five_words)
     (c.ports_in.ensures ∙ ports_are quoted c.in-Ok.found c.in-Ok.ensures.found c.in-Ok.ensures.stated)
     c.exchanged.ensures c.ipv4_translation-inner.ensures in

@@ -11,7 +11,8 @@ returns-in_default-clause-refused c =
 
 pub returns-in_default-from_slice-clause-refused : goal.returns-in_default-from_slice-clause-refused
 returns-in_default-from_slice-clause-refused c =
-    unknown_rejected 4 c.args.packet.now _ (no_ipv4 c.args.packet.now c.in-Ok.ensures.refused (λ begins. false_is_true (c.in_default-from_slice.ensures.found.1 begins)))
+    unknown_rejected 4 c.args.packet.now _ (no_ipv4 c.args.packet.now c.in-Ok.ensures.refused
+    (λ begins. false_is_true (c.in_default-from_slice.ensures.found.1 begins)))
 
 pub returns-in-Some-quoted_in : goal.returns-in-Some-quoted_in
 returns-in-Some-quoted_in c =
@@ -22,7 +23,8 @@ returns-in-Some-quoted_in c =
     let begins = c.in-Some.ensures.found.0 refl in
     let quotes : Some quoted ≡ quoted_in found = search rules in
     let quotes_of : Some quoted ≡ quoted_of packet = quotes ∙ quoted_is packet found c.in-Ok.ensures.found c.in-Ok.ensures.stated in
-    let header = c.to_header.ensures ∙ ipv4_header_kept packet c.in-Some.header c.in-Some.ensures.kept (c.in-Some.ensures.found.0 refl).five_words in
+    let header = c.to_header.ensures ∙ ipv4_header_kept packet c.in-Some.header c.in-Some.ensures.kept
+    (c.in-Some.ensures.found.0 refl).five_words in
     let ports = c.ports_in.ensures ∙ ports_are packet found c.in-Ok.ensures.found c.in-Ok.ensures.stated in
     let own = ipv4_own_given table packet _ _ _ header ports c.ipv4_translation-new.ensures in
     record {
@@ -42,7 +44,8 @@ returns-in-None c =
     let begins = c.in-Some.ensures.found.0 refl in
     let none : None ≡ quoted_in found = search rules in
     let none_of : None ≡ quoted_of packet = none ∙ quoted_is packet found c.in-Ok.ensures.found c.in-Ok.ensures.stated in
-    let header = c.to_header.ensures ∙ ipv4_header_kept packet c.in-Some.header c.in-Some.ensures.kept (c.in-Some.ensures.found.0 refl).five_words in
+    let header = c.to_header.ensures ∙ ipv4_header_kept packet c.in-Some.header c.in-Some.ensures.kept
+    (c.in-Some.ensures.found.0 refl).five_words in
     let ports = c.ports_in.ensures ∙ ports_are packet found c.in-Ok.ensures.found c.in-Ok.ensures.stated in
     let own = ipv4_own_given table packet _ _ _ header ports c.ipv4_translation-new.ensures in
     record {

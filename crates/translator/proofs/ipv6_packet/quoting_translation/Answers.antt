@@ -9,7 +9,8 @@ returns-in_default-clause-refused c =
 
 pub returns-in_default-from_slice-clause-refused : goal.returns-in_default-from_slice-clause-refused
 returns-in_default-from_slice-clause-refused c =
-    quoted_rules 6 c.args.quoted.now _ false _ (no_ipv6 c.args.quoted.now c.in-Ok.ensures.refused (λ begins. false_is_true (c.in_default-from_slice.ensures.found.1 begins))) refl
+    quoted_rules 6 c.args.quoted.now _ false _
+    (no_ipv6 c.args.quoted.now c.in-Ok.ensures.refused (λ begins. false_is_true (c.in_default-from_slice.ensures.found.1 begins))) refl
 
 pub returns-then-eq : goal.returns-then-eq
 returns-then-eq c =

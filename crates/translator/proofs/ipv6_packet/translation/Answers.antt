@@ -11,7 +11,8 @@ returns-in_default-clause-refused c =
 
 pub returns-in_default-from_slice-clause-refused : goal.returns-in_default-from_slice-clause-refused
 returns-in_default-from_slice-clause-refused c =
-    unknown_rejected 6 c.args.packet.now _ (no_ipv6 c.args.packet.now c.in-Ok.ensures.refused (λ begins. false_is_true (c.in_default-from_slice.ensures.found.1 begins)))
+    unknown_rejected 6 c.args.packet.now _ (no_ipv6 c.args.packet.now c.in-Ok.ensures.refused
+    (λ begins. false_is_true (c.in_default-from_slice.ensures.found.1 begins)))
 
 pub returns-in-Some-quoted_in : goal.returns-in-Some-quoted_in
 returns-in-Some-quoted_in c =

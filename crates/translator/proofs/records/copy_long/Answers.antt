@@ -10,7 +10,8 @@ pub returns-in_err-len : goal.returns-in_err-len
 returns-in_err-len g c = record {
   passes =
       λ first left held has_len is_header consumed appended.
-      next_copied _ _ c.in_err-len.field-0.0 _ _ left _ _ held _ _ _ first _ has_len (ap (λ header. header.captured_len) is_header) consumed appended
+      next_copied _ _ c.in_err-len.field-0.0 _ _ left _ _ held _ _ _ first _ has_len
+      (ap (λ header. header.captured_len) is_header) consumed appended
       c.in_err-len.ensures.copies (search rules);
 }
 
@@ -35,7 +36,8 @@ returns g c = record {
       λ first left held has_len is_header consumed appended.
       let copies = c.in_ok-len.ensures.copies in
       let captured_len = ap (λ header. header.captured_len) is_header in
-      passes_part _ _ _ left _ held _ _ _ (record { read = first ++ copies.bytes; written = first ++ copies.bytes; outcome = Some (Err TooLong) }) (
+      passes_part _ _ _ left _ held _ _ _
+      (record { read = first ++ copies.bytes; written = first ++ copies.bytes; outcome = Some (Err TooLong) }) (
         after_record c.args.records.now _ c.args.header.now first copies.bytes has_len is_header c.pass.ensures,
         record_copied c.args.table.now c.args.records.now.header first copies.bytes has_len
             (omega (arith, copies.has_len, captured_len, c.in_ok-len.ensures.within, c.if-len-captured_len.false))

@@ -10,7 +10,8 @@ pub returns-in_err-len : goal.returns-in_err-len
 returns-in_err-len g c = record {
   passes =
       λ first left held has_len is_header consumed appended.
-      next_front _ _ c.in_err-len.field-0.0 _ _ left _ _ held _ _ first c.in_err-len.ensures.failed consumed appended (inr (omega (arith, has_len))) (search rules);
+      next_front _ _ c.in_err-len.field-0.0 _ _ left _ _ held _ _ first c.in_err-len.ensures.failed consumed appended
+      (inr (omega (arith, has_len))) (search rules);
 }
 
 pub returns-then-len-frame : goal.returns-then-len-frame
@@ -48,6 +49,7 @@ returns g c = record {
             (omega (arith, captured_len, c.requires.room))
             c.translate_captured_frame-outcome.ensures.translates,
       )
-      (Consumes-trans _ _ _ first frame consumed (full _ _ frame c.in_ok-len.len (omega (arith, c.if-len-frame.false)) c.in_ok-len.ensures.consumed))
+      (Consumes-trans _ _ _ first frame consumed
+      (full _ _ frame c.in_ok-len.len (omega (arith, c.if-len-frame.false)) c.in_ok-len.ensures.consumed))
       (Appends-trans _ _ _ first after appended c.in_ok-write-2.ensures.appends) c.add.ensures;
 }

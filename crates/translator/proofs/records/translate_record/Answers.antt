@@ -10,13 +10,15 @@ pub returns-in_err-len-clause-passes : goal.returns-in_err-len-clause-passes
 returns-in_err-len-clause-passes g c =
     let error = c.in_err-len.field-0.0 in
     any_to_end _ _ error _ _ _ _ _ _ _ _
-    (next_front {A = Unit {0}} c.args.table.now (Err error) error c.args.records.now c.args.records.now _ _ _ _ _ _ [] c.in_err-len.ensures.failed
+    (next_front {A = Unit {0}} c.args.table.now (Err error) error c.args.records.now c.args.records.now _ _ _ _ _ _
+    [] c.in_err-len.ensures.failed
     (Consumes-nil _) (Appends-nil _) (inl (omega arith)) refl) (search rules)
 
 pub returns-then-len-eq0-clause-passes : goal.returns-then-len-eq0-clause-passes
 returns-then-len-eq0-clause-passes g c = (
   refl,
-  subst (λ n. Consumes (g.R.Read.remaining c.args.copier.now.input) (g.R.Read.remaining c.read_into.new.input) (take n c.read_into.new.buffer)) c.if-len-eq0.true
+  subst (λ n. Consumes (g.R.Read.remaining c.args.copier.now.input) (g.R.Read.remaining c.read_into.new.input)
+      (take n c.read_into.new.buffer)) c.if-len-eq0.true
       c.in_ok-len.ensures.consumed,
   refl,
   refl,

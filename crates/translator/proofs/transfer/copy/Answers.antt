@@ -5,8 +5,10 @@ use Rattle.translator.proofs.transfer.copy.Goals as goal
 pub returns-in-Err-Read-clause-copies : goal.returns-in-Err-Read-clause-copies
 returns-in-Err-Read-clause-copies g c = inr (
   refl,
-  subst (λ given. CopiesUpTo c.args.count (Err given) (g.R.Read.remaining c.args.copier.now.input) (g.R.Read.remaining c.copy.new.self.input)
-      (g.W.Write.contents c.args.copier.now.output) (g.W.Write.contents c.copy.new.self.output)) c.in-Err-Read.field-0-is c.in-Err-Read.ensures.copies,
+  subst (λ given. CopiesUpTo c.args.count (Err given) (g.R.Read.remaining c.args.copier.now.input)
+      (g.R.Read.remaining c.copy.new.self.input)
+      (g.W.Write.contents c.args.copier.now.output) (g.W.Write.contents c.copy.new.self.output)) c.in-Err-Read.field-0-is
+      c.in-Err-Read.ensures.copies,
 )
 
 pub returns-in-Err-Write-clause-copies : goal.returns-in-Err-Write-clause-copies

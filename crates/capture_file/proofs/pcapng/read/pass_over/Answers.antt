@@ -38,7 +38,17 @@ returns-then-len-lt-LAST_LEN-clause-reads g c = λ buffer room.
     let last_len : length last ≡ count = length-take-le count c.fill.new.buffer c.in_ok-len.ensures.len in
     let four : length c.fill.new.buffer ≡ 4 = omega (arith, c.fill.auto.buffer) in
     let counts : 12 + (c.args.header.total_len - 12 - 4) + count ≡ length (first ++ (skips.bytes ++ last)) =
-    omega (arith, has_len, skips.has_len, skips.within, last_len, length-append first (skips.bytes ++ last), length-append skips.bytes last, c.requires.len.0, c.requires.len.1) in
+    omega (
+      arith,
+      has_len,
+      skips.has_len,
+      skips.within,
+      last_len,
+      length-append first (skips.bytes ++ last),
+      length-append skips.bytes last,
+      c.requires.len.0,
+      c.requires.len.1,
+    ) in
     cut_off_after c.args.section first (skips.bytes ++ last) _ _ buffer c.args.header (12 + (c.args.header.total_len - 12 - 4) + count)
     (omega (arith, has_len)) c.requires.accepted c.requires.is_header
     (Consumes-trans (remaining c.args.input.now) (remaining c.skip.new.input)
@@ -58,7 +68,8 @@ returns-then-last_len-header-clause-reads g c = λ buffer room.
     c.requires.accepted c.requires.is_header
     (Consumes-trans (remaining c.args.input.now) (remaining c.skip.new.input)
     (remaining c.fill.new.input) skips.bytes last skips.consumed consumed)
-    four (omega (arith, has_len, skips.has_len, skips.within, length-append first skips.bytes, c.requires.len.0, c.requires.len.1)) c.number-last_len.ensures
+    four (omega (arith, has_len, skips.has_len, skips.within, length-append first skips.bytes, c.requires.len.0, c.requires.len.1))
+    c.number-last_len.ensures
     (λ same. omega (arith, same))
 
 pub returns-clause-reads : goal.returns-clause-reads
@@ -74,7 +85,8 @@ returns-clause-reads g c = λ buffer room.
     c.requires.accepted c.requires.is_header
     (Consumes-trans (remaining c.args.input.now) (remaining c.skip.new.input)
     (remaining c.fill.new.input) skips.bytes last skips.consumed consumed)
-    four (omega (arith, has_len, skips.has_len, skips.within, length-append first skips.bytes, c.requires.len.0, c.requires.len.1)) c.number-last_len.ensures (omega arith) room
+    four (omega (arith, has_len, skips.has_len, skips.within, length-append first skips.bytes, c.requires.len.0, c.requires.len.1))
+    c.number-last_len.ensures (omega arith) room
 
 -- ---- a read that fails
 

@@ -22,7 +22,8 @@ pub returns-in-Some-get-clause-counted : goal.returns-in-Some-get-clause-counted
 returns-in-Some-get-clause-counted c =
     let within = place_within c.self.inside.places c.self.inside.counts.items c.in-Some.flow c.canonical.result c.in-Some-get.place.now
     c.self.invariant.are_places c.canonical.ensures c.in-Some-get.ensures.value in
-    one_in_row (the_view c.self.inside) c.in-Some-get.place.now c.index_mut.result.now c.add-in-Some-get.new.self c.index_mut.ensures.value within
+    one_in_row (the_view c.self.inside) c.in-Some-get.place.now c.index_mut.result.now c.add-in-Some-get.new.self c.index_mut.ensures.value
+    within
     c.add-in-Some-get.ensures.one
     ∙ ap (λ table. packets_counted table + 1) c.self.view_is
 

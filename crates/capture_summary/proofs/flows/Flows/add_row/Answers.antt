@@ -9,5 +9,6 @@ invariant_of-self-2 c =
     (record {
       are_places = ArePlaces_push c.self.inside.places c.insert.new.self _ _ c.len.result c.args.flow c.canonical.result
           c.self.invariant.are_places (search rules) (search rules) (search rules) c.canonical.ensures c.in_ok-insert.ensures.updates;
-      count = one_more_row (the_view c.self.inside) c.self.inside.packets c.add.new.self c.self.invariant.count (omega (arith, c.add.ensures.one));
+      count = one_more_row (the_view c.self.inside) c.self.inside.packets c.add.new.self c.self.invariant.count
+          (omega (arith, c.add.ensures.one));
     })

@@ -9,4 +9,5 @@ returns-clause-is_embedded c =
 
 pub returns-clause-extracted : goal.returns-clause-extracted
 returns-clause-extracted c =
-    ap (specs.extracted c.args.self.now) c.join.ensures.joined ∙ extracted_back c.args.self.now c.args.ipv4 c.join.ensures.len (search rules)
+    ap (specs.extracted c.args.self.now) c.join.ensures.joined
+    ∙ extracted_back c.args.self.now c.args.ipv4 c.join.ensures.len (search rules)

@@ -18,7 +18,8 @@ pub returns-in-Ok-2 : goal.returns-in-Ok-2
 returns-in-Ok-2 g c =
     let remaining = g.R.Read.remaining in
     let reads = subst (ReadsRestOfHeader _ _ _) c.in-Ok-2.is c.in_ok-header.ensures in
-    subst (λ reader. ReadsBeginning (remaining c.args.input.now) (remaining c.read_header_after.new.input) c.args.buffer.now (Ok (Classic reader)))
+    subst (λ reader. ReadsBeginning (remaining c.args.input.now) (remaining c.read_header_after.new.input) c.args.buffer.now
+    (Ok (Classic reader)))
     (sym c.new.ensures)
     (header_read _ (remaining c.fill.new.input) _ _ (Ok c.in-Ok-2.header) c.in_ok-len.ensures.consumed reads, refl)
 

@@ -14,7 +14,8 @@ loop-passed-preserved g c =
     none c.in_ok-next.ensures.reads in
     let same : length c.read_step.new.buffer ≡ length c.args.buffer.now = omega (arith, c.loop-passed.invariant.0) in (
       same,
-      subst (λ count. PassesBlocks (length c.args.buffer.now) count c.args.self.now (remaining c.args.input.now) (remaining c.read_step.new.input) c.read_step.new.self) one_more
+      subst (λ count. PassesBlocks (length c.args.buffer.now) count c.args.self.now (remaining c.args.input.now)
+          (remaining c.read_step.new.input) c.read_step.new.self) one_more
           (c.loop-passed.self, remaining c.loop-passed.input, c.read_step.new.buffer, same, c.loop-passed.invariant.1, step),
     )
 
