@@ -8,8 +8,8 @@ use capture_file::reader::PacketInterface;
 use capture_file::{LinkType, PacketTime};
 use capture_json::{write_packet, write_summary};
 use capture_packet::{
-    Arp, ArpAddresses, Content, FragmentFields, HopLimit, Identification, NetworkProtocol, Packet,
-    Refusal, Transport, Tunnel, Verdict,
+    Arp, ArpAddresses, Content, FragmentFields, HopLimit, Identification, NetworkKind, NetworkProtocol, Packet,
+    Refusal, Transport, Tunnel, Verdict, VirtualNetwork,
 };
 use capture_summary::{
     Busiest, CaptureInfo, FrameLen, Protocol, RefusalKind, Summary, VerdictKind,
@@ -243,9 +243,9 @@ fn arp_packets(rt: HostRuntime) {
     }
 }
 
-/// The object of a packet in two tunnels.
+/// The object of a packet in three tunnels.
 #[rattlefmt::skip]
-const IN_TUNNELS: &str = r#"{"type":"packet","number":1,"time":null,"tunnels":[{"source":"192.0.2.1","destination":"192.0.2.2","protocol":47,"protocol_name":"GRE"},{"source":"2001:db8::1","destination":null,"protocol":4,"protocol_name":"IPv4"}],"source":"192.0.2.1","destination":"192.0.2.2","checksum":"not_looked_at","reason":"cut_off"}"#;
+const IN_TUNNELS: &str = r#"{"type":"packet","number":1,"time":null,"tunnels":[{"source":"192.0.2.1","destination":"192.0.2.2","protocol":47,"protocol_name":"GRE"},{"source":"2001:db8::1","destination":null,"protocol":4,"protocol_name":"IPv4"},{"source":"192.0.2.1","destination":"192.0.2.2","protocol":17,"protocol_name":"UDP","encapsulation":"Geneve","vni":16777215}],"source":"192.0.2.1","destination":"192.0.2.2","checksum":"not_looked_at","reason":"cut_off"}"#;
 
 /// Adds a tunnel to a packet.
 fn push_tunnel(
@@ -253,10 +253,12 @@ fn push_tunnel(
     packet: &mut Packet<'static>,
     addresses: IpAddresses<'static>,
     protocol: IpNumber,
+    network: Option<VirtualNetwork>,
 ) {
     let tunnel = Tunnel {
         addresses,
         protocol,
+        network,
     };
     expect_some(rt, packet.tunnels.try_push(tunnel).ok());
 }
@@ -265,8 +267,13 @@ fn push_tunnel(
 fn tunnels(rt: HostRuntime) {
     let content = Content::IpHeader(OVER_IPV4);
     let mut packet = Packet::in_no_tunnel(content, Verdict::untested(Untested::CutOff));
-    push_tunnel(&rt, &mut packet, OVER_IPV4, IpNumber(47));
-    push_tunnel(&rt, &mut packet, OVER_IPV6, IpNumber(4));
+    push_tunnel(&rt, &mut packet, OVER_IPV4, IpNumber(47), None);
+    push_tunnel(&rt, &mut packet, OVER_IPV6, IpNumber(4), None);
+    let network = VirtualNetwork {
+        kind: NetworkKind::Geneve,
+        id: 0xFF_FFFF,
+    };
+    push_tunnel(&rt, &mut packet, OVER_IPV4, IpNumber(17), Some(network));
     expect_object_of(&rt, &packet, [IN_TUNNELS, "", "", "", ""]);
 }
 

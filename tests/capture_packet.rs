@@ -7,3 +7,4 @@ mod packet;
 mod pppoe;
 mod quoted_packet;
 mod tunnels;
+mod udp_tunnels;

@@ -50,7 +50,7 @@ fn expect_arp(
     let content = Content::NotIp(NetworkProtocol::EtherType(0x0806));
     let mut expected = Packet::in_no_tunnel(content, OTHER_PROTOCOL);
     expected.arp = Some(arp);
-    let packet = read_packet(link_type, ByteOrder::BigEndian, &frame, false);
+    let packet = read_packet(link_type, ByteOrder::BigEndian, &frame, false, false);
     expect_at(rt, row, &packet, &expected);
 }
 
@@ -70,6 +70,6 @@ fn arp_packets(rt: HostRuntime) {
 fn other_protocols_are_not_arp(rt: HostRuntime) {
     let rarp = [2, 0, 0, 0, 0, 2, 2, 0, 0, 0, 0, 1, 0x80, 0x35];
     let frame = joined(&rt, &[&rarp, &[0, 1, 8, 0, 6, 4, 0, 3], &SENDER, &TARGET]);
-    let packet = read_packet(LinkType::Ethernet, ByteOrder::BigEndian, &frame, false);
+    let packet = read_packet(LinkType::Ethernet, ByteOrder::BigEndian, &frame, false, false);
     expect_at(&rt, &frame, &packet.arp, &None);
 }

@@ -153,7 +153,7 @@ fn packet_of(rt: &(impl Abort + AllocGlobal), header: Header, payload: &[u8]) ->
 
 /// Reads the packet in a frame without a link header.
 pub(crate) fn read_raw(frame: &[u8], is_cut: bool) -> Packet<'_> {
-    read_packet(LinkType::RawIp, BIG, frame, is_cut)
+    read_packet(LinkType::RawIp, BIG, frame, is_cut, false)
 }
 
 /// What a packet is, without its fields.
@@ -296,7 +296,7 @@ fn expect_linked(rt: &(impl Abort + AllocGlobal), row: &LinkRow) {
     let (link_type, order, header) = *row;
     let parts: [&[u8]; 4] = [header, &IPV4_UDP, &UDP_OVER_IPV4, &[0; 3]];
     let frame = joined(rt, &parts);
-    let packet = read_packet(link_type, order, &frame, false);
+    let packet = read_packet(link_type, order, &frame, false, false);
     let expected = udp_packet(rt);
     expect_at(rt, row, &packet, &expected);
     let kind = Kind::Ip(Some(Proto::Udp));
@@ -442,7 +442,7 @@ fn expect_network(rt: &impl Abort, row: &NetworkRow) {
     if is_arp {
         expected.arp = Some(Arp::CutOff);
     }
-    let packet = read_packet(link_type, order, frame, false);
+    let packet = read_packet(link_type, order, frame, false, false);
     expect_at(rt, row, &packet, &expected);
 }
 
@@ -455,7 +455,7 @@ fn other_networks_and_cut_link_headers(rt: HostRuntime) {
 
 #[test]
 fn link_headers_of_cut_frames_are_not_refused(rt: HostRuntime) {
-    let packet = read_packet(LinkType::Ethernet, BIG, &ADDRESSES, true);
+    let packet = read_packet(LinkType::Ethernet, BIG, &ADDRESSES, true, false);
     let expected = Packet::in_no_tunnel(Content::Unread, CUT_OFF);
     expect_equal(&rt, &packet, &expected);
 }

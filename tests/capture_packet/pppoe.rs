@@ -43,7 +43,7 @@ fn expect_verdict(
     let header = [0x11, 0, 0, 1, 0, len, 0, 0x21];
     let parts: [&[u8]; 5] = [before, &header, &IPV4_UDP, &UDP_OVER_IPV4, &[0xEE; 4]];
     let frame = joined(rt, &parts);
-    let packet = read_packet(link_type, ByteOrder::BigEndian, &frame, is_cut);
+    let packet = read_packet(link_type, ByteOrder::BigEndian, &frame, is_cut, false);
     expect_at(rt, &len, &packet.verdict, expected);
 }
 
@@ -65,7 +65,7 @@ fn payloads_of_pppoe_end_at_their_length(rt: HostRuntime) {
 /// Stops the test unless the payload of the packet in a frame of PPPoE has three bytes, and is of another protocol.
 fn expect_three_bytes(rt: &impl Abort, frame: &[u8], is_cut: bool) {
     let link_type = LinkType::PppOverEthernet;
-    let packet = read_packet(link_type, ByteOrder::BigEndian, frame, is_cut);
+    let packet = read_packet(link_type, ByteOrder::BigEndian, frame, is_cut, false);
     let is_counted = matches!(packet.content, Content::Ip { payload_len: 3, .. });
     expect_equal(rt, &is_counted, &true);
     expect_equal(rt, &packet.verdict, &OTHER_PROTOCOL);
@@ -85,7 +85,7 @@ fn packets_without_a_length_end_with_their_pppoe_payload(rt: HostRuntime) {
 fn expect_early_end(rt: &impl Abort, is_cut: bool, expected: Verdict) {
     let link_type = LinkType::PppOverEthernet;
     let frame = [0x11, 0, 0, 1, 0, 33, 0, 0x21, 0x45, 0, 0];
-    let packet = read_packet(link_type, ByteOrder::BigEndian, &frame, is_cut);
+    let packet = read_packet(link_type, ByteOrder::BigEndian, &frame, is_cut, false);
     expect_equal(rt, &packet.verdict, &expected);
 }
 

@@ -95,10 +95,12 @@ fn tunnel_of(outer: Outer) -> Option<Tunnel<'static>> {
         Outer::Ipv4(protocol) => Some(Tunnel {
             addresses: OUTER_IPV4,
             protocol: IpNumber(protocol),
+            network: None,
         }),
         Outer::Ipv6(protocol) => Some(Tunnel {
             addresses: OUTER_IPV6,
             protocol: IpNumber(protocol),
+            network: None,
         }),
         Outer::Gre(_) => None,
     }

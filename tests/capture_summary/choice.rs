@@ -320,6 +320,7 @@ fn tunnels_are_chosen(rt: HostRuntime) {
     let tunnel = Tunnel {
         addresses: OVER_IPV6,
         protocol: IpNumber(4),
+        network: None,
     };
     expect_some(&rt, packet.tunnels.try_push(tunnel).ok());
     for (host, wanted) in &HOSTS_IN_TUNNELS {

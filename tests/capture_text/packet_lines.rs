@@ -5,7 +5,7 @@ use crate::summaries::first_info;
 use capture_file::reader::PacketInterface;
 use capture_packet::LinkHeaderCutOff;
 use capture_packet::{
-    Content, HopLimit, NetworkProtocol, Packet, Refusal, Transport, Tunnel, Verdict,
+    Content, HopLimit, NetworkKind, NetworkProtocol, Packet, Refusal, Transport, Tunnel, Verdict, VirtualNetwork,
 };
 use capture_summary::FrameLen;
 use capture_text::write_packet_line;
@@ -65,26 +65,29 @@ fn whole_lines(rt: HostRuntime) {
 
 /// The tunnels of a packet, and their text.
 #[rattlefmt::skip]
-static TUNNELS: [(&[(IpAddresses, u8)], &str); 5] = [
-    (&[(OVER_IPV4, 4)], "192.0.2.1 > 192.0.2.2 IPv4 | "),
-    (&[(OVER_IPV4, 41)], "192.0.2.1 > 192.0.2.2 IPv6 | "),
-    (&[(OVER_IPV6, 47)], "2001:db8::1 > 2001:db8::2 GRE | "),
-    (&[(UNKNOWN, 41)], ":: > unknown IPv6 | "),
-    (&[(OVER_IPV4, 47), (OVER_IPV6, 4)], "192.0.2.1 > 192.0.2.2 GRE | 2001:db8::1 > 2001:db8::2 IPv4 | "),
+static TUNNELS: [(&[(IpAddresses, u8, Option<VirtualNetwork>)], &str); 7] = [
+    (&[(OVER_IPV4, 4, None)], "192.0.2.1 > 192.0.2.2 IPv4 | "),
+    (&[(OVER_IPV4, 41, None)], "192.0.2.1 > 192.0.2.2 IPv6 | "),
+    (&[(OVER_IPV6, 47, None)], "2001:db8::1 > 2001:db8::2 GRE | "),
+    (&[(UNKNOWN, 41, None)], ":: > unknown IPv6 | "),
+    (&[(OVER_IPV4, 47, None), (OVER_IPV6, 4, None)], "192.0.2.1 > 192.0.2.2 GRE | 2001:db8::1 > 2001:db8::2 IPv4 | "),
+    (&[(OVER_IPV4, 17, Some(VirtualNetwork { kind: NetworkKind::Vxlan, id: 42 }))], "192.0.2.1 > 192.0.2.2 UDP, VXLAN, VNI 42 | "),
+    (&[(OVER_IPV6, 17, Some(VirtualNetwork { kind: NetworkKind::Geneve, id: 0 }))], "2001:db8::1 > 2001:db8::2 UDP, Geneve, VNI 0 | "),
 ];
 
 /// Stops the test unless the line of a packet in these tunnels contains this text.
 fn expect_tunnels(
     rt: &(impl Abort + AllocGlobal),
-    tunnels: &[(IpAddresses<'static>, u8)],
+    tunnels: &[(IpAddresses<'static>, u8, Option<VirtualNetwork>)],
     wanted: &str,
 ) {
     let content = Content::IpHeader(OVER_IPV4);
     let mut packet = Packet::in_no_tunnel(content, Verdict::untested(Untested::CutOff));
-    for (addresses, protocol) in tunnels {
+    for (addresses, protocol, network) in tunnels {
         let tunnel = Tunnel {
             addresses: *addresses,
             protocol: IpNumber(*protocol),
+            network: *network,
         };
         expect_some(rt, packet.tunnels.try_push(tunnel).ok());
     }

@@ -84,6 +84,17 @@ def gre(payload, bits=0, fields=b"", protocol_type=None):
     return struct.pack(">HH", bits, ether_type(payload) if protocol_type is None else protocol_type) + fields + payload
 
 
+def vxlan(inner, network=42, flags=8, reserved=0):
+    """A UDP payload: a frame after a VXLAN header of this network (RFC 7348, section 5)."""
+    return struct.pack(">BHBI", flags, reserved, reserved & 0xFF, network << 8 | reserved & 0xFF) + inner
+
+
+def geneve(inner, network=42, protocol_type=0x6558, options=b"", version=0, words=None, bits=0):
+    """A UDP payload: a frame or a packet after a Geneve header of this network (RFC 8926, section 3.4)."""
+    words = len(options) // 4 if words is None else words
+    return struct.pack(">BBHI", version << 6 | words, bits, protocol_type, network << 8) + options + inner
+
+
 MAC = bytes.fromhex("020000000002020000000001")
 
 

@@ -3,7 +3,7 @@ import struct
 
 from .build import (
     CISCO_HDLC, COOKED, COOKED2, ETHERNET, FRAME_RELAY, IPV4, IPV6, LOOPBACK, MAC, NFLOG, PPP, PPP_HDLC, PPP_OVER_ETHERNET, RAW, checksum,
-    frame, gre, icmpv4, icmpv6, ipv4, ipv6, tcp, udp
+    arp, frame, geneve, gre, icmpv4, icmpv6, ipv4, ipv6, tcp, udp, vxlan
 )
 
 TCP_OPTIONS = bytes.fromhex("020405B4" "0402" "080A0000006400000000" "01" "030307")
@@ -176,3 +176,54 @@ def packets_in_tunnels():
     yield f"{over4} IPv4 | " * 4, in4(4, in4(4, in4(4, in4(4, inner4)))), inner4
     yield f"{over4} IPv4 | ", in4(4, ipv4(17, data, words=4)), ipv4(17, data, words=4)
     yield f"{over4} IPv4 | ", in4(4, ipv4(17, udp(IPV4, data, change=1))), ipv4(17, udp(IPV4, data, change=1))
+
+
+def packets_in_udp_tunnels():
+    """Packets in VXLAN and Geneve: what the line of each has before the inner packet, the packet, and the inner frame with its link type."""
+    data = bytes(range(32))
+    ends4, ends6 = (bytes([203, 0, 113, 1]), bytes([203, 0, 113, 2])), (IPV6[0][:15] + b"\x0A", IPV6[1][:15] + b"\x0B")
+    inner4, inner6 = ipv4(17, udp(IPV4, data)), ipv6(6, tcp(IPV6, data))
+    over4, over6 = "203.0.113.1 > 203.0.113.2", "2001:db8::a > 2001:db8::b"
+
+    def in4(port, payload, stored=0):
+        return ipv4(17, udp(ends4, payload, 50000, port, stored=stored), addresses=ends4)
+
+    def in6(port, payload):
+        return ipv6(17, udp(ends6, payload, 50000, port), addresses=ends6)
+
+    for inner in (frame(ETHERNET, inner4), frame(ETHERNET, inner6), frame(ETHERNET, inner4, tags=(0x88A8, 0x8100)), frame(ETHERNET, arp(1), number=0x0806),
+                  frame(ETHERNET, ipv4(17, udp(IPV4, data, change=1))), frame(ETHERNET, ipv4(17, data, words=4)), frame(ETHERNET, inner4 + bytes(7))):
+        yield f"{over4} UDP, VXLAN, VNI 42 | ", in4(4789, vxlan(inner)), inner, ETHERNET
+        yield f"{over6} UDP, Geneve, VNI 42 | ", in6(6081, geneve(inner)), inner, ETHERNET
+    inner = frame(ETHERNET, inner4)
+    # With a checksum, with other flags and reserved bytes, and the greatest network.
+    yield f"{over4} UDP, VXLAN, VNI 42 | ", in4(4789, vxlan(inner), stored=None), inner, ETHERNET
+    yield f"{over4} UDP, VXLAN, VNI 42 | ", in4(4789, vxlan(inner), stored=1), inner, ETHERNET
+    yield f"{over4} UDP, VXLAN, VNI 42 | ", in4(4789, vxlan(inner, flags=0x0C, reserved=0x1234)), inner, ETHERNET
+    yield f"{over4} UDP, VXLAN, VNI 16777215 | ", in4(4789, vxlan(inner, 0xFFFFFF)), inner, ETHERNET
+    options = bytes.fromhex("010000010000002A" "FFFF8003000102030405060708090A0B")
+    yield f"{over4} UDP, Geneve, VNI 0 | ", in4(6081, geneve(inner, 0, options=options, bits=0xC0)), inner, ETHERNET
+    yield f"{over4} UDP, Geneve, VNI 42 | ", in4(6081, geneve(inner, options=bytes.fromhex("0100001E") + bytes(120))), inner, ETHERNET
+    yield f"{over4} UDP, Geneve, VNI 42 | ", in4(6081, geneve(inner4, protocol_type=0x0800)), inner4, RAW
+    yield f"{over6} UDP, Geneve, VNI 42 | ", in6(6081, geneve(inner6, protocol_type=0x86DD, options=options)), inner6, RAW
+    # Tunnels in tunnels.
+    within = in4(4789, vxlan(inner))
+    yield f"{over4} GRE | {over4} UDP, VXLAN, VNI 42 | ", ipv4(47, gre(within), addresses=ends4), inner, ETHERNET
+    within = ipv4(47, gre(in4(6081, geneve(inner))), addresses=ends4)
+    yield (f"{over4} UDP, VXLAN, VNI 42 | {over4} GRE | {over4} UDP, Geneve, VNI 42 | ", in4(4789, vxlan(frame(ETHERNET, within))), inner,
+           ETHERNET)
+
+
+def datagrams_without_a_tunnel():
+    """Datagrams to the ports of VXLAN and Geneve that are no tunnel, each with a name: the port, the payload and other fields of IP."""
+    inner = frame(ETHERNET, ipv4(17, udp(IPV4, b"abc")))
+    yield "VXLAN without flag I", 4789, vxlan(inner, flags=0xF7), {}
+    yield "VXLAN at another port", 4790, vxlan(inner), {}
+    yield "a cut VXLAN header", 4789, vxlan(b"")[:7], {}
+    yield "VXLAN without a whole Ethernet header", 4789, vxlan(inner[:13]), {}
+    yield "VXLAN in a fragment", 4789, vxlan(inner), {"flags": 0x2000}
+    yield "Geneve of version 1", 6081, geneve(inner, version=1), {}
+    yield "Geneve with long options", 6081, geneve(inner, words=63), {}
+    yield "Geneve with another protocol", 6081, geneve(inner, protocol_type=0x8847), {}
+    yield "Geneve with IPv6 that is IPv4", 6081, geneve(inner[14:], protocol_type=0x86DD), {}
+    yield "Geneve without a packet", 6081, geneve(b"", protocol_type=0x0800), {}

@@ -107,7 +107,8 @@ rows =
     given (codes "verbose") (codes "true") ∷ given (codes "json") (codes "true")
     ∷ given (codes "port") (codes "53,80-90") ∷ given (codes "protocol") (codes "TCP")
     ∷ given (codes "count") (codes "5") ∷ given (codes "file") (codes "a.pcap") ∷ not_given (codes "summary") ∷ not_given (codes "packets")
-    ∷ not_given (codes "wrong") ∷ not_given (codes "absolute") ∷ not_given (codes "check") ∷ not_given (codes "line-buffered")
+    ∷ not_given (codes "wrong") ∷ not_given (codes "absolute") ∷ not_given (codes "check") ∷ not_given (codes "tunnels")
+    ∷ not_given (codes "line-buffered")
     ∷ not_given (codes "numeric") ∷ []
 
 are_rows : rows ≡ matches_of app words
@@ -210,6 +211,7 @@ are_options = record {
     other_ports = ap (flat_map list_items) (values (codes "not-port"));
     protocols = subst (λ names. AreRead ReadsProtocol names options.parts.choice.protocols) (sym (values (codes "protocol")))
         (λ none. absurd (cc none), (is_tcp, tt));
+    udp_tunnels = λ flag has. flag_is (codes "tunnels") false flag refl has;
   };
   limit = (
     λ none. absurd (cc (sym (ap (λ found. one_text found (codes "count")) are_found) ∙ none)),

@@ -7,7 +7,7 @@ use Rattle.capture_summary.specs.declared.choice.Choice.{Choice}
 use Rattle.capture_summary.specs.declared.choice.ChosenProtocol.{ChosenProtocol}
 use Rattle.capture_summary.specs.declared.choice.PortRange.{PortRange}
 use Rattle.capture_summary.specs.declared.network.Network.{Network}
-use Rattle.capture_arguments.specs.Arguments.{IsNumberText, values_of}
+use Rattle.capture_arguments.specs.Arguments.{HasFlag, IsNumberText, values_of}
 use Rattle.capture_arguments.specs.ProtocolNames.{Names, protocol_rows}
 use Rattle.capture_arguments.specs.declared.chosen.ChoiceError.{ChoiceError}
 use Rattle.capture_arguments.specs.declared.chosen.ChoiceError.TheVariants.{Host, Port, Protocol, TooMany}
@@ -95,12 +95,13 @@ pub record HasAddressesOf (matches : ArgMatches) (choice : Choice) : Type 0 wher
   pub destinations : AreRead ReadsHost (values_of matches (codes "destination")) choice.destinations
   pub other_hosts : AreRead ReadsHost (values_of matches (codes "not-host")) choice.other_hosts
 
--- the choice contains the hosts, ports and protocols that these matches give
+-- the choice contains the hosts, ports and protocols that these matches give, and opens tunnels in UDP if they request it
 pub record IsChoiceOf (matches : ArgMatches) (choice : Choice) : Type 0 where
   pub addresses : HasAddressesOf matches choice
   pub ports : AreRead ReadsRange (items_in matches (codes "port")) choice.ports
   pub other_ports : AreRead ReadsRange (items_in matches (codes "not-port")) choice.other_ports
   pub protocols : AreRead ReadsProtocol (values_of matches (codes "protocol")) choice.protocols
+  pub udp_tunnels : (flag : Bool) → HasFlag matches (codes "tunnels") flag → choice.udp_tunnels ≡ flag
 
 -- ---- refusals
 

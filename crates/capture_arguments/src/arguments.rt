@@ -436,7 +436,8 @@ fn with_form<'a, M: Memory>(memory: &M, command: Command<'a>) -> Result<Command<
     let command = memory.with_arg(command, absolute(alloc))?;
     let command = memory.with_arg(command, check(alloc))?;
     let command = memory.with_arg(command, json(alloc))?;
-    memory.with_arg(command, top(alloc))
+    let command = memory.with_arg(command, top(alloc))?;
+    memory.with_arg(command, tunnels(alloc))
 }
 
 /// The option that requests the date and time of packets.
@@ -487,6 +488,18 @@ fn top<'a>(alloc: Global) -> Arg<'a>
         "Name the N busiest conversations and endpoints in the summary instead of 10",
     )
     .value_parser(value_parser!(usize))
+}
+
+/// The option that requests the packets in tunnels of UDP.
+fn tunnels<'a>(alloc: Global) -> Arg<'a>
+    ensures rule { rule_of result ≡ flag_rule (codes "tunnels") }
+    ensures local { result.global ≡ false }
+{
+    flag(
+        alloc,
+        "tunnels",
+        "Report the packet inside VXLAN (UDP port 4789) and Geneve (UDP port 6081)",
+    )
 }
 
 /// The command line with the options that choose packets by hosts.

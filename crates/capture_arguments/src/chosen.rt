@@ -1,9 +1,9 @@
 //! The choice of packets that the arguments give.
 
-ghost use Rattle.std.specs.Prelude.{◌≡◌, ◌≤◌, ◌<◌, ◌++◌, ◌∷◌, [], Err, IfErr, IfOk, IfSome, MatchOption, OnErr, OnOk, codes, length, map, option_map, string_bytes};
+ghost use Rattle.std.specs.Prelude.{◌≡◌, ◌≤◌, ◌<◌, ◌++◌, ◌∷◌, [], Bool, Err, IfErr, IfOk, IfSome, MatchOption, OnErr, OnOk, codes, length, map, option_map, string_bytes};
 ghost use Rattle.std.specs.List.{flat_map};
 ghost use Rattle.capture_arguments.specs.Chosen.{AreNoAddresses, AreNoBounds, AreNoHosts, AreNoPorts, AreNoProtocols, AreRead, HasAddressesOf, HaveAddresses, IsChoiceOf, IsFirstWrong, IsNoPort, IsNoProtocol, IsNoRange, IsNoSingle, IsRefusal, IsSingle, ReadsBounds, ReadsHost, ReadsPlaces, ReadsPort, ReadsProtocol, ReadsRange, bounds_in, choice_text, items_in, list_items};
-ghost use Rattle.capture_arguments.specs.Arguments.{values_of};
+ghost use Rattle.capture_arguments.specs.Arguments.{HasFlag, values_of};
 ghost use Rattle.capture_summary.specs.Networks.{ReadsNetwork};
 
 use crate::memory::Memory;
@@ -116,8 +116,16 @@ pub fn choice_of<'a>(
         ports: chosen,
         other_ports: others,
         protocols,
+        udp_tunnels: opens_udp_tunnels(matches),
         ..addresses
     })
+}
+
+/// Whether tunnels in UDP are opened.
+fn opens_udp_tunnels(matches: &ArgMatches<'_>) -> bool
+    ensures { (flag : Bool) → HasFlag matches.now (codes "tunnels") flag → result ≡ flag }
+{
+    matches.get_flag("tunnels")
 }
 
 /// The choice of packets by the addresses in these matches. The choice includes every port and every protocol.

@@ -7,7 +7,7 @@ use crate::memory::Memory;
 use std::alloc::AllocError;
 
 /// The long names of the options.
-static LONG_OPTIONS: [&str; 22] = [
+static LONG_OPTIONS: [&str; 23] = [
     "--summary",
     "--packets",
     "--wrong",
@@ -16,6 +16,7 @@ static LONG_OPTIONS: [&str; 22] = [
     "--check",
     "--json",
     "--top",
+    "--tunnels",
     "--host",
     "--source",
     "--destination",

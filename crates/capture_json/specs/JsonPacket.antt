@@ -33,7 +33,9 @@ use Rattle.capture_packet.specs.declared.hop_limit.HopLimit.{HopLimit}
 use Rattle.capture_packet.specs.declared.hop_limit.HopLimit.TheVariants as limits
 use Rattle.capture_packet.specs.declared.packet.Packet.{Packet}
 use Rattle.capture_packet.specs.declared.refusal.Refusal.{Refusal}
+use Rattle.capture_packet.specs.NetworkKinds.{kind_name, proto_around}
 use Rattle.capture_packet.specs.declared.tunnel.Tunnel.{Tunnel}
+use Rattle.capture_packet.specs.declared.virtual_network.VirtualNetwork.{VirtualNetwork}
 use Rattle.capture_packet.specs.declared.verdict.Verdict.{Verdict}
 use Rattle.capture_packet.specs.declared.verdict.Verdict.TheVariants as verdicts
 use Rattle.capture_file.specs.declared.packet_time.PacketTime.{PacketTime}
@@ -214,9 +216,17 @@ quoted_members (Some quoted) = (codes "quoted", object_of (quoted_fields quoted)
 
 -- ---- tunnels
 
--- the outer packet of a tunnel: its addresses, and its protocol
+-- the virtual network of a tunnel, if it states one: the kind of the tunnel, and the network identifier
+abbrev pub virtual_network_members : Option VirtualNetwork → List Member
+virtual_network_members None = []
+virtual_network_members (Some network) =
+    (codes "encapsulation", string (kind_name network.kind)) ∷ (codes "vni", whole_number network.id) ∷ []
+
+-- the outer packet of a tunnel: its addresses, its protocol, and its virtual network
 abbrev pub tunnel_data : Tunnel → Data
-tunnel_data tunnel = object_of (address_members (by_value tunnel.addresses) ++ ip_protocol_members tunnel.protocol.0 None)
+tunnel_data tunnel =
+    object_of (address_members (by_value tunnel.addresses)
+    ++ (ip_protocol_members tunnel.protocol.0 (proto_around tunnel.network) ++ virtual_network_members tunnel.network))
 
 -- the tunnels around a packet, from the outermost to the innermost, if there are any
 abbrev pub tunnel_members : List Tunnel → List Member

@@ -1,13 +1,14 @@
 //! The tunnels around a packet.
 
 ghost use Rattle.std.specs.Prelude.{◌≡◌, OnOk, map};
-ghost use Rattle.capture_json.specs.JsonPacket.{tunnel_data, tunnel_members};
+ghost use Rattle.capture_json.specs.JsonPacket.{tunnel_data, tunnel_members, virtual_network_members};
 ghost use Rattle.capture_json.specs.Tokens.{push, tokens_in, with_items, with_members};
 
 use crate::Line;
 use crate::addresses::put_addresses;
 use crate::protocol::put_ip_protocol;
-use capture_packet::Tunnel;
+use capture_packet::{Tunnel, VirtualNetwork};
+use std::alloc::AllocError;
 use std::io;
 
 /// Writes the tunnels around a packet, from the outermost to the innermost, if there are any.
@@ -32,12 +33,26 @@ fn push_tunnels(line: &mut Line, room: &mut Vec<u8>, tunnels: &[Tunnel<'_>]) -> 
     Ok(())
 }
 
-/// Writes an object with the addresses and the protocol of the outer packet of a tunnel.
+/// Writes an object with the addresses and the protocol of the outer packet of a tunnel, and with its virtual network if it states one.
 fn push_tunnel(line: &mut Line, room: &mut Vec<u8>, tunnel: &Tunnel<'_>) -> io::Result<()>
     ensures { OnOk result (tokens_in line.new ≡ push (tunnel_data tunnel.now) (tokens_in line.old)) }
 {
     line.begin_item()?;
     put_addresses(line, room, tunnel.addresses)?;
-    put_ip_protocol(line, tunnel.protocol, None)?;
+    put_ip_protocol(line, tunnel.protocol, tunnel.proto())?;
+    put_network(line, tunnel.network)?;
     Ok(line.end_object()?)
+}
+
+/// Writes the virtual network of a tunnel, if it states one: the kind of the tunnel, and the network identifier.
+fn put_network(line: &mut Line, network: Option<VirtualNetwork>) -> Result<(), AllocError>
+    ensures { OnOk result (tokens_in line.new ≡ with_members (virtual_network_members network) (tokens_in line.old)) }
+{
+    match network {
+        Some(VirtualNetwork { kind, id }) => {
+            line.put_text("encapsulation", kind.name())?;
+            line.put_number("vni", u64::from(id))
+        }
+        None => Ok(()),
+    }
 }

@@ -18,9 +18,8 @@ use Rattle.word_sum.specs.Checksum.{folded}
 use Rattle.capture_numbers.specs.declared.byte_order.ByteOrder.TheVariants.{LittleEndian}
 use Rattle.capture_numbers.specs.declared.link_type.LinkType.TheVariants.{RawIp}
 use Rattle.capture_packet.specs.declared.link.Frame.TheVariants.{Ip as InFrame}
-use Rattle.capture_packet.specs.Frames.{IsIpPacket, IsRead}
+use Rattle.capture_packet.specs.Frames.{IsIpPacket, IsRead, IsReadIn}
 use Rattle.capture_packet.specs.Packets.{in_no_tunnel}
-use Rattle.capture_packet.specs.Tunnels.{nested_in}
 use Rattle.capture_packet.specs.declared.content.Content.TheVariants.{Ip, Unread}
 use Rattle.capture_packet.specs.declared.hop_limit.HopLimit.TheVariants.{Ipv4 as TimeToLive}
 use Rattle.capture_packet.specs.declared.packet.Packet.{Packet}
@@ -134,8 +133,8 @@ is_ip_packet = (
 )
 
 -- the packet is read in a frame of raw IP
-pub is_read : IsRead RawIp LittleEndian frame false packet
-unfolding headers_to_transport nested_in options_within
+pub is_read : IsRead false RawIp LittleEndian frame false packet
+unfolding headers_to_transport IsReadIn options_within
 is_read = inl (record {
   found = InFrame (record { bytes = reference_to frame; start = 0; is_end_stated = false });
   after_header = record {
@@ -154,8 +153,8 @@ is_read = inl (record {
 abbrev pub rejected : Packet
 rejected = in_no_tunnel Unread (Refused (refusals.Ip (Version 5)))
 
-pub is_rejected : IsRead RawIp LittleEndian (0x50 ∷ []) false rejected
-unfolding headers_to_transport nested_in options_within
+pub is_rejected : IsRead false RawIp LittleEndian (0x50 ∷ []) false rejected
+unfolding headers_to_transport IsReadIn options_within
 is_rejected = inl (record {
   found = InFrame (record { bytes = reference_to (0x50 ∷ []); start = 0; is_end_stated = false });
   after_header = record {

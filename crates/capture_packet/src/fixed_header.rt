@@ -4,7 +4,7 @@ ghost use Rattle.ip_part.specs.Addresses.{by_value};
 ghost use Rattle.ip_part.specs.FixedHeaders.{fixed_by_value};
 ghost use Rattle.capture_packet.specs.Contents as specs;
 ghost use Rattle.capture_packet.specs.HopLimits as hop_limits;
-ghost use Rattle.capture_packet.specs.Tunnels.{packet_of_version};
+ghost use Rattle.capture_packet.specs.InnerPackets.{packet_of_version};
 
 use crate::HopLimit;
 use ip_part::{FixedHeader, IpAddresses};

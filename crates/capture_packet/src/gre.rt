@@ -3,7 +3,8 @@
 ghost use Rattle.std.specs.Prelude.{◌≡◌, ◌≤◌};
 ghost use Rattle.std.specs.Option.{option_map};
 ghost use Rattle.capture_packet.specs.Gre as specs;
-ghost use Rattle.capture_packet.specs.Tunnels.{packet_after_gre, packet_of_type};
+ghost use Rattle.capture_packet.specs.InnerPackets.{packet_of_type};
+ghost use Rattle.capture_packet.specs.Tunnels.{packet_after_gre};
 
 use crate::fixed_header::{ipv4_packet, ipv6_packet};
 use crate::link::ether_type;
@@ -72,7 +73,7 @@ fn field_len(first_bits: u16, bit: u16) -> usize
 
 /// These bytes as a packet of the protocol with this ether type. `None` if the protocol is not IP, or if the bytes do not begin with the
 /// fixed part of an IP header of this version.
-fn packet_of_type(ether_type: u16, bytes: &[u8]) -> Option<&[u8]>
+pub(crate) fn packet_of_type(ether_type: u16, bytes: &[u8]) -> Option<&[u8]>
     ensures { option_map (λ packet. packet.now) result ≡ packet_of_type ether_type bytes.now }
 {
     match ether_type {

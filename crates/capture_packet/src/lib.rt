@@ -2,10 +2,11 @@
 //!
 //! `network_packet` finds the network packet in a frame. `read_packet` reads its IP headers, and the header of its transport: UDP (RFC 768),
 //! TCP (RFC 9293), ICMPv4 (RFC 792) or ICMPv6 (RFC 4443). If an IP packet contains another one, `read_packet` reads the inner packet. It
-//! opens up to four such tunnels: IP in IP (RFC 2003; RFC 4213; RFC 2473) and GRE (RFC 2784).
+//! opens up to four such tunnels: IP in IP (RFC 2003; RFC 4213; RFC 2473) and GRE (RFC 2784), and on request VXLAN (RFC 7348) and Geneve
+//! (RFC 8926).
 //!
 //! ```
-//! let packet = read_packet(link_type, captured.byte_order, frame, captured.is_cut());
+//! let packet = read_packet(link_type, captured.byte_order, frame, captured.is_cut(), false);
 //! match packet.verdict {
 //!     Verdict::Checksum(ChecksumVerdict::Right) => ..
 //!     Verdict::Checksum(ChecksumVerdict::Wrong { expected }) => ..
@@ -19,8 +20,10 @@ mod arp;
 mod content;
 mod fixed_header;
 mod fragment_fields;
+mod geneve;
 mod gre;
 mod hop_limit;
+mod inner_frame;
 pub mod link;
 mod network_protocol;
 mod packet;
@@ -30,7 +33,10 @@ mod read;
 mod refusal;
 mod transport;
 mod tunnel;
+mod udp_tunnel;
 mod verdict;
+mod virtual_network;
+mod vxlan;
 
 pub use addresses::{destination_of, source_of};
 pub use arp::{Arp, ArpAddresses};
@@ -46,3 +52,4 @@ pub use refusal::Refusal;
 pub use transport::{Transport, ports_in};
 pub use tunnel::{MAX_TUNNELS, Tunnel, Tunnels};
 pub use verdict::Verdict;
+pub use virtual_network::{NetworkKind, VirtualNetwork};

@@ -1,11 +1,14 @@
-ghost use Rattle.std.specs.Prelude.{◌≡◌, ◌<◌, None};
+ghost use Rattle.std.specs.Prelude.{◌≡◌, ◌<◌, [], IfErr, IfOk, None};
 ghost use Rattle.std.specs.Option.{option_map};
 ghost use Rattle.arrayvec.specs.ArrayVec.{array_vec_len};
+ghost use Rattle.ip_part.specs.Addresses.{by_value};
 ghost use Rattle.ip_part.specs.Ip.{Carries, lacks_len, lax_refusal, refusal};
-ghost use Rattle.capture_packet.specs.Frames.{IsInPacket, IsInTunnels, IsRead, IsUnread, are_bytes_cut, link_verdict};
+ghost use Rattle.capture_packet.specs.Frames.{IsInPacket, IsRead, IsReadIn, IsUnread, IsWithoutIp, are_bytes_cut, link_verdict};
 ghost use Rattle.capture_packet.specs.Frames as frames;
 ghost use Rattle.capture_packet.specs.HopLimits as hop_limits;
-ghost use Rattle.capture_packet.specs.Tunnels.{innermost, max_tunnels, payload_packet};
+ghost use Rattle.capture_packet.specs.IpFrames.{HasIpPacket};
+ghost use Rattle.capture_packet.specs.OpenedTunnels.{tunnel_by_value};
+ghost use Rattle.capture_packet.specs.Tunnels.{max_tunnels, opened_with};
 ghost use Rattle.capture_packet.specs.Verdicts as specs;
 
 use crate::arp::arp_of;
@@ -13,9 +16,9 @@ use crate::fixed_header::{IPV6_LEN, addresses_in, hop_limit_in};
 use crate::fragment_fields::fragment_fields;
 use crate::payload::{counted_payload_len, payload_len};
 use crate::transport::{is_transport_cut_off, read_transport};
-use crate::tunnel::packet_in_payload;
+use crate::tunnel::{OpenedTunnel, tunnel_in};
 use crate::{
-    Content, Frame, LinkHeaderCutOff, NetworkProtocol, Packet, Refusal, Tunnel, Tunnels, Verdict,
+    Content, Frame, LinkHeaderCutOff, NetworkProtocol, Packet, Refusal, Tunnels, Verdict,
     network_packet,
 };
 use arrayvec::ArrayVec;
@@ -41,12 +44,20 @@ pub const MAX_PACKET_LEN: usize = 524_288;
 /// If an IP packet contains another IP packet, the inner packet is read, and the outer packet is one of `tunnels`. An IPv4 packet follows
 /// an IP header with protocol 4 (RFC 2003), and an IPv6 packet follows protocol 41 (RFC 4213, section 3.5; RFC 2473). Protocol 47 is GRE,
 /// version 0, followed by IPv4 or IPv6. The GRE header may contain a checksum, a key and a sequence number (RFC 2784; RFC 2890). The
-/// checksum of GRE is not checked. If one of these statements is true, the inner packet is not read, and the payload of the outer packet
-/// is read as another protocol:
+/// checksum of GRE is not checked.
+///
+/// If `udp_tunnels` is true, a UDP datagram to port 4789 is read as VXLAN (RFC 7348), and a datagram to port 6081 as Geneve (RFC 8926). An
+/// Ethernet frame follows the VXLAN header. An Ethernet frame, an IPv4 or an IPv6 packet follows the Geneve header. The frame is read like
+/// any other Ethernet frame. The checksum of the datagram is not checked.
+///
+/// If one of these statements is true, the inner packet is not read, and the payload of the outer packet is read as another protocol:
 /// - The outer packet is a fragment.
-/// - The fixed part of the inner IP header, 20 bytes of version 4 or 40 bytes of version 6, is not present.
+/// - The fixed part of the inner header, 20 bytes of IPv4, 40 bytes of IPv6 or 14 bytes of Ethernet, is not present.
 /// - The GRE header is incomplete, or has another version, another protocol, or one of the reserved bits that a receiver refuses (RFC 2784,
 ///   section 2.3).
+/// - The length field of the UDP header is below 8. Or it counts more bytes than are present, and the outer packet is not cut off.
+/// - The VXLAN header is incomplete, or its flag I is not set.
+/// - The Geneve header is incomplete, or has another version or another protocol.
 /// - `MAX_TUNNELS` tunnels are around the outer packet.
 ///
 /// If the outer packet is cut off, the inner packet is read as if `is_cut` were true. If the outer packet is whole, the inner packet is
@@ -56,16 +67,42 @@ pub fn read_packet<'a>(
     order: ByteOrder,
     frame: &'a [u8],
     is_cut: bool,
+    udp_tunnels: bool,
 ) -> Packet<'a>
-    ensures { IsRead link_type order frame.now is_cut result }
+    ensures { IsRead udp_tunnels link_type order frame.now is_cut result }
+{
+    match ip_packet_in(link_type, order, frame, is_cut) {
+        Ok(packet) => read_ip_packet(packet, order, udp_tunnels),
+        Err(other) => other,
+    }
+}
+
+/// The bytes of an IP packet.
+#[derive(Clone, Copy, Debug, PartialEq, Eq)]
+pub(crate) struct IpBytes<'a> {
+    /// The packet, and all bytes after it.
+    pub bytes: &'a [u8],
+    /// Whether bytes after these are missing, since the capture or an outer packet was cut.
+    pub is_cut: bool,
+}
+
+/// The IP packet in a frame. If the frame contains no IP packet, the error is the packet that is read instead, in no tunnel.
+fn ip_packet_in<'a>(
+    link_type: LinkType,
+    order: ByteOrder,
+    frame: &'a [u8],
+    is_cut: bool,
+) -> Result<IpBytes<'a>, Packet<'a>>
+    ensures found { IfOk result (HasIpPacket link_type order frame.now is_cut) }
+    ensures other { IfErr result (IsWithoutIp link_type order frame.now is_cut) }
 {
     match network_packet(link_type, order, frame) {
-        Ok(Frame::Ip(found)) => read_ip_packet(
-            found.bytes,
-            are_bytes_cut(is_cut, found.is_end_stated),
-        ),
-        Ok(Frame::Other(protocol, found)) => other_packet(protocol, found.bytes),
-        Err(error) => Packet::in_no_tunnel(Content::Unread, link_verdict(error, is_cut)),
+        Ok(Frame::Ip(found)) => Ok(IpBytes {
+            bytes: found.bytes,
+            is_cut: are_bytes_cut(is_cut, found.is_end_stated),
+        }),
+        Ok(Frame::Other(protocol, found)) => Err(other_packet(protocol, found.bytes)),
+        Err(error) => Err(Packet::in_no_tunnel(Content::Unread, link_verdict(error, is_cut))),
     }
 }
 
@@ -97,41 +134,61 @@ fn link_verdict(error: LinkHeaderCutOff, is_cut: bool) -> Verdict
     }
 }
 
-/// Reads the IP packet at the front of these bytes, or the innermost packet in its tunnels. If `is_cut` is true, the capture cut the frame
-/// of the packet.
-fn read_ip_packet<'a>(packet: &'a [u8], is_cut: bool) -> Packet<'a>
-    ensures { IsInTunnels (innermost is_cut packet.now) result }
+/// Reads the IP packet at the front of these bytes, or the innermost packet in its tunnels. `order` is the byte order of the capture.
+fn read_ip_packet<'a>(packet: IpBytes<'a>, order: ByteOrder, udp_tunnels: bool) -> Packet<'a>
+    ensures { IsReadIn max_tunnels udp_tunnels order [] packet.entry.is_cut packet.entry.bytes.now result }
 {
     let mut tunnels = ArrayVec::new();
     let mut rest = packet;
-    let mut is_rest_cut = is_cut;
     loop {
-        let found = match transport_in_ip_lax(rest) {
+        let found = match transport_in_ip_lax(rest.bytes) {
             Ok(found) => found,
-            Err(error) => return unread(tunnels, rest, error, is_cut_off(rest, is_rest_cut)),
+            Err(error) => {
+                return unread(
+                    tunnels,
+                    rest.bytes,
+                    error,
+                    is_cut_off(rest.bytes, rest.is_cut),
+                );
+            }
         };
-        let Some(inner) = next_packet(&tunnels, &found) else {
-            return carried(tunnels, rest, &found, is_rest_cut);
+        let Some(opened) = next_tunnel(&tunnels, &found, rest.is_cut, udp_tunnels) else {
+            return carried(tunnels, rest.bytes, &found, rest.is_cut);
         };
-        tunnels.push(Tunnel {
-            addresses: found.addresses,
-            protocol: found.protocol,
-        });
-        rest = inner;
-        is_rest_cut = is_transport_cut_off(&found, is_rest_cut);
+        tunnels.push(opened.tunnel);
+        rest = match ip_packet_in(opened.link_type, order, opened.bytes, opened.is_cut) {
+            Ok(inner) => inner,
+            Err(other) => return within(tunnels, other),
+        };
     }
 }
 
-/// The inner packet of an outer packet. `None` if there is no inner packet, or if `tunnels` has no room for another tunnel.
-fn next_packet<'a>(tunnels: &Tunnels<'_>, outer: &TransportInIp<'a>) -> Option<&'a [u8]>
+/// The tunnel in an outer packet. `None` if there is no tunnel, or if `tunnels` has no room for another tunnel. If `is_cut` is true, the
+/// capture cut the frame of the outer packet.
+fn next_tunnel<'a>(
+    tunnels: &Tunnels<'_>,
+    outer: &TransportInIp<'a>,
+    is_cut: bool,
+    udp_tunnels: bool,
+) -> Option<OpenedTunnel<'a>>
     ensures full { array_vec_len tunnels.now ≡ max_tunnels → result ≡ None }
-    ensures room { array_vec_len tunnels.now < max_tunnels → option_map (λ packet. packet.now) result
-        ≡ payload_packet outer.now.is_fragment outer.now.protocol.0 outer.now.payload.now }
+    ensures room { array_vec_len tunnels.now < max_tunnels → option_map tunnel_by_value result
+        ≡ opened_with udp_tunnels (by_value outer.now.addresses) outer.now.protocol.0 outer.now.is_fragment
+        (specs.is_transport_cut_off is_cut outer.now) outer.now.payload.now }
 {
     if tunnels.is_full() {
         return None;
     }
-    packet_in_payload(outer)
+    tunnel_in(outer, is_transport_cut_off(outer, is_cut), udp_tunnels)
+}
+
+/// This packet in these tunnels.
+fn within<'a>(tunnels: Tunnels<'a>, packet: Packet<'a>) -> Packet<'a>
+    ensures { result ≡ record packet.entry { tunnels = tunnels.entry } }
+{
+    let mut packet = packet;
+    packet.tunnels = tunnels;
+    packet
 }
 
 /// Whether a packet with refused headers is cut off. Either its header counts more bytes than are present. Or the capture cut the frame,

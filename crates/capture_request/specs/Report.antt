@@ -1,6 +1,6 @@
 -- The packets that a report reads from a capture, and the packets that it counts. Each chosen packet is counted once, in the order of the
 -- packets.
-use Rattle.std.specs.Prelude.{◌≡◌, ◌≤◌, ◌⊎◌, ℕ, ◌+◌, List, length, [], ◌∷◌, nat_lt, Option, Some, None, IfSome, Result, Ok, Err}
+use Rattle.std.specs.Prelude.{◌≡◌, ◌≤◌, ◌⊎◌, ℕ, ◌+◌, Bool, List, length, [], ◌∷◌, nat_lt, Option, Some, None, IfSome, Result, Ok, Err}
 use Rattle.std.specs.Option.{option_map}
 use Rattle.capture_file.specs.CapturePackets.{BeginsWithPackets, EndsWith, FailsToRead, HasPackets, FilePacket, ReadsOne, ReadsPackets, kept, too_long, offset_of}
 use Rattle.capture_summary.specs.Choice.{IsChosen}
@@ -58,17 +58,17 @@ abbrev pub IsTooLong : ℕ → Packet → Type 0
 IsTooLong required_len packet = packet ≡ in_no_tunnel Unread (TooLong required_len)
 
 -- This packet is read from a frame of this link type. The frame is truncated if its captured length is below its original length. If the
--- link type is unknown, the packet is a frame without an IP packet.
-abbrev pub IsReadAs : Result LinkType ℕ → CapturedPacket → List ℕ → Packet → Type 0
-IsReadAs (Ok link_type) captured frame packet =
-    IsRead link_type captured.byte_order frame (nat_lt captured.captured_len captured.original_len) packet
-IsReadAs (Err number) captured frame packet =
+-- link type is unknown, the packet is a frame without an IP packet. `udp_tunnels` states whether tunnels in UDP are read.
+abbrev pub IsReadAs : Bool → Result LinkType ℕ → CapturedPacket → List ℕ → Packet → Type 0
+IsReadAs udp_tunnels (Ok link_type) captured frame packet =
+    IsRead udp_tunnels link_type captured.byte_order frame (nat_lt captured.captured_len captured.original_len) packet
+IsReadAs udp_tunnels (Err number) captured frame packet =
     packet ≡ in_no_tunnel (NotIp (protocols.LinkType number)) (untested OtherProtocol)
 
 -- the result of reading a packet of a capture; a packet that does not fit in the buffer is not read
-abbrev pub IsPacketOf : FilePacket → Packet → Type 0
-IsPacketOf (kept captured frame) packet = IsReadAs captured.link_type captured frame packet
-IsPacketOf (too_long captured) packet = IsTooLong captured.required_len packet
+abbrev pub IsPacketOf : Bool → FilePacket → Packet → Type 0
+IsPacketOf udp_tunnels (kept captured frame) packet = IsReadAs udp_tunnels captured.link_type captured frame packet
+IsPacketOf udp_tunnels (too_long captured) packet = IsTooLong captured.required_len packet
 
 -- the time at which a packet was captured, if the capture states it
 abbrev pub packet_time : FilePacket → Option PacketTime
@@ -101,7 +101,7 @@ info_of (too_long packet) = too_long_info packet
 
 -- a packet of a capture was counted, if it is chosen
 abbrev pub CountsCaptured : Choice → FilePacket → SummaryTables → SummaryTables → Type 0
-CountsCaptured choice packet before after = CountsPacket choice (IsPacketOf packet) (info_of packet) before after
+CountsCaptured choice packet before after = CountsPacket choice (IsPacketOf choice.udp_tunnels packet) (info_of packet) before after
 
 -- each of these packets was counted if it is chosen, in the order of the packets
 abbrev pub CountsEach : Choice → SummaryTables → List FilePacket → SummaryTables → Type 0

@@ -14,11 +14,22 @@ pub fn packet_without_room<'a>(required_len: u32) -> Packet<'a>
 }
 
 /// Reads the packet in a frame. If the link type of the capture or interface is unknown, the result is a frame without an IP packet.
-pub fn packet_in_frame<'a>(captured: &CapturedPacket, frame: &'a [u8]) -> Packet<'a>
-    ensures { IsReadAs captured.now.link_type captured.now frame.now result }
+/// `udp_tunnels` states whether tunnels in UDP are read.
+pub fn packet_in_frame<'a>(
+    captured: &CapturedPacket,
+    frame: &'a [u8],
+    udp_tunnels: bool,
+) -> Packet<'a>
+    ensures { IsReadAs udp_tunnels captured.now.link_type captured.now frame.now result }
 {
     match captured.link_type {
-        Ok(link_type) => read_packet(link_type, captured.byte_order, frame, captured.is_cut()),
+        Ok(link_type) => read_packet(
+            link_type,
+            captured.byte_order,
+            frame,
+            captured.is_cut(),
+            udp_tunnels,
+        ),
         Err(number) => Packet::in_no_tunnel(
             Content::NotIp(NetworkProtocol::LinkType(number)),
             Verdict::untested(Untested::OtherProtocol),

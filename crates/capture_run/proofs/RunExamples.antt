@@ -280,7 +280,7 @@ in_file = kept captured (170 ∷ [])
 abbrev packet : Packet
 packet = in_no_tunnel (NotIp (LinkType 147)) (untested OtherProtocol)
 
-is_packet : IsPacketOf in_file packet
+is_packet : IsPacketOf false in_file packet
 is_packet = refl
 
 -- the counts after the packet

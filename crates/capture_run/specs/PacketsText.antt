@@ -32,7 +32,7 @@ packet_interface reader (too_long packet) = None
 -- The text of a packet of a capture: its line if it is chosen and has a line, otherwise nothing. `reader` is the reader after the packet.
 abbrev pub IsPacketText : Parts → ℕ → CaptureReader → Option PacketTime → FilePacket → List ℕ → Type 0
 IsPacketText parts number reader first packet text =
-    IsTextOfOne (IsPacketOf packet) parts number (packet_interface reader packet) first (info_of packet) text
+    IsTextOfOne (IsPacketOf parts.choice.udp_tunnels packet) parts number (packet_interface reader packet) first (info_of packet) text
 
 -- The first known time of the packets so far, these packets included. `first` is the first known time of the packets before these packets.
 abbrev pub first_time : Option PacketTime → List FilePacket → Option PacketTime

@@ -83,15 +83,18 @@ impl PacketReport {
     ) -> Result<(), WriteError>
         requires room { self.old.summary.packets < 2 ^ 64 - 1 }
         ensures none { self.old.parts.lines ≡ Lines.None → output.new ≡ output.old }
-        ensures silent { IfNoLine (IsReadAs captured.now.link_type captured.now frame.now) self.old.parts (output.new ≡ output.old) }
+        ensures silent { IfNoLine (IsReadAs self.old.parts.choice.udp_tunnels captured.now.link_type captured.now frame.now)
+            self.old.parts (output.new ≡ output.old) }
         ensures text { OnOk result (AppendsOne (W.contents output.old) (W.contents output.new)
-            (IsTextOfOne (IsReadAs captured.now.link_type captured.now frame.now) self.old.parts place.number place.interface self.old.first (captured_info captured.now))) }
-        ensures counted { OnOk result (CountsPacket self.old.parts.choice (IsReadAs captured.now.link_type captured.now frame.now)
+            (IsTextOfOne (IsReadAs self.old.parts.choice.udp_tunnels captured.now.link_type captured.now frame.now)
+            self.old.parts place.number place.interface self.old.first (captured_info captured.now))) }
+        ensures counted { OnOk result (CountsPacket self.old.parts.choice
+            (IsReadAs self.old.parts.choice.udp_tunnels captured.now.link_type captured.now frame.now)
             (captured_info captured.now) self.old.summary self.new.summary) }
         ensures parts { self.new.parts ≡ self.old.parts }
         ensures first { self.new.first ≡ option_or self.old.first captured.now.time }
     {
-        let packet = packet_in_frame(captured, frame);
+        let packet = packet_in_frame(captured, frame, self.parts.choice.udp_tunnels);
         self.add_packet(output, place, &captured_info(captured), &packet)
     }
 

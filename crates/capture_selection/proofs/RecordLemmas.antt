@@ -39,11 +39,12 @@ record_packet_long room capture first captured has_len beyond =
 pub record_part : (options : Parts) (capture : CaptureHeader) (first captured : List ℕ) (file_packet : FilePacket)
     (outcome : Option Outcome)
     → length first ≡ 16 → length captured ≡ number_at capture.byte_order first 8
-    → record_packet max_packet_len capture (first ++ captured) ≡ file_packet → HasOutcome options (IsPacketOf file_packet) outcome
+    → record_packet max_packet_len capture (first ++ captured) ≡ file_packet
+    → HasOutcome options (IsPacketOf options.choice.udp_tunnels file_packet) outcome
     → IsRecordPart options capture (first ++ captured) outcome
 record_part options capture first captured file_packet outcome has_len counted is has = record {
   is_record = is_record capture.byte_order first captured has_len counted;
-  has_outcome = subst (λ given. HasOutcome options (IsPacketOf given) outcome) (sym is) has;
+  has_outcome = subst (λ given. HasOutcome options (IsPacketOf options.choice.udp_tunnels given) outcome) (sym is) has;
 }
 
 -- the captured length is in the header of a record

@@ -37,7 +37,8 @@ use Rattle.capture_selection.specs.declared.selection_error.SelectionError.TheVa
 abbrev pub HasBlockOutcome : Parts → List ℕ → Option NextPacket → Option Outcome → Type 0
 HasBlockOutcome options buffer None outcome = outcome ≡ None
 HasBlockOutcome options buffer (Some next) outcome =
-    (packet : FilePacket) × (packet_in buffer next ≡ Some packet) × HasOutcome options (IsPacketOf packet) outcome
+    (packet : FilePacket) × (packet_in buffer next ≡ Some packet)
+    × HasOutcome options (IsPacketOf options.choice.udp_tunnels packet) outcome
 
 -- The reader reads this block. `after` is the reader after the block, and `next` is the item that the reader returns for the block, if
 -- there is one.

@@ -17,7 +17,7 @@ use Rattle.capture_selection.specs.declared.records.Records.{Records}
 -- a record of this capture, with the outcome of its packet; the packet is read as the report reads it
 pub record IsRecordPart (options : Parts) (capture : CaptureHeader) (bytes : List ℕ) (outcome : Option Outcome) : Type 0 where
   pub is_record : IsRecord capture.byte_order bytes
-  pub has_outcome : HasOutcome options (IsPacketOf (record_packet max_packet_len capture bytes)) outcome
+  pub has_outcome : HasOutcome options (IsPacketOf options.choice.udp_tunnels (record_packet max_packet_len capture bytes)) outcome
 
 -- the record that begins with these bytes has more captured bytes than fit in the buffer
 abbrev pub IsLongRecord : CaptureHeader → List ℕ → Type 0

@@ -34,7 +34,8 @@ pub fn outcome_of(parts: &Parts, packet: &Packet<'_>) -> Outcome
 
 /// The outcome of the packet in this frame, according to the options of a report.
 pub(crate) fn outcome_in_frame(parts: &Parts, captured: &CapturedPacket, frame: &[u8]) -> Outcome
-    ensures { HasOutcome parts.now (IsPacketOf (kept captured.now frame.now)) (Some result) }
+    ensures { HasOutcome parts.now (IsPacketOf parts.now.choice.udp_tunnels (kept captured.now frame.now)) (Some result) }
 {
-    outcome_of(parts, &packet_in_frame(captured, frame))
+    let packet = packet_in_frame(captured, frame, parts.choice.udp_tunnels);
+    outcome_of(parts, &packet)
 }

@@ -1,5 +1,5 @@
 -- The packets that are chosen: by hosts, ports and protocols.
-use Rattle.std.specs.Prelude.{◌≡◌, ◌⊎◌, ◌≤◌, ℕ, IfSome, IsSomeAnd, List, [], ◌∷◌, Option, Some, None}
+use Rattle.std.specs.Prelude.{◌≡◌, ◌⊎◌, ◌≤◌, ℕ, false, IfSome, IsSomeAnd, List, [], ◌∷◌, Option, Some, None}
 use Rattle.ip_part.specs.Addresses.{Addresses, Ipv4, Ipv6, by_value}
 use Rattle.capture_summary.specs.Protocols.{content_protocol, protocol_place}
 use Rattle.capture_summary.specs.Networks.{IsIpv4In, IsIpv6In}
@@ -19,7 +19,7 @@ use Rattle.capture_summary.specs.declared.flow.FlowProtocol.{FlowProtocol}
 use Rattle.capture_summary.specs.declared.network.Network.{Network}
 use Rattle.capture_summary.specs.declared.protocol.Protocol.TheVariants.{Icmpv4, Icmpv6}
 
--- the choice of all packets
+-- the choice of all packets, without tunnels in UDP
 abbrev pub every_packet : Choice
 every_packet = record {
   hosts = None;
@@ -29,6 +29,7 @@ every_packet = record {
   ports = None;
   other_ports = None;
   protocols = None;
+  udp_tunnels = false;
 }
 
 -- `Statement` holds for one of these values; empty places do not count

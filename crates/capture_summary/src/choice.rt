@@ -41,10 +41,12 @@ pub struct Choice {
     pub other_ports: Option<Ports>,
     /// If set, only packets of these protocols are chosen.
     pub protocols: Option<Protocols>,
+    /// Whether tunnels in UDP are opened before packets are compared. Then the packet in the tunnel is compared with the other fields.
+    pub udp_tunnels: bool,
 }
 
 impl Choice {
-    /// The choice of all packets.
+    /// The choice of all packets. Tunnels in UDP are not opened.
     pub const ALL: Choice = Choice {
         hosts: None,
         sources: None,
@@ -53,6 +55,7 @@ impl Choice {
         ports: None,
         other_ports: None,
         protocols: None,
+        udp_tunnels: false,
     };
 
     /// Whether this packet is chosen. A packet without addresses matches no host, and a packet without ports matches no port. If the final

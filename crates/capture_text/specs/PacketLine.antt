@@ -20,8 +20,10 @@ use Rattle.capture_packet.specs.declared.hop_limit.HopLimit.TheVariants as limit
 use Rattle.capture_packet.specs.declared.packet.Packet.{Packet}
 use Rattle.capture_packet.specs.declared.transport.Transport.{Transport}
 use Rattle.capture_packet.specs.declared.transport.Transport.TheVariants as transports
+use Rattle.capture_packet.specs.NetworkKinds.{kind_name, proto_around}
 use Rattle.capture_packet.specs.declared.tunnel.Tunnel.{Tunnel}
 use Rattle.capture_packet.specs.declared.verdict.Verdict.{Verdict}
+use Rattle.capture_packet.specs.declared.virtual_network.VirtualNetwork.{VirtualNetwork}
 use Rattle.capture_file.specs.declared.packet_time.PacketTime.{PacketTime}
 use Rattle.capture_file.specs.declared.reader.packet_interface.PacketInterface.{PacketInterface}
 use Rattle.capture_text.specs.ArpText.{arp_text}
@@ -180,9 +182,16 @@ end_text (contents.IpHeader addresses) verdict = verdict_part verdict
 end_text (contents.NotIp protocol) verdict = verdict_part verdict
 end_text (contents.Ip addresses protocol proto transport payload_len) verdict = verdict_part verdict
 
--- the outer packet of a tunnel: its addresses, its protocol, and a bar before the inner packet
+-- the virtual network of a tunnel, if it states one: the kind of the tunnel, and the network identifier
+abbrev pub virtual_network_text : Option VirtualNetwork → List ℕ
+virtual_network_text None = []
+virtual_network_text (Some network) = codes ", " ++ (kind_name network.kind ++ (codes ", VNI " ++ decimal network.id))
+
+-- the outer packet of a tunnel: its addresses, its protocol, its virtual network, and a bar before the inner packet
 abbrev pub tunnel_text : Tunnel → List ℕ
-tunnel_text tunnel = unread_text (by_value tunnel.addresses) tunnel.protocol.0 None None ++ codes " | "
+tunnel_text tunnel =
+    unread_text (by_value tunnel.addresses) tunnel.protocol.0 (proto_around tunnel.network) None
+    ++ (virtual_network_text tunnel.network ++ codes " | ")
 
 -- This is the line of a packet: its number, its time, its interface, the length of its frame, its tunnels, its content with an ARP packet,
 -- the fields of its fragment, its details if the line is verbose, and its verdict.

@@ -6,7 +6,7 @@ ghost use Rattle.std.specs.List.{flat_map};
 ghost use Rattle.std.specs.Option.{option_map};
 ghost use Rattle.ip_part.specs.Addresses.{by_value};
 ghost use Rattle.capture_packet.specs.Quotes.{by_value as quoted_by_value};
-ghost use Rattle.capture_text.specs.PacketLine.{IsContentText, IsLine, IsTcpText, IsTransportText, captured_text, details_text, end_text, frame_text, icmpv4_line, icmpv6_line, known_endpoints, name_or_number, network_number, network_text, payload_text, quoted_text, tunnel_text, udp_text, unread_text, verdict_part};
+ghost use Rattle.capture_text.specs.PacketLine.{IsContentText, IsLine, IsTcpText, IsTransportText, captured_text, details_text, end_text, frame_text, icmpv4_line, icmpv6_line, known_endpoints, name_or_number, network_number, network_text, payload_text, quoted_text, tunnel_text, udp_text, unread_text, verdict_part, virtual_network_text};
 ghost use Rattle.capture_words.specs.Written.{AppendsOne};
 
 use crate::addresses::{write_addresses, write_endpoints};
@@ -16,6 +16,7 @@ use crate::interface::write_interface;
 use crate::verdict::{is_other_protocol, write_verdict};
 use capture_packet::{
     Content, HopLimit, NetworkProtocol, Packet, QuotedPacket, Transport, Tunnel, Verdict,
+    VirtualNetwork,
 };
 use capture_summary::{FrameLen, PacketInfo, ip_protocol_name, network_protocol_name};
 use capture_words::{Times, icmpv4, icmpv6, tcp, write_time};
@@ -75,15 +76,27 @@ fn write_frame_len<W: Write>(output: &mut W, len: Option<FrameLen>) -> io::Resul
     write!(output, ": ")
 }
 
-/// Writes the outer packet of each tunnel: its addresses, its protocol, and a bar.
+/// Writes the outer packet of each tunnel: its addresses, its protocol, its virtual network if it states one, and a bar.
 fn write_tunnels<W: Write>(output: &mut W, tunnels: &[Tunnel<'_>]) -> io::Result<()>
     ensures { OnOk result (Appends (W.contents output.old) (W.contents output.new) (flat_map tunnel_text tunnels.now)) }
 {
     for tunnel in tunnels {
-        write_unread(output, tunnel.addresses, tunnel.protocol, None, None)?;
+        let proto = tunnel.proto();
+        write_unread(output, tunnel.addresses, tunnel.protocol, proto, None)?;
+        write_network(output, tunnel.network)?;
         write!(output, " | ")?;
     }
     Ok(())
+}
+
+/// Writes the virtual network of a tunnel: the kind of the tunnel, and the network identifier. It writes nothing if there is no network.
+fn write_network<W: Write>(output: &mut W, network: Option<VirtualNetwork>) -> io::Result<()>
+    ensures { OnOk result (Appends (W.contents output.old) (W.contents output.new) (virtual_network_text network)) }
+{
+    match network {
+        Some(VirtualNetwork { kind, id }) => write!(output, ", {}, VNI {id}", kind.name()),
+        None => Ok(()),
+    }
 }
 
 /// Writes the content of a packet. For a packet that is not read, it writes nothing. For refused IP headers, it writes only the addresses.

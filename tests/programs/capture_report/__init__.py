@@ -21,12 +21,12 @@ from .interfaces import check_interfaces, check_interfaces_against_tshark
 from .objects import check_json
 from .packets import (
     check_arp, check_every_kind, check_fragments, check_further_headers, check_hop_limits, check_names, check_neighbors, check_other_links,
-    check_payloads, check_tunnels)
+    check_payloads, check_tunnels, check_udp_tunnels)
 from .report import PROGRAM
 from .streams import check_live, check_progress
 from .summary import check_conversations, check_sums, check_top, check_totals
 from .times import check_dates, check_times_as_numbers
-from .tshark import check_against_tshark, check_payloads_against_tshark, check_tunnels_against_tshark
+from .tshark import check_against_tshark, check_payloads_against_tshark, check_tunnels_against_tshark, check_udp_tunnels_against_tshark
 from .writing import check_writing
 
 CHECKS = (
@@ -34,7 +34,8 @@ CHECKS = (
     check_progress, check_files, check_sums, check_choices, check_top, check_conversations, check_dates, check_totals, check_facts, check_texts,
     check_json, check_every_row, check_hop_limits, check_times_as_numbers, check_payloads, check_names, check_values, check_unknown_options,
     check_fragments, check_arp, check_neighbors, check_known_options, check_repeated_options, check_options_not_utf_8, check_pairs, check_long_words, check_against_tshark,
-    check_payloads_against_tshark, check_tunnels_against_tshark, check_interfaces, check_interfaces_against_tshark)
+    check_payloads_against_tshark, check_tunnels_against_tshark, check_interfaces, check_interfaces_against_tshark, check_udp_tunnels,
+    check_udp_tunnels_against_tshark)
 
 
 def main():

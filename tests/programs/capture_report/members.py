@@ -89,7 +89,9 @@ def reason_of(text):
 
 def tunnel_of(text):
     """What a line says of an outer packet, as members."""
-    return members_of_ends(ends_of("1 - length unknown: " + text)) | protocol_of(text.split(" ", 3)[3])
+    network = re.search(r", (VXLAN|Geneve), VNI (\d+)$", text)
+    members = {"encapsulation": network.group(1), "vni": int(network.group(2))} if network else {}
+    return members_of_ends(ends_of("1 - length unknown: " + text)) | protocol_of(text.split(" ", 3)[3]) | members
 
 
 def members_of(line):

@@ -5,9 +5,9 @@ import struct
 
 from ..build import (
     CISCO_HDLC, COOKED, COOKED2, ETHERNET, IPV4, IPV6, LINKS, NFLOG, OPENBSD, OTHER_LINK, PPP_OVER_ETHERNET, RAW, arp, capture, frame, gre, icmpv6,
-    ipv4, ipv6, pcapng, tcp, udp
+    ipv4, ipv6, pcapng, tcp, udp, vxlan
 )
-from ..kinds import TCP_OPTIONS, every_kind, further_headers, packets_in_tunnels
+from ..kinds import TCP_OPTIONS, datagrams_without_a_tunnel, every_kind, further_headers, packets_in_tunnels, packets_in_udp_tunnels
 from .members import check_objects, tunnel_of
 from .names import ETHER_TYPES, NUMBERS
 from .report import HOP_LIMIT, ends_of, fragment_text, length_text, lines_of, parts_of, run, verdict_of, with_underscores, without_facts
@@ -98,6 +98,51 @@ def check_tunnels(tally):
         tally.expect(f"OSPF {name}", line, f"192.0.2.1 > 192.0.2.2 OSPF, payload {payload}{fragment_text(others.get('flags', 0))}")
         reason = json.loads(run(data, "--packets", "--json").stdout)["reason"]
         tally.expect(f"OSPF {name}, in JSON", reason, "another_protocol")
+
+
+def check_udp_tunnels(tally):
+    """VXLAN and Geneve: with --tunnels the line shows the outer packets and then the inner packet, as in other tunnels. Without the option,
+    and if a header does not fit, it is the line of a UDP datagram."""
+    rows = list(packets_in_udp_tunnels())
+    data = capture(RAW, [packet for _, packet, _, _ in rows])
+    lines = [parts_of(line)[3] for line in lines_of(run(data, "--packets", "--tunnels").stdout)]
+    inner = [parts_of(*lines_of(run(capture(link, [frame]), "--packets").stdout))[3] for _, _, frame, link in rows]
+    tally.expect("lines of packets in tunnels in UDP", lines, [before + line for (before, _, _, _), line in zip(rows, inner)])
+    plain = [parts_of(line)[3] for line in lines_of(run(data, "--packets").stdout)]
+    tally.expect("tunnels in UDP without --tunnels", [line.split("; ")[0].rpartition(" | ")[2].split(",")[0].split(" length ")[0] for line in plain],
+                 [ends_text(before) for before, _, _, _ in rows])
+    for (before, _, _, _), line in zip(rows, lines_of(run(data, "--packets", "--json", "--tunnels").stdout), strict=True):
+        tally.expect(f"tunnels in JSON, {before}", json.loads(line)["tunnels"], [tunnel_of(outer) for outer in before.split(" | ")[:-1]])
+    for arguments, wanted in [(("--host", "203.0.113.2"), [line for line in lines if "203.0.113.2" in line]), (("--port", "4789"), []),
+                              (("--protocol", "arp"), [line for line in lines if "ARP" in line])]:
+        found = [parts_of(line)[3] for line in lines_of(run(data, "--packets", "--tunnels", *arguments).stdout)]
+        tally.expect(f"packets in tunnels in UDP, {arguments}", found, wanted)
+    check_objects(tally, "packets in tunnels in UDP", data, "--tunnels")
+    written = run(data, "--tunnels", "--protocol", "arp", "-w", "-").stdout
+    tally.expect("-w of packets in tunnels in UDP", len(lines_of(run(written, "--packets").stdout)), 2)
+    for name, port, payload, others in datagrams_without_a_tunnel():
+        data = capture(RAW, [ipv4(17, udp(IPV4, payload, destination=port), **others)])
+        found, wanted = (run(data, "--packets", *arguments).stdout.decode() for arguments in (("--tunnels",), ()))
+        tally.expect(name, (found, " | " in found), (wanted, False))
+    whole = ipv4(17, udp(IPV4, vxlan(frame(ETHERNET, ipv4(17, udp(IPV4, b"abc")))), destination=4789))
+    cuts = [(whole[:len(whole) - cut], len(whole)) for cut in range(len(whole))]
+    found = [parts_of(line)[3] for line in lines_of(run(capture(RAW, cuts), "--packets", "--tunnels").stdout)]
+    # The inner packet has 31 bytes. The Ethernet header before it has to be whole.
+    tally.expect("packets in a cut tunnel in UDP", [line.count(" | ") for line in found], [1] * 32 + [0] * (len(whole) - 32))
+    tally.expect("verdicts of packets in a cut tunnel in UDP", [verdict_of(line) for line in found], ["right"] + ["cut"] * (len(whole) - 1))
+    deep = whole
+    for _ in range(4):
+        deep = ipv4(4, deep)
+    found = parts_of(*lines_of(run(capture(RAW, [deep]), "--packets", "--tunnels").stdout))[3]
+    tally.expect("VXLAN as a fifth tunnel", found.split(" | ")[4].split(" length ")[0], "192.0.2.1:49152 > 192.0.2.2:4789 UDP")
+
+
+def ends_text(before):
+    """The ends and the protocol of the outermost datagram in UDP, as a line without --tunnels shows them."""
+    outer = next(text for text in before.split(" | ") if " UDP, " in text)
+    port = 4789 if "VXLAN" in outer else 6081
+    source, _, destination = outer.split(" ")[:3]
+    return " > ".join(f"[{end}]:{number}" if ":" in end else f"{end}:{number}" for end, number in ((source, 50000), (destination, port))) + " UDP"
 
 
 def check_other_links(tally):

@@ -7,7 +7,7 @@ import subprocess
 import tempfile
 
 from ..build import ETHERNET, LINKS, NFLOG, RAW, capture
-from ..kinds import every_kind, further_headers, packets_in_tunnels
+from ..kinds import every_kind, further_headers, packets_in_tunnels, packets_in_udp_tunnels
 from .report import ends_of, lines_of, parts_of, run, verdict_of
 
 
@@ -94,3 +94,34 @@ def check_tunnels_against_tshark(tally):
                      [[source for source in sources if (":" in source) == is_ipv6] for is_ipv6 in (False, True)],
                      [column.split(",") if column else [] for column in stated])
         tally.expect("checksum of a packet in a tunnel", {"right": "1", "wrong": "0"}[verdict_of(line)], of_udp + of_tcp)
+
+
+def check_udp_tunnels_against_tshark(tally):
+    """The sources, the networks and the ether types that tshark finds in VXLAN and Geneve, and its status of the innermost checksum."""
+    tshark = shutil.which("tshark")
+    if tshark is None:
+        return
+    data = capture(RAW, [packet for _, packet, _, _ in packets_in_udp_tunnels()])
+    with tempfile.TemporaryDirectory() as room:
+        path = pathlib.Path(room) / "capture.pcap"
+        path.write_bytes(data)
+        fields = [word for field in ("ip.src", "ipv6.src", "vxlan.vni", "geneve.vni", "arp.opcode", "udp.checksum.status", "tcp.checksum.status")
+                  for word in ("-e", field)]
+        options = [word for protocol in ("udp", "tcp") for word in ("-o", f"{protocol}.check_checksum:TRUE")]
+        done = subprocess.run([tshark, "-r", path, *options, "-T", "fields", "-E", "separator=;", *fields], capture_output=True, text=True,
+                              timeout=120)
+    packets = [json.loads(line) for line in lines_of(run(data, "--packets", "--json", "--tunnels").stdout)]
+    for packet, theirs in zip(packets, done.stdout.splitlines(), strict=True):
+        # A refused packet has a source too, but not in tshark.
+        parts = packet["tunnels"] if "refused" in packet else (*packet["tunnels"], packet)
+        sources = [part["source"] for part in parts if "source" in part]
+        columns = [column.split(",") if column else [] for column in theirs.split(";")]
+        name = f"tshark's packet {packet['number']} in a tunnel in UDP"
+        tally.expect(f"{name}: sources", [[source for source in sources if (":" in source) == is_ipv6] for is_ipv6 in (False, True)], columns[:2])
+        numbers = [[tunnel["vni"] for tunnel in packet["tunnels"] if tunnel.get("encapsulation") == kind] for kind in ("VXLAN", "Geneve")]
+        tally.expect(f"{name}: networks", numbers, [[int(text, 0) for text in column] for column in columns[2:4]])
+        tally.expect(f"{name}: ARP", [str(packet["arp"]["operation"])] if "arp" in packet else [], columns[4])
+        if packet.get("checksum") in ("right", "wrong"):
+            # tshark also has a status for each outer datagram.
+            status = (columns[6] or columns[5])[-1]
+            tally.expect(f"{name}: checksum", packet["checksum"], {"1": "right", "0": "wrong"}[status])

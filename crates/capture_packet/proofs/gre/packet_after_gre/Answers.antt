@@ -2,7 +2,8 @@ use Rattle.std.proofs.Common.{◌≡◌, ◌≤◌, ◌-◌, ℕ, true, List, No
 use Rattle.std.proofs.lemmas.Grind.{common_steps}
 use Rattle.std.proofs.lemmas.List.{take_rest}
 use Rattle.capture_packet.specs.Gre.{first_bits, header_len, is_read, len_with, protocol_type}
-use Rattle.capture_packet.specs.Tunnels.{packet_after_gre, packet_of_type}
+use Rattle.capture_packet.specs.InnerPackets.{packet_of_type}
+use Rattle.capture_packet.specs.Tunnels.{packet_after_gre}
 use Rattle.capture_packet.proofs.gre.packet_after_gre.Goals as goal
 
 -- a GRE header whose bits are allowed is read

@@ -49,10 +49,10 @@ returns g c = record {
       let outcome = Some c.outcome_in_frame.result in
       let captured_len = ap (λ header. header.captured_len) c.requires.header in
       let room = length-take c.args.header.now.captured_len c.args.copier.now.buffer.now in
-      let has = subst (λ header. HasOutcome c.args.parts.now (IsPacketOf (kept (packet_of_record capture header) frame)) outcome)
-      c.requires.header
-      (subst (λ captured. HasOutcome c.args.parts.now (IsPacketOf (kept captured frame)) outcome) c.from_record-captured.ensures
-      c.outcome_in_frame.ensures) in
+      let has = subst (λ header. HasOutcome c.args.parts.now
+      (IsPacketOf c.args.parts.now.choice.udp_tunnels (kept (packet_of_record capture header) frame)) outcome) c.requires.header
+      (subst (λ captured. HasOutcome c.args.parts.now (IsPacketOf c.args.parts.now.choice.udp_tunnels (kept captured frame)) outcome)
+      c.from_record-captured.ensures c.outcome_in_frame.ensures) in
       let sixteen : length first ≡ 16 = search rules in
       let whole : length (first ++ frame) ≡ 16 + c.args.header.now.captured_len =
       omega (arith, length-append first frame, sixteen, room, c.read_into.auto.buffer, c.requires.room) in

@@ -65,8 +65,8 @@ returns g c = record {
               (record_packet_long max_packet_len capture first rest.bytes (search rules) (omega (arith, captured_len, c.requires.room)))
               (record {
                 packet = packet;
-                is_packet = subst (λ header. IsPacketOf (too_long (long_record capture header)) packet) c.requires.header
-                    c.packet_without_room.ensures;
+                is_packet = subst (λ header. IsPacketOf c.args.parts.now.choice.udp_tunnels (too_long (long_record capture header)) packet)
+                    c.requires.header c.packet_without_room.ensures;
                 given = outcome;
                 is_outcome = c.outcome_of.ensures;
                 has = refl;

@@ -7,4 +7,5 @@ use Rattle.capture_text.proofs.packet_line.write_tunnels.Goals as goal
 pub loop-tunnel-preserved : goal.loop-tunnel-preserved
 loop-tunnel-preserved g c =
     each_more c.args.tunnels.now _ _ _ _ _ _ c.loop-tunnel.invariant
-    (Appends-trans _ _ _ _ _ c.in_ok-write_unread.ensures c.in_ok-write.ensures.bytes) (search rules)
+    (Appends-trans _ _ _ _ _ c.in_ok-write_unread.ensures
+    (Appends-trans _ _ _ _ _ c.in_ok-write_network.ensures c.in_ok-write.ensures.bytes)) (search rules)
