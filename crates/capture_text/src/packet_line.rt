@@ -76,17 +76,24 @@ fn write_frame_len<W: Write>(output: &mut W, len: Option<FrameLen>) -> io::Resul
     write!(output, ": ")
 }
 
-/// Writes the outer packet of each tunnel: its addresses, its protocol, its virtual network if it states one, and a bar.
+/// Writes the outer packet of each tunnel.
 fn write_tunnels<W: Write>(output: &mut W, tunnels: &[Tunnel<'_>]) -> io::Result<()>
     ensures { OnOk result (Appends (W.contents output.old) (W.contents output.new) (flat_map tunnel_text tunnels.now)) }
 {
     for tunnel in tunnels {
-        let proto = tunnel.proto();
-        write_unread(output, tunnel.addresses, tunnel.protocol, proto, None)?;
-        write_network(output, tunnel.network)?;
-        write!(output, " | ")?;
+        write_tunnel(output, tunnel)?;
     }
     Ok(())
+}
+
+/// Writes the outer packet of a tunnel: its addresses, its protocol, its virtual network if it states one, and a bar.
+fn write_tunnel<W: Write>(output: &mut W, tunnel: &Tunnel<'_>) -> io::Result<()>
+    ensures { OnOk result (Appends (W.contents output.old) (W.contents output.new) (tunnel_text tunnel.now)) }
+{
+    let proto = tunnel.proto();
+    write_unread(output, tunnel.addresses, tunnel.protocol, proto, None)?;
+    write_network(output, tunnel.network)?;
+    write!(output, " | ")
 }
 
 /// Writes the virtual network of a tunnel: the kind of the tunnel, and the network identifier. It writes nothing if there is no network.
