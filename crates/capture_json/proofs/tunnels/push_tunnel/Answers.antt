@@ -20,8 +20,9 @@ returns c =
     ∙ ap object_ended
     (c.in_ok-put_network.ensures
     ∙ ap (with_members network) (c.in_ok-put_ip_protocol.ensures
-    ∙ ap (λ proto. with_members (ip_protocol_members tunnel.protocol.0 proto) _) c.proto.ensures
-    ∙ ap (with_members protocol) (c.in_ok-put_addresses.ensures ∙ ap (with_members addresses) c.in_ok-begin_item.ensures))
+    ∙ ap (with_members (ip_protocol_members tunnel.protocol.0 c.proto.result))
+    (c.in_ok-put_addresses.ensures ∙ ap (with_members addresses) c.in_ok-begin_item.ensures)
+    ∙ ap (λ proto. with_members (ip_protocol_members tunnel.protocol.0 proto) (with_members addresses begun)) c.proto.ensures)
     ∙ sym (with_append protocol network (with_members addresses begun))
     ∙ sym (with_append addresses (protocol ++ network) begun))
     ∙ pushed (addresses ++ (protocol ++ network)) before
