@@ -652,8 +652,48 @@ fn long_packets_are_not_fragmented(rt: HostRuntime) {
 
 // ---- fragments
 
-/// Fragments over IPv6, each with the translated fragment: the first and the last fragment of a UDP packet, a fragment of ESP, the first
-/// fragment of a TCP segment, two atomic fragments (UDP and an echo request), and a fragment after hop-by-hop options.
+/// Fragments over IPv4, each with the translated fragment: the first and the last fragment of a UDP packet, a fragment of ESP, and the first
+/// fragment of a TCP segment. A program in Python computed the checksums.
+#[rattlefmt::skip]
+static FRAGMENTS: [(&[u8], &[u8]); 4] = [
+    (&[
+        0x45, 0xB9, 0, 0x24, 0x12, 0x34, 0x20, 0, 0x40, 0x11, 0x5B, 0x80, 0xC0, 0, 2, 0x21, 0xC6, 0x33, 0x64, 7,
+        0, 0x15, 4, 0xD2, 0, 0x18, 0xCB, 0x2F, 0x61, 0x62, 0x63, 0x64, 0x65, 0x66, 0x67, 0x68,
+    ], &[
+        0x6B, 0x90, 0, 0, 0, 0x18, 0x2C, 0x3F, 0x20, 1, 0x0D, 0xB8, 0xC0, 0, 2, 0x21, 0, 0, 0, 0,
+        0, 0, 0, 0, 0x20, 1, 0x0D, 0xB8, 1, 0x22, 3, 0x44, 0, 0, 0, 0, 0xC6, 0x33, 0x64, 7,
+        0x11, 0, 0, 1, 0, 0, 0x12, 0x34, 0, 0x15, 4, 0xD2, 0, 0x18, 0x6B, 0x57, 0x61, 0x62, 0x63, 0x64,
+        0x65, 0x66, 0x67, 0x68,
+    ]),
+    (&[
+        0x45, 0xB9, 0, 0x1C, 0x12, 0x34, 0, 2, 0x40, 0x11, 0x7B, 0x86, 0xC0, 0, 2, 0x21, 0xC6, 0x33, 0x64, 7,
+        0x69, 0x6A, 0x6B, 0x6C, 0x6D, 0x6E, 0x6F, 0x70,
+    ], &[
+        0x6B, 0x90, 0, 0, 0, 0x10, 0x2C, 0x3F, 0x20, 1, 0x0D, 0xB8, 0xC0, 0, 2, 0x21, 0, 0, 0, 0,
+        0, 0, 0, 0, 0x20, 1, 0x0D, 0xB8, 1, 0x22, 3, 0x44, 0, 0, 0, 0, 0xC6, 0x33, 0x64, 7,
+        0x11, 0, 0, 0x10, 0, 0, 0x12, 0x34, 0x69, 0x6A, 0x6B, 0x6C, 0x6D, 0x6E, 0x6F, 0x70,
+    ]),
+    (&[
+        0x45, 0xB9, 0, 0x1C, 0xFF, 0xFF, 0x3F, 0xFF, 0x40, 0x32, 0x4D, 0x9C, 0xC0, 0, 2, 0x21, 0xC6, 0x33, 0x64, 7,
+        0x31, 0x32, 0x33, 0x34, 0x35, 0x36, 0x37, 0x38,
+    ], &[
+        0x6B, 0x90, 0, 0, 0, 0x10, 0x2C, 0x3F, 0x20, 1, 0x0D, 0xB8, 0xC0, 0, 2, 0x21, 0, 0, 0, 0,
+        0, 0, 0, 0, 0x20, 1, 0x0D, 0xB8, 1, 0x22, 3, 0x44, 0, 0, 0, 0, 0xC6, 0x33, 0x64, 7,
+        0x32, 0, 0xFF, 0xF9, 0, 0, 0xFF, 0xFF, 0x31, 0x32, 0x33, 0x34, 0x35, 0x36, 0x37, 0x38,
+    ]),
+    (&[
+        0x45, 0xB9, 0, 0x2C, 0x12, 0x34, 0x20, 0, 0x40, 6, 0x5B, 0x83, 0xC0, 0, 2, 0x21, 0xC6, 0x33, 0x64, 7,
+        0, 0x15, 4, 0xD2, 1, 2, 3, 4, 5, 6, 7, 8, 0x50, 0x18, 0x20, 0, 0xB8, 0x8D, 0, 0,
+        0x61, 0x62, 0x63, 0x64,
+    ], &[
+        0x6B, 0x90, 0, 0, 0, 0x20, 0x2C, 0x3F, 0x20, 1, 0x0D, 0xB8, 0xC0, 0, 2, 0x21, 0, 0, 0, 0,
+        0, 0, 0, 0, 0x20, 1, 0x0D, 0xB8, 1, 0x22, 3, 0x44, 0, 0, 0, 0, 0xC6, 0x33, 0x64, 7,
+        6, 0, 0, 1, 0, 0, 0x12, 0x34, 0, 0x15, 4, 0xD2, 1, 2, 3, 4, 5, 6, 7, 8,
+        0x50, 0x18, 0x20, 0, 0x58, 0xB5, 0, 0, 0x61, 0x62, 0x63, 0x64,
+    ]),
+];
+
+/// The same fragments over IPv6, two atomic fragments (UDP and an echo request), and a fragment after hop-by-hop options.
 #[rattlefmt::skip]
 static FRAGMENTS_BACK: [(&[u8], &[u8]); 7] = [
     (&[
@@ -721,6 +761,16 @@ static FRAGMENTS_BACK: [(&[u8], &[u8]); 7] = [
 ];
 
 #[test]
+fn fragments_are_translated(rt: HostRuntime) {
+    for (packet, expected) in &FRAGMENTS {
+        let mut buffer = [0xEE; 80];
+        let len = expect_ok(&rt, ipv4_to_ipv6(packet, &PREFIXES, &mut buffer));
+        expect_bytes(&rt, bytes_to(&rt, &buffer, len), expected);
+        expect_equal(&rt, &buffer[79], &0xEE);
+    }
+}
+
+#[test]
 fn fragments_are_translated_back(rt: HostRuntime) {
     for (packet, expected) in &FRAGMENTS_BACK {
         let mut buffer = [0xEE; 80];
@@ -750,10 +800,31 @@ fn fragments_are_refused(rt: HostRuntime) {
         expect_at(&rt, place, &outcome.err().as_ref(), &Some(error));
         expect_bytes(&rt, &buffer, &[0xEE; 80]);
     }
+    let mut buffer = [0xEE; 63];
+    let outcome = ipv4_to_ipv6(FRAGMENTS[0].0, &PREFIXES, &mut buffer);
+    let error = PacketTranslationError::Space {
+        required_len: 64,
+        len: 63,
+    };
+    expect_equal(&rt, &outcome, &Err(error));
+    let mut udp = joined(&rt, &[FRAGMENTS[0].0]);
+    udp.as_mut_slice()[26..28].copy_from_slice(&[0, 0]);
+    let outcome = ipv4_to_ipv6(udp.as_slice(), &PREFIXES, &mut buffer);
+    expect_equal(&rt, &outcome, &Err(PacketTranslationError::FragmentChecksum));
+    // ICMP, with the checksum of the header.
+    udp.as_mut_slice()[9..12].copy_from_slice(&[1, 0x5B, 0x90]);
+    let outcome = ipv4_to_ipv6(udp.as_slice(), &PREFIXES, &mut buffer);
+    expect_equal(&rt, &outcome, &Err(PacketTranslationError::IcmpFragment));
+    expect_bytes(&rt, &buffer, &[0xEE; 63]);
     expect_text(
         &rt,
         &PacketTranslationError::IcmpFragment,
         "Translation Error: a fragment of an ICMP message is not translated.",
+    );
+    expect_text(
+        &rt,
+        &PacketTranslationError::FragmentChecksum,
+        "Translation Error: a fragment of a UDP packet has no checksum.",
     );
 }
 

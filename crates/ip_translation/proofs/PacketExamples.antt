@@ -2,7 +2,7 @@
 use Rattle.std.proofs.Common.{◌≡◌, List, ℕ, [], ◌∷◌, ◌++◌, Some, None, refl}
 use Rattle.ip_part.specs.Options.{options_within}
 use Rattle.word_sum.specs.Checksum.{folded}
-use Rattle.ip_translation.specs.PacketsToIpv6.{packet_refusal, translated_packet}
+use Rattle.ip_translation.specs.FragmentsToIpv6.{packet_refusal, translated_packet}
 use Rattle.ip_translation.specs.declared.packet_translation_error.PacketTranslationError.TheVariants.{CutOff, NoIpv4Header, Space, TransportHeader, UdpLength}
 use Rattle.ip_translation.specs.declared.prefix64.Prefix64.TheVariants.{Bits32, Bits96}
 use Rattle.ip_translation.specs.declared.prefixes.Prefixes.{Prefixes}
@@ -136,3 +136,44 @@ error_accepted = refl
 error_translated : translated_packet prefixes port_unreachable ≡ port_unreachable_ipv6
 unfolding folded prefixes port_unreachable port_unreachable_ipv6
 error_translated = refl
+
+-- the first fragment of a UDP packet, with its first eight bytes of data
+first_fragment : List ℕ
+first_fragment =
+    0x45 ∷ 0xb9 ∷ 0 ∷ 0x24 ∷ 0x12 ∷ 0x34 ∷ 0x20 ∷ 0 ∷ 0x40 ∷ 0x11 ∷ 0x5b ∷ 0x80 ∷ 0xc0 ∷ 0 ∷ 2 ∷ 0x21
+    ∷ 0xc6 ∷ 0x33 ∷ 0x64 ∷ 7 ∷ 0 ∷ 0x15 ∷ 4 ∷ 0xd2 ∷ 0 ∷ 0x18 ∷ 0xcb ∷ 0x2f ∷ 0x61 ∷ 0x62 ∷ 0x63 ∷ 0x64
+    ∷ 0x65 ∷ 0x66 ∷ 0x67 ∷ 0x68 ∷ []
+
+-- over IPv6
+first_fragment_ipv6 : List ℕ
+first_fragment_ipv6 =
+    0x6b ∷ 0x90 ∷ 0 ∷ 0 ∷ 0 ∷ 0x18 ∷ 0x2c ∷ 0x3f ∷ 0x20 ∷ 1 ∷ 0x0d ∷ 0xb8 ∷ 0xc0 ∷ 0 ∷ 2 ∷ 0x21
+    ∷ 0 ∷ 0 ∷ 0 ∷ 0 ∷ 0 ∷ 0 ∷ 0 ∷ 0 ∷ 0x20 ∷ 1 ∷ 0x0d ∷ 0xb8 ∷ 1 ∷ 0x22 ∷ 3 ∷ 0x44
+    ∷ 0 ∷ 0 ∷ 0 ∷ 0 ∷ 0xc6 ∷ 0x33 ∷ 0x64 ∷ 7 ∷ 0x11 ∷ 0 ∷ 0 ∷ 1 ∷ 0 ∷ 0 ∷ 0x12 ∷ 0x34
+    ∷ 0 ∷ 0x15 ∷ 4 ∷ 0xd2 ∷ 0 ∷ 0x18 ∷ 0x6b ∷ 0x57 ∷ 0x61 ∷ 0x62 ∷ 0x63 ∷ 0x64 ∷ 0x65 ∷ 0x66 ∷ 0x67 ∷ 0x68 ∷ []
+
+first_fragment_accepted : packet_refusal prefixes first_fragment 64 ≡ None
+unfolding folded options_within prefixes first_fragment
+first_fragment_accepted = refl
+
+first_fragment_translated : translated_packet prefixes first_fragment ≡ first_fragment_ipv6
+unfolding folded prefixes first_fragment first_fragment_ipv6
+first_fragment_translated = refl
+
+-- the last fragment of this packet
+later_fragment : List ℕ
+later_fragment =
+    0x45 ∷ 0xb9 ∷ 0 ∷ 0x1c ∷ 0x12 ∷ 0x34 ∷ 0 ∷ 2 ∷ 0x40 ∷ 0x11 ∷ 0x7b ∷ 0x86 ∷ 0xc0 ∷ 0 ∷ 2 ∷ 0x21
+    ∷ 0xc6 ∷ 0x33 ∷ 0x64 ∷ 7 ∷ 0x69 ∷ 0x6a ∷ 0x6b ∷ 0x6c ∷ 0x6d ∷ 0x6e ∷ 0x6f ∷ 0x70 ∷ []
+
+-- over IPv6 its data is unchanged
+later_fragment_ipv6 : List ℕ
+later_fragment_ipv6 =
+    0x6b ∷ 0x90 ∷ 0 ∷ 0 ∷ 0 ∷ 0x10 ∷ 0x2c ∷ 0x3f ∷ 0x20 ∷ 1 ∷ 0x0d ∷ 0xb8 ∷ 0xc0 ∷ 0 ∷ 2 ∷ 0x21
+    ∷ 0 ∷ 0 ∷ 0 ∷ 0 ∷ 0 ∷ 0 ∷ 0 ∷ 0 ∷ 0x20 ∷ 1 ∷ 0x0d ∷ 0xb8 ∷ 1 ∷ 0x22 ∷ 3 ∷ 0x44
+    ∷ 0 ∷ 0 ∷ 0 ∷ 0 ∷ 0xc6 ∷ 0x33 ∷ 0x64 ∷ 7 ∷ 0x11 ∷ 0 ∷ 0 ∷ 0x10 ∷ 0 ∷ 0 ∷ 0x12 ∷ 0x34
+    ∷ 0x69 ∷ 0x6a ∷ 0x6b ∷ 0x6c ∷ 0x6d ∷ 0x6e ∷ 0x6f ∷ 0x70 ∷ []
+
+later_fragment_translated : translated_packet prefixes later_fragment ≡ later_fragment_ipv6
+unfolding folded prefixes later_fragment later_fragment_ipv6
+later_fragment_translated = refl

@@ -5,7 +5,7 @@ use Rattle.std.specs.List.{concat}
 use Rattle.ip_translation.specs.declared.address_error.AddressError.{AddressError}
 use Rattle.ip_translation.specs.declared.address_error.AddressError.TheVariants.{NotEmbedded, NotGlobal}
 use Rattle.ip_translation.specs.declared.packet_translation_error.PacketTranslationError.{PacketTranslationError}
-use Rattle.ip_translation.specs.declared.packet_translation_error.PacketTranslationError.TheVariants.{CutOff, ExtensionHeaderCutOff, Header, IcmpExtension, IcmpFragment, IcmpMessage, IcmpPointer, NoIpv4Header, NoIpv6Header, NoQuotedHeader, NoUdpChecksum, QuotedHeader, QuotedIcmp, SegmentsLeft, Space, TransportHeader, UdpLength}
+use Rattle.ip_translation.specs.declared.packet_translation_error.PacketTranslationError.TheVariants.{CutOff, ExtensionHeaderCutOff, FragmentChecksum, Header, IcmpExtension, IcmpFragment, IcmpMessage, IcmpPointer, NoIpv4Header, NoIpv6Header, NoQuotedHeader, NoUdpChecksum, QuotedHeader, QuotedIcmp, SegmentsLeft, Space, TransportHeader, UdpLength}
 use Rattle.ip_translation.specs.declared.prefix64_error.Prefix64Error.{Prefix64Error}
 use Rattle.ip_translation.specs.declared.prefix64_error.Prefix64Error.TheVariants.{Len, ReservedOctet, SuffixBits}
 use Rattle.ip_translation.specs.declared.translation_error.TranslationError.{TranslationError}
@@ -75,3 +75,4 @@ packet_text (ExtensionHeaderCutOff number required_len len) = concat (
 packet_text (SegmentsLeft pointer) = concat (
     codes "Translation Error: a routing header has segments left at byte " ∷ decimal pointer ∷ codes "." ∷ [])
 packet_text IcmpFragment = codes "Translation Error: a fragment of an ICMP message is not translated."
+packet_text FragmentChecksum = codes "Translation Error: a fragment of a UDP packet has no checksum."

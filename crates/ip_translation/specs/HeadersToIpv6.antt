@@ -59,16 +59,19 @@ addresses_refusal header = first_of (
 abbrev pub has_source_route : List ℕ → Bool
 has_source_route header = is_some (find is_source_route (options_of ipv4_option (drop 20 header)))
 
--- the first error about the fields of a header
-abbrev pub field_refusal : List ℕ → Option TranslationError
-field_refusal header = first_of (
+-- the first error about the fields of a header, which may be the header of a fragment
+abbrev pub any_field_refusal : List ℕ → Option TranslationError
+any_field_refusal header = first_of (
     refused_if (nat_lt (total_len header) (ipv4_header_len header)) (TotalLength (total_len header) (ipv4_header_len header))
     ∷ refused_if (not (folded (total header) == all_ones)) HeaderChecksum
-    ∷ refused_if (ipv4_is_fragment header) Fragment
     ∷ refused_if (has_source_route header) SourceRoute
     ∷ refused_if (nat_lt (time_to_live header) 2) TimeExceeded
     ∷ addresses_refusal header
     ∷ [])
+
+-- the first error about the fields of the header of a whole packet
+abbrev pub field_refusal : List ℕ → Option TranslationError
+field_refusal header = first_of (refused_if (ipv4_is_fragment header) Fragment ∷ any_field_refusal header ∷ [])
 
 -- the first error about an address that has no translation
 abbrev pub embedding_refusal : Prefixes → List ℕ → Option TranslationError
@@ -80,6 +83,10 @@ embedding_refusal prefixes header = first_of (
 -- the first error about a header: about its fields, and then about an address that has no translation
 abbrev pub header_refusal : Prefixes → List ℕ → Option TranslationError
 header_refusal prefixes header = first_of (field_refusal header ∷ embedding_refusal prefixes header ∷ [])
+
+-- the first error about a header, which may be the header of a fragment
+abbrev pub any_header_refusal : Prefixes → List ℕ → Option TranslationError
+any_header_refusal prefixes header = first_of (any_field_refusal header ∷ embedding_refusal prefixes header ∷ [])
 
 -- The first error about the fields of the header of a quoted packet. Its checksum and its time to live are not checked, since routers
 -- change

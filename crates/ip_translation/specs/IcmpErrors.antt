@@ -59,9 +59,13 @@ plateaus = 65535 ∷ 32000 ∷ 17914 ∷ 8166 ∷ 4352 ∷ 2002 ∷ 1492 ∷ 100
 abbrev pub path_mtu : ℕ → ℕ → ℕ
 path_mtu mtu total_len = if mtu == 0 then unwrap_or (find (λ plateau. nat_lt plateau total_len) plateaus) 0 else mtu
 
--- the MTU that "packet too big" reports: an IPv6 header is 20 bytes longer, and the least MTU of IPv6 is 1280 (RFC 7915, section 4.2)
+-- the least MTU of IPv6 (RFC 8200, section 5)
+abbrev pub min_ipv6_mtu : ℕ
+min_ipv6_mtu = 1280
+
+-- the MTU that "packet too big" reports: an IPv6 header is 20 bytes longer, and IPv6 has a least MTU (RFC 7915, section 4.2)
 abbrev pub mtu_to_ipv6 : ℕ → ℕ → ℕ
-mtu_to_ipv6 mtu total_len = max 1280 (path_mtu mtu total_len + 20)
+mtu_to_ipv6 mtu total_len = max min_ipv6_mtu (path_mtu mtu total_len + 20)
 
 -- the MTU that "fragmentation needed" reports: an IPv4 header is 20 bytes shorter, and the field has 16 bits (RFC 7915, section 5.2)
 abbrev pub mtu_to_ipv4 : ℕ → ℕ

@@ -4,6 +4,7 @@ pub mod ErrorTexts
 pub mod ErrorsToIpv4
 pub mod ErrorsToIpv6
 pub mod Fragments
+pub mod FragmentsToIpv6
 pub mod HeadersToIpv4
 pub mod HeadersToIpv6
 pub mod IcmpErrors

@@ -72,19 +72,12 @@ refusal_of protocol prefixes message room =
     if is_icmp_error protocol message then error_packet_refusal prefixes message room
     else other_refusal protocol message room
 
--- the first error of a packet with this header; `room` is the length of the buffer
+-- the first error of a whole packet with this header; `room` is the length of the buffer
 abbrev pub refusal_after : List ℕ → Prefixes → List ℕ → ℕ → Option PacketTranslationError
 refusal_after header prefixes packet room = first_of (
     option_map Header (header_refusal prefixes header)
     ∷ cut_off_refusal header (length packet)
     ∷ refusal_of (protocol header) prefixes (message_after header packet) room
-    ∷ [])
-
--- the first error of a packet, which must begin with an IPv4 header; `room` is the length of the buffer
-abbrev pub packet_refusal : Prefixes → List ℕ → ℕ → Option PacketTranslationError
-packet_refusal prefixes packet room = first_of (
-    refused_if (not (begins_with_header packet)) NoIpv4Header
-    ∷ refusal_after (ipv4_header packet) prefixes packet room
     ∷ [])
 
 -- ---- the translated message
@@ -134,20 +127,16 @@ error_packet header prefixes message =
     header_with prefixes (length (error_without_checksum prefixes message)) (time_to_live header - 1) header
     ++ translated_error prefixes header message
 
--- the translation of a packet with this IPv4 header and this message
+-- the translation of a whole packet with this IPv4 header and this message
 abbrev pub translation_of : List ℕ → Prefixes → List ℕ → List ℕ
 translation_of header prefixes message =
     if is_icmp_error (protocol header) message then error_packet header prefixes message
     else translated_header prefixes header ++ updated_message prefixes header message
 
--- the length of the translated packet
+-- the length of a translated whole packet
 abbrev pub translated_len : List ℕ → Prefixes → List ℕ → ℕ
 translated_len header prefixes message =
     40 + (if is_icmp_error (protocol header) message then length (error_without_checksum prefixes message) else length message)
-
--- the translation of a packet that begins with an IPv4 header
-abbrev pub translated_packet : Prefixes → List ℕ → List ℕ
-translated_packet prefixes packet = translation_of (ipv4_header packet) prefixes (message_of packet)
 
 -- ---- a receiver's check
 
@@ -181,7 +170,7 @@ pub record IsAcceptedAlike (prefixes : Prefixes) (header message translated : Li
   pub echo : protocol header ≡ icmpv4_number → total message ≢ 0
       → (Verifies (new_pseudo_header prefixes header icmpv6_number (length message)) translated) ↔ (Verifies [] message)
 
--- A receiver accepts the message of the translated packet exactly if it accepts the message of the packet. `IsAcceptedAlike` states the
+-- A receiver accepts the message of a translated whole packet exactly if it accepts the message of the packet. `IsAcceptedAlike` states the
 -- exceptions.
 pub record AreAcceptedAlike (prefixes : Prefixes) (header message : List ℕ) : Type 0 where
   pub error : is_icmp_error (protocol header) message ≡ true → IsErrorAcceptedAlike prefixes header message

@@ -9,6 +9,7 @@ ghost use Rattle.ip_translation.specs.declared.packet_translation_error.PacketTr
 use crate::echo_translation::{
     check_quoted_ipv6_echo, icmpv6_pseudo_header, type_over_ipv4, write_echo,
 };
+use crate::header_translation::IPV6_LEN;
 use crate::ipv4_header_translation::quoted_header_to_ipv4;
 use crate::message_translation::{TCP_CHECKSUM_AT, UDP_LEN, check_header_len};
 use crate::packet_to_ipv4::front_header;
@@ -20,9 +21,6 @@ use crate::{
 };
 use arrayvec::ArrayVec;
 use net_base::{IpNumber, Ipv6HeaderSlice, ip_number};
-
-/// The length of an IPv6 header, in bytes (RFC 8200, section 3).
-const IPV6_LEN: usize = 40;
 
 /// The place of the length of the quoted packet in an ICMPv6 error, in bytes (RFC 4884, section 4).
 const QUOTE_LENGTH_AT: usize = 4;

@@ -4,7 +4,7 @@ ghost use Rattle.net_base.specs.IpHeaders.{ipv4_header_len};
 ghost use Rattle.net_base.specs.Refusals.{RefusesExactly};
 ghost use Rattle.ip_translation.specs.ErrorsToIpv6 as specs;
 ghost use Rattle.ip_translation.specs.HeadersToIpv6 as headers;
-ghost use Rattle.ip_translation.specs.QuotedPackets.{max_quoted_len};
+ghost use Rattle.ip_translation.specs.QuotedPackets.{max_quoted_len, min_error_len};
 ghost use Rattle.ip_translation.specs.declared.packet_translation_error.PacketTranslationError.TheVariants.{QuotedHeader};
 
 use crate::echo_translation::{
@@ -48,7 +48,7 @@ pub(crate) fn error_to_ipv6(
     requires there { 8 ≤ length message.now }
     ensures refused { RefusesExactly result (specs.error_refusal prefixes.now message.now) }
     ensures written { IfOk result (λ error. error.items ≡ specs.error_without_checksum prefixes.now message.now) }
-    ensures there { IfOk result (λ error. 48 ≤ length error.items) }
+    ensures there { IfOk result (λ error. min_error_len ≤ length error.items) }
 {
     let kind = kind_to_ipv6(message)?;
     let Some(quoted) = front_header(&message[ERROR_LEN..]) else {
@@ -89,7 +89,7 @@ fn error_about(
     requires there { 8 ≤ length message.now }
     ensures refused { RefusesExactly result (specs.refusal_about quoted.now kind prefixes.now message.now) }
     ensures written { IfOk result (λ error. error.items ≡ specs.error_about quoted.now kind prefixes.now message.now) }
-    ensures there { IfOk result (λ error. 48 ≤ length error.items) }
+    ensures there { IfOk result (λ error. min_error_len ≤ length error.items) }
 {
     let ipv6_header = quoted_header(quoted, prefixes)?;
     let bytes = quoted_message(quoted, &message[ERROR_LEN..])?;

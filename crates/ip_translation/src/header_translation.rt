@@ -10,7 +10,7 @@ ghost use Rattle.ip_translation.specs.PacketsToIpv6.{added_addresses, removed_ad
 use crate::{Prefixes, TranslationError};
 use arrayvec::ArrayVec;
 use ip_part::has_source_route;
-use net_base::{IpNumber, Ipv4HeaderSlice, ip_number};
+use net_base::{IpNumber, Ipv4HeaderSlice, Ipv6Header, ip_number};
 use word_sum::checksum_change::ChecksumChange;
 
 /// Translates the header of an unfragmented IPv4 packet to an IPv6 header (RFC 7915, section 4.1).
@@ -29,8 +29,8 @@ use word_sum::checksum_change::ChecksumChange;
 /// # Errors
 ///
 /// The call checks these cases, in this order:
-/// - `TotalLength` if the total length is below the header length, and `HeaderChecksum` if the checksum of the header is wrong.
 /// - `Fragment` if more fragments follow, or if the fragment offset is not 0.
+/// - `TotalLength` if the total length is below the header length, and `HeaderChecksum` if the checksum of the header is wrong.
 /// - `SourceRoute` if the options contain a source route, even if no address is left in it.
 /// - `TimeExceeded` if the time to live is 0 or 1.
 /// - `IllegalSource` if the first byte of the source is 0, 127, or above 223, and `IllegalDestination` if this is true for the destination.
@@ -75,11 +75,14 @@ pub fn pseudo_header_change(header: &Ipv4HeaderSlice<'_>, prefixes: &Prefixes) -
         .replace_slice(&destination, &new_destination)
 }
 
+/// The length of an IPv6 header, in bytes (RFC 8200, section 3).
+pub(crate) const IPV6_LEN: usize = Ipv6Header::LEN;
+
 /// The place of the type of service, in bytes from the start of an IPv4 header (RFC 791, section 3.1).
-const TYPE_OF_SERVICE_AT: usize = 1;
+pub(crate) const TYPE_OF_SERVICE_AT: usize = 1;
 
 /// The byte at the offset `place`, or 0 if the bytes end before this offset.
-fn byte_at(bytes: &[u8], place: usize) -> u8
+pub(crate) fn byte_at(bytes: &[u8], place: usize) -> u8
     ensures { result ≡ slice_index bytes.now place }
 {
     if bytes.len() <= place {
@@ -88,11 +91,25 @@ fn byte_at(bytes: &[u8], place: usize) -> u8
     bytes[place]
 }
 
-/// Checks the fields of a header, and returns the length of the payload. It does not check whether the prefixes may embed the addresses.
+/// Checks the fields of the header of a whole packet, and returns the length of the payload. It does not check whether the prefixes may embed
+/// the addresses.
 fn check_header(header: &Ipv4HeaderSlice<'_>) -> Result<u16, TranslationError>
     ensures refused { RefusesExactly result (specs.field_refusal header.now) }
     ensures payload_len { IfOk result (λ len. len ≡ specs.payload_len header.now) }
     ensures total_len { IfOk result (λ _. ipv4_header_len header.now ≤ specs.total_len header.now) }
+{
+    if header.is_fragmenting_payload() {
+        return Err(TranslationError::Fragment);
+    }
+    check_any_fields(header)
+}
+
+/// Checks the fields of a header, which may be the header of a fragment, and returns the length of the payload.
+pub(crate) fn check_any_fields(header: &Ipv4HeaderSlice<'_>) -> Result<u16, TranslationError>
+    ensures refused { RefusesExactly result (specs.any_field_refusal header.now) }
+    ensures payload_len { IfOk result (λ len. len ≡ specs.payload_len header.now) }
+    ensures total_len { IfOk result (λ _. ipv4_header_len header.now ≤ specs.total_len header.now) }
+    ensures counted { IfOk result (λ _. specs.total_len header.now ≤ max_len_over_ipv4) }
 {
     let total_len = header.total_len();
     let header_len = u16::from(header.ihl()) * 4;
@@ -104,9 +121,6 @@ fn check_header(header: &Ipv4HeaderSlice<'_>) -> Result<u16, TranslationError>
     }
     if !header.is_checksum_valid() {
         return Err(TranslationError::HeaderChecksum);
-    }
-    if header.is_fragmenting_payload() {
-        return Err(TranslationError::Fragment);
     }
     if has_source_route(header.options()) {
         return Err(TranslationError::SourceRoute);
@@ -122,7 +136,7 @@ fn check_header(header: &Ipv4HeaderSlice<'_>) -> Result<u16, TranslationError>
 pub(crate) fn quoted_header_to_ipv6(
     header: &Ipv4HeaderSlice<'_>,
     prefixes: &Prefixes,
-) -> Result<ArrayVec<u8, 40>, TranslationError>
+) -> Result<ArrayVec<u8, IPV6_LEN>, TranslationError>
     ensures refused { RefusesExactly result (specs.quoted_header_refusal prefixes.now header.now) }
     ensures written { IfOk result (λ translated. translated.items ≡ specs.quoted_header prefixes.now header.now) }
     ensures len { IfOk result (λ translated. length translated.items ≡ 40) }
@@ -155,7 +169,7 @@ fn check_quoted_header(header: &Ipv4HeaderSlice<'_>) -> Result<u16, TranslationE
 }
 
 /// Refuses a header if one of its addresses has no translation.
-fn check_embedding(
+pub(crate) fn check_embedding(
     header: &Ipv4HeaderSlice<'_>,
     prefixes: &Prefixes,
 ) -> Result<(), TranslationError>
@@ -176,7 +190,7 @@ pub(crate) fn header_with(
     prefixes: &Prefixes,
     payload_len: u16,
     hop_limit: u8,
-) -> ArrayVec<u8, 40>
+) -> ArrayVec<u8, IPV6_LEN>
     ensures written { result.items ≡ specs.header_with prefixes.now payload_len hop_limit header.now }
     ensures len { length result.items ≡ 40 }
 {
@@ -214,7 +228,7 @@ pub(crate) fn is_illegal(address: [u8; 4]) -> bool
 }
 
 /// The next header of the translated packet, if this is the protocol of the IPv4 packet.
-fn next_header(protocol: IpNumber) -> IpNumber
+pub(crate) fn next_header(protocol: IpNumber) -> IpNumber
     ensures { result.0 ≡ specs.next_header protocol.0 }
 {
     if protocol.0 == ip_number::ICMP.0 {
@@ -231,7 +245,7 @@ pub(crate) fn ipv6_header(
     next: [u8; 2],
     source: [u8; 16],
     destination: [u8; 16],
-) -> ArrayVec<u8, 40>
+) -> ArrayVec<u8, IPV6_LEN>
     ensures bytes { result.items ≡ specs.ipv6_header traffic_class payload_len next source destination }
     ensures len { length result.items ≡ 40 }
 {

@@ -139,7 +139,7 @@ pub fn icmpv4_mtu(mtu: u32) -> u16
 const HEADER_DIFFERENCE: u32 = 20;
 
 /// The least MTU of IPv6, in bytes (RFC 8200, section 5).
-const MIN_IPV6_MTU: u32 = 1280;
+pub(crate) const MIN_IPV6_MTU: u32 = 1280;
 
 /// The greatest plateau below this total length, in bytes (RFC 1191, section 7.1). 0 if no plateau is below it.
 fn plateau_below(total_len: u16) -> u16

@@ -16,6 +16,7 @@ mod echo_translation;
 mod error_to_ipv4;
 mod error_to_ipv6;
 mod fragment_fields;
+mod fragment_to_ipv6;
 mod header_translation;
 mod icmp_errors;
 mod ipv4_header_translation;

@@ -15,7 +15,7 @@ use crate::changed_message::store_changed_checksum;
 use crate::echo_translation::{icmpv6_pseudo_header, type_over_ipv4, write_echo};
 use crate::error_to_ipv4::error_to_ipv4;
 use crate::fragment_fields::FragmentFields;
-use crate::header_translation::ipv6_header;
+use crate::header_translation::{IPV6_LEN, ipv6_header};
 use crate::ipv4_header_translation::{header_with, part_header_to_ipv4};
 use crate::message_translation::{
     ICMP_LEN, TCP_LEN, UDP_CHECKSUM_AT, UDP_LEN, check_header_len, check_space, number,
@@ -28,9 +28,6 @@ use net_base::{IpNumber, Ipv6HeaderSlice, ip_number};
 
 /// The length of an IPv4 header without options, in bytes (RFC 791, section 3.1).
 const IPV4_LEN: usize = 20;
-
-/// The length of an IPv6 header, in bytes (RFC 8200, section 3).
-const IPV6_LEN: usize = 40;
 
 /// Translates an IPv6 packet to IPv4 (RFC 7915, section 5). Writes the IPv4 packet to the front of `buffer`, and returns its length in
 /// bytes. The rest of the buffer is unchanged. Bytes that the payload length does not count are ignored.

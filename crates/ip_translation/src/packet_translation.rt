@@ -1,4 +1,4 @@
-ghost use Rattle.std.specs.Prelude.{◌≡◌, ◌≤◌, ◌<◌, ◌+◌, ◌-◌, ◌++◌, IfErr, IfOk, MatchOption, drop, false, length, slice_index, true};
+ghost use Rattle.std.specs.Prelude.{◌≡◌, ◌≤◌, ◌<◌, ◌+◌, ◌-◌, ◌++◌, IfErr, IfOk, IfSome, MatchOption, drop, false, length, slice_index, true};
 ghost use Rattle.std.specs.Option.{option_map};
 ghost use Rattle.ip_part.specs.Ip.{ipv4_header};
 ghost use Rattle.net_base.specs.IpHeaders.{ipv4_header_len};
@@ -6,21 +6,21 @@ ghost use Rattle.net_base.specs.IpNumbers.{icmpv4_number, tcp_number, udp_number
 ghost use Rattle.net_base.specs.PseudoHeader.{max_len_over_ipv4};
 ghost use Rattle.net_base.specs.Refusals.{RefusesExactly};
 ghost use Rattle.ip_translation.specs.ErrorsToIpv6 as errors;
+ghost use Rattle.ip_translation.specs.FragmentsToIpv6 as parts;
 ghost use Rattle.ip_translation.specs.HeadersToIpv6 as headers;
 ghost use Rattle.ip_translation.specs.PacketsToIpv6 as specs;
+ghost use Rattle.ip_translation.specs.QuotedPackets.{max_error_len, min_error_len};
 ghost use Rattle.ip_translation.specs.declared.packet_translation_error.PacketTranslationError.TheVariants.{Header};
 
 use crate::changed_message::store_changed_checksum;
 use crate::echo_translation::{icmpv6_pseudo_header, type_over_ipv6};
 use crate::error_to_ipv6::error_to_ipv6;
-use crate::header_translation::header_with;
+use crate::fragment_to_ipv6::translate_part;
+use crate::header_translation::{IPV6_LEN, header_with};
 use crate::message_translation::{ICMP_LEN, check_message, check_space, write_message};
 use crate::{PacketTranslationError, Prefixes, header_to_ipv6};
 use arrayvec::ArrayVec;
 use net_base::{IpNumber, Ipv4HeaderSlice, ip_number};
-
-/// The length of an IPv6 header, in bytes (RFC 8200, section 3).
-const IPV6_LEN: usize = 40;
 
 /// Translates an IPv4 packet to IPv6 (RFC 7915, section 4). Writes the IPv6 packet to the front of `buffer`, and returns its length in
 /// bytes. The rest of the buffer is unchanged. Bytes that the total length does not count are ignored.
@@ -33,12 +33,17 @@ const IPV6_LEN: usize = 40;
 /// (section 4.2). The packet that it quotes is translated with the exchanged prefixes, and keeps its time to live (section 4.3). Its checksum
 /// is updated if the quote contains it. The quote is cut so that the IPv6 packet has at most 1280 bytes.
 ///
+/// A fragment becomes a fragment with a fragment header, which contains the identification, the offset and "more fragments" (section 4.1). A
+/// later fragment has no transport header, so its bytes are unchanged. The call returns one packet, so it does not fragment. To send a packet
+/// without "don't fragment" that is too long for the path, fragment it before it is translated (section 4).
+///
 /// # Errors
 ///
 /// After an error the buffer is unchanged. The call checks these cases, in this order:
 /// - `NoIpv4Header` if the bytes do not begin with a whole IPv4 header.
-/// - `Header` if `header_to_ipv6` refuses the header.
+/// - `Header` if `header_to_ipv6` refuses the header, for another reason than `Fragment`.
 /// - `CutOff` if there are fewer bytes than the total length.
+/// - `IcmpFragment` if a fragment is part of an ICMP message (section 1.2).
 /// - `TransportHeader` if a UDP packet or an ICMP message is shorter than 8 bytes, or a TCP segment is shorter than 20 bytes.
 /// - `IcmpMessage` if an ICMP message is not an echo message, and `icmpv6_error` returns `None`.
 /// - `IcmpExtension` if an ICMP error has an extension (RFC 4884): byte 5 of the message is not 0.
@@ -47,6 +52,7 @@ const IPV6_LEN: usize = 40;
 ///   `header_to_ipv6` does.
 /// - `TransportHeader` or `QuotedIcmp` if the quoted message of ICMP, UDP or TCP is shorter than 8 bytes, or is no echo message of ICMP.
 /// - `IcmpPointer` if a parameter problem has a pointer for which `icmpv6_pointer` returns `None`.
+/// - `FragmentChecksum` if the first fragment of a UDP packet has no checksum (section 4.5).
 /// - `UdpLength` if a UDP packet has no checksum, and its length field is below 8 or above the length of the message.
 /// - `Space` if the buffer is shorter than the translated packet.
 pub fn ipv4_to_ipv6(
@@ -54,29 +60,51 @@ pub fn ipv4_to_ipv6(
     prefixes: &Prefixes,
     buffer: &mut [u8],
 ) -> Result<usize, PacketTranslationError>
-    ensures refused { RefusesExactly result (specs.packet_refusal prefixes.now packet.now (length buffer.old)) }
-    ensures len { IfOk result (λ len. len ≡ specs.translated_len (ipv4_header packet.now) prefixes.now (specs.message_of packet.now)) }
-    ensures written { IfOk result (λ len. buffer.new ≡ specs.translated_packet prefixes.now packet.now ++ drop len buffer.old) }
+    ensures refused { RefusesExactly result (parts.packet_refusal prefixes.now packet.now (length buffer.old)) }
+    ensures len { IfOk result (λ len. len ≡ parts.len_with (ipv4_header packet.now) prefixes.now (specs.message_of packet.now)) }
+    ensures written { IfOk result (λ len. buffer.new ≡ parts.translated_packet prefixes.now packet.now ++ drop len buffer.old) }
     ensures unchanged { IfErr result (λ _. buffer.new ≡ buffer.old) }
     // A receiver accepts the message of the translated packet exactly if it accepts the message of the original packet. `IsAcceptedAlike`
     // states the exceptions.
-    ensures alike { IfOk result (λ _. specs.AreAcceptedAlike prefixes.now (ipv4_header packet.now) (specs.message_of packet.now)) }
+    ensures alike { IfOk result (λ _. parts.IsPacketAlike prefixes.now (ipv4_header packet.now) (specs.message_of packet.now)) }
 {
     let Some(header) = front_header(packet) else {
         return Err(PacketTranslationError::NoIpv4Header);
     };
-    translate_after(&header, packet, prefixes, buffer)
+    translate_with(&header, packet, prefixes, buffer)
+}
+
+/// Translates a packet or a fragment with this header.
+fn translate_with(
+    header: &Ipv4HeaderSlice<'_>,
+    packet: &[u8],
+    prefixes: &Prefixes,
+    buffer: &mut [u8],
+) -> Result<usize, PacketTranslationError>
+    requires long { 20 ≤ ipv4_header_len header.now }
+    ensures refused { RefusesExactly result (parts.refusal_with header.now prefixes.now packet.now (length buffer.old)) }
+    ensures len { IfOk result (λ len. len ≡ parts.len_with header.now prefixes.now (specs.message_after header.now packet.now)) }
+    ensures written { IfOk result (λ len. buffer.new
+        ≡ parts.translation_with header.now prefixes.now (specs.message_after header.now packet.now) ++ drop len buffer.old) }
+    ensures unchanged { IfErr result (λ _. buffer.new ≡ buffer.old) }
+    ensures alike { IfOk result (λ _. parts.IsPacketAlike prefixes.now header.now (specs.message_after header.now packet.now)) }
+{
+    if header.is_fragmenting_payload() {
+        return translate_part(header, packet, prefixes, buffer);
+    }
+    translate_after(header, packet, prefixes, buffer)
 }
 
 /// The IPv4 header at the front of a packet.
 pub(crate) fn front_header<'a>(packet: &'a [u8]) -> Option<Ipv4HeaderSlice<'a>>
     ensures found { MatchOption result (specs.begins_with_header packet.now ≡ false)
         (λ header. (specs.begins_with_header packet.now ≡ true) × (header ≡ ipv4_header packet.now)) }
+    ensures long { IfSome result (λ header. 20 ≤ ipv4_header_len header) }
 {
     Ipv4HeaderSlice::from_slice(packet)
 }
 
-/// Translates a packet with this header.
+/// Translates a whole packet with this header.
 fn translate_after(
     header: &Ipv4HeaderSlice<'_>,
     packet: &[u8],
@@ -166,7 +194,7 @@ fn write_error_parts(
     requires room { 40 + length error.now ≤ length buffer.old }
     requires there { 8 ≤ length message.now }
     requires some { 0 < slice_index message.now 0 }
-    requires error_there { (48 ≤ length error.now) × (length error.now ≤ 1240) }
+    requires error_there { (min_error_len ≤ length error.now) × (length error.now ≤ max_error_len) }
     ensures written { buffer.new ≡ (headers.header_with prefixes.now (length error.now) (headers.time_to_live header.now - 1) header.now
         ++ errors.with_new_checksum prefixes.now header.now message.now error.now) ++ drop (40 + length error.now) buffer.old }
     ensures alike { specs.IsChecksumAlike prefixes.now header.now message.now error.now }
@@ -189,7 +217,7 @@ fn write_error(
     requires room { length translated.old ≡ length error.now }
     requires there { 8 ≤ length message.now }
     requires some { 0 < slice_index message.now 0 }
-    requires error_there { (48 ≤ length error.now) × (length error.now ≤ 1240) }
+    requires error_there { (min_error_len ≤ length error.now) × (length error.now ≤ max_error_len) }
     ensures written { translated.new ≡ errors.with_new_checksum prefixes.now header.now message.now error.now }
     ensures alike { specs.IsChecksumAlike prefixes.now header.now message.now error.now }
 {
@@ -217,7 +245,7 @@ fn translated_header(
 }
 
 /// The message: the bytes after this header, up to the total length.
-fn message_after<'a>(
+pub(crate) fn message_after<'a>(
     header: &Ipv4HeaderSlice<'_>,
     packet: &'a [u8],
 ) -> Result<&'a [u8], PacketTranslationError>
@@ -237,7 +265,7 @@ fn message_after<'a>(
 }
 
 /// Writes the translated header and the translated message to the front of the buffer.
-fn write_parts(
+pub(crate) fn write_parts(
     buffer: &mut [u8],
     ipv6_header: &[u8],
     message: &[u8],

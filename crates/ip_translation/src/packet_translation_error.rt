@@ -88,6 +88,9 @@ pub enum PacketTranslationError {
     },
     /// The packet is a fragment of an ICMP message (RFC 7915, section 1.2).
     IcmpFragment,
+    /// The first fragment of a UDP packet over IPv4 has no checksum. The checksum can't be computed, since it covers the other fragments
+    /// (RFC 7915, section 4.5).
+    FragmentChecksum,
 }
 
 impl PacketTranslationError {
@@ -190,6 +193,9 @@ impl PacketTranslationError {
             ]),
             PacketTranslationError::IcmpFragment => ErrorText::from_words(
                 "Translation Error: a fragment of an ICMP message is not translated.",
+            ),
+            PacketTranslationError::FragmentChecksum => ErrorText::from_words(
+                "Translation Error: a fragment of a UDP packet has no checksum.",
             ),
         }
     }

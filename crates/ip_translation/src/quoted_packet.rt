@@ -1,13 +1,16 @@
 ghost use Rattle.std.specs.Prelude.{◌≡◌, ◌≤◌, ◌+◌, length, slice_index};
 ghost use Rattle.ip_translation.specs.QuotedPackets as specs;
 
+use crate::header_translation::IPV6_LEN;
+use crate::icmp_errors::MIN_IPV6_MTU;
 use arrayvec::ArrayVec;
 
-/// The greatest length of an ICMPv6 error without its IPv6 header, in bytes: the least MTU of IPv6 minus 40 (RFC 4443, section 2.4).
-pub(crate) const MAX_ERROR_LEN: usize = 1240;
+/// The greatest length of an ICMPv6 error without its IPv6 header, in bytes: with this header, it has at most the least MTU of IPv6 (RFC 4443,
+/// section 2.4).
+pub(crate) const MAX_ERROR_LEN: usize = MIN_IPV6_MTU as usize - IPV6_LEN;
 
-/// The greatest length of a quoted message, in bytes. Before it are an ICMPv6 header of 8 bytes and the quoted IPv6 header.
-pub(crate) const MAX_QUOTED_LEN: usize = MAX_ERROR_LEN - 48;
+/// The greatest length of a quoted message, in bytes. Before it are the header of ICMPv6 and the quoted IPv6 header.
+pub(crate) const MAX_QUOTED_LEN: usize = MAX_ERROR_LEN - (ERROR_LEN + IPV6_LEN);
 
 /// The length of the header of an ICMP error, in bytes (RFC 792; RFC 4443, section 2.1, with the word that follows).
 pub(crate) const ERROR_LEN: usize = 8;

@@ -5,6 +5,7 @@ ghost use Rattle.net_base.specs.Refusals.{RefusesExactly};
 ghost use Rattle.ip_translation.specs.SkippedHeaders as specs;
 
 use crate::fragment_fields::{FragmentFields, MORE_FRAGMENTS};
+use crate::header_translation::IPV6_LEN;
 use crate::message_translation::number;
 use crate::{PacketTranslationError, TranslationError};
 use net_base::ip_number;
@@ -19,9 +20,6 @@ pub(crate) struct SkippedHeaders {
     /// The fields of the IPv4 header for the fragment header, if there is one.
     pub(crate) fragment: Option<FragmentFields>,
 }
-
-/// The length of an IPv6 header, in bytes (RFC 8200, section 3).
-const IPV6_LEN: usize = 40;
 
 /// The length of the shortest extension header, in bytes (RFC 8200, section 4).
 const MIN_LEN: usize = 8;

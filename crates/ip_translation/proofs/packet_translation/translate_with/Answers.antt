@@ -1,0 +1,29 @@
+use Rattle.std.proofs.Common.{◌≡◌, List, ℕ, true, false, sym, ◌∙◌, true≢false}
+use Rattle.std.proofs.lemmas.Result.{IfOk-weaker}
+use Rattle.net_base.specs.IpHeaders.{ipv4_is_fragment}
+use Rattle.ip_translation.specs.FragmentsToIpv6 as parts
+use Rattle.ip_translation.specs.PacketsToIpv6 as specs
+use Rattle.ip_translation.proofs.packet_translation.translate_with.Goals as goal
+
+pub returns-then-is_fragmenting_payload-clause-alike : goal.returns-then-is_fragmenting_payload-clause-alike
+returns-then-is_fragmenting_payload-clause-alike c =
+    let header : List ℕ = c.args.header.now in
+    let message : List ℕ = specs.message_after header c.args.packet.now in
+    let part : ipv4_is_fragment header ≡ true = sym c.is_fragmenting_payload.ensures ∙ c.if-is_fragmenting_payload.true in
+    IfOk-weaker c.translate_part.result
+    (λ _. parts.is_later header ≡ false → specs.IsAcceptedAlike c.args.prefixes.now header message
+    (specs.updated_message c.args.prefixes.now header message))
+    (λ _. parts.IsPacketAlike c.args.prefixes.now header message)
+    (λ _ alike. record { whole = λ whole. absurd (true≢false (sym part ∙ whole)); first = λ _ first. alike first })
+    c.translate_part.ensures.alike
+
+pub returns-clause-alike : goal.returns-clause-alike
+returns-clause-alike c =
+    let header : List ℕ = c.args.header.now in
+    let message : List ℕ = specs.message_after header c.args.packet.now in
+    let whole : ipv4_is_fragment header ≡ false = sym c.is_fragmenting_payload.ensures ∙ c.if-is_fragmenting_payload.false in
+    IfOk-weaker c.translate_after.result
+    (λ _. specs.AreAcceptedAlike c.args.prefixes.now header message)
+    (λ _. parts.IsPacketAlike c.args.prefixes.now header message)
+    (λ _ alike. record { whole = λ _. alike; first = λ part _. absurd (true≢false (sym part ∙ whole)) })
+    c.translate_after.ensures.alike
