@@ -3,6 +3,7 @@ pub mod DirectLemmas
 pub mod EchoLemmas
 pub mod EmbeddedLemmas
 pub mod ErrorLemmas
+pub mod ExtensionExamples
 pub mod IcmpErrorExamples
 pub mod Ipv4HeaderLemmas
 pub mod Ipv4PacketExamples

@@ -52,7 +52,7 @@ packet_text (IcmpMessage type code) = concat (
     codes "Translation Error: an ICMP message of type " ∷ decimal type ∷ codes " and code " ∷ decimal code ∷ codes " is not translated."
     ∷ [])
 packet_text (IcmpExtension length) = concat (
-    codes "Translation Error: an ICMP error with an extension, with length field " ∷ decimal length ∷ codes ", is not translated." ∷ [])
+    codes "Translation Error: the length field " ∷ decimal length ∷ codes " of an ICMP error with an extension is wrong." ∷ [])
 packet_text (IcmpPointer pointer) = concat (
     codes "Translation Error: the pointer " ∷ decimal pointer ∷ codes " has no translation." ∷ [])
 packet_text NoQuotedHeader = codes "Translation Error: an ICMP error does not quote an IP header."

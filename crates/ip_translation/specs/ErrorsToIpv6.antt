@@ -1,5 +1,5 @@
 -- ICMP errors as ICMPv6 errors, with the packet that they quote (RFC 7915, sections 4.2 and 4.3).
-use Rattle.std.specs.Prelude.{◌≡◌, ◌≤◌, ℕ, ◌==◌, not, nat_lt, if◌then◌else◌, List, [], ◌∷◌, drop, is_none, length, slice_index, take, Option, None}
+use Rattle.std.specs.Prelude.{◌≡◌, ◌≤◌, ℕ, ◌*◌, ◌/◌, ◌==◌, Bool, ◌&&◌, ◌||◌, not, nat_lt, if◌then◌else◌, List, [], ◌∷◌, drop, is_none, length, slice_index, take, Option, None}
 use Rattle.std.specs.Int.{to_be_bytes, w32}
 use Rattle.std.specs.Option.{option_map, unwrap_or}
 use Rattle.ip_part.specs.Ip.{ipv4_header}
@@ -10,6 +10,7 @@ use Rattle.net_base.specs.Refusals.{first_of, refused_if}
 use Rattle.net_base.specs.StoredChecksum.{icmp_checksum_place, tcp_checksum_place, udp_checksum_place, with_checksum}
 use Rattle.word_sum.specs.UpdatedChecksum.{updated_checksum_of, updated_udp_checksum_of}
 use Rattle.ip_translation.specs.EchoMessages.{changed_checksum, quoted_echo_refusal, translated_echo, type_over_ipv6}
+use Rattle.ip_translation.specs.Extensions.{extended, extension_of, is_wrong_len, padded_len, without_extension}
 use Rattle.ip_translation.specs.HeadersToIpv6.{new_pseudo_header, payload_len, protocol, quoted_header, quoted_header_refusal, total_len}
 use Rattle.ip_translation.specs.IcmpErrors.{error_in, errors_to_ipv6, mtu_to_ipv6, pointer_in, pointers_to_ipv6}
 use Rattle.ip_translation.specs.Ipv4Packets.{added_addresses, begins_with_header, header_len_refusal, removed_addresses, tcp_checksum, udp_checksum}
@@ -20,13 +21,16 @@ use Rattle.ip_translation.specs.declared.prefixes.Prefixes.{Prefixes}
 
 -- ---- type and code
 
--- the error of a message that is not an error with a translation, or that has an extension: then byte 5 counts the words of the quoted
--- packet (RFC 4884, section 4)
+-- the length of the quoted packet that the error states, in bytes: byte 5 counts units of four bytes (RFC 4884, section 4)
+abbrev pub stated_len : List ℕ → ℕ
+stated_len message = slice_index message 5 * 4
+
+-- the error of a message that is not an error with a translation, or that states a wrong length of the quoted packet
 abbrev pub kind_refusal : List ℕ → Option PacketTranslationError
 kind_refusal message = first_of (
     refused_if (is_none (error_in (errors_to_ipv6 (slice_index message 1)) (slice_index message 0) (slice_index message 1)))
     (IcmpMessage (slice_index message 0) (slice_index message 1))
-    ∷ refused_if (not (slice_index message 5 == 0)) (IcmpExtension (slice_index message 5))
+    ∷ refused_if (is_wrong_len (stated_len message) message) (IcmpExtension (slice_index message 5))
     ∷ [])
 
 -- the ICMPv6 type and code
@@ -56,7 +60,11 @@ word new_kind message total_len =
 
 -- ---- the quoted packet
 
--- the header of the quoted packet
+-- the error without its extension
+abbrev pub quoting : List ℕ → List ℕ
+quoting message = without_extension (stated_len message) message
+
+-- the header of the packet that an error without an extension quotes
 abbrev pub quoted_ipv4 : List ℕ → List ℕ
 quoted_ipv4 message = ipv4_header (quote_of message)
 
@@ -122,8 +130,8 @@ refusal_about quoted new_kind prefixes message = first_of (
 abbrev pub error_refusal : Prefixes → List ℕ → Option PacketTranslationError
 error_refusal prefixes message = first_of (
     kind_refusal message
-    ∷ refused_if (not (begins_with_header (quote_of message))) NoQuotedHeader
-    ∷ refusal_about (quoted_ipv4 message) (kind message) (exchanged prefixes) message
+    ∷ refused_if (not (begins_with_header (quote_of (quoting message)))) NoQuotedHeader
+    ∷ refusal_about (quoted_ipv4 (quoting message)) (kind message) (exchanged prefixes) (quoting message)
     ∷ [])
 
 -- the ICMPv6 error of this kind about a packet with this header, with 0 instead of its checksum; the prefixes are those of the quoted
@@ -132,9 +140,26 @@ abbrev pub error_about : List ℕ → ℕ × ℕ → Prefixes → List ℕ → L
 error_about quoted new_kind prefixes message = joined new_kind (to_be_bytes w32 (word new_kind message (total_len quoted)))
     (quoted_header prefixes quoted) (translated_quote prefixes quoted (quoted_message quoted (quote_of message)))
 
+-- The ICMPv6 messages "destination unreachable" and "time exceeded" contain a length attribute. All other errors have no extension (RFC
+-- 4884, section 4).
+abbrev pub may_be_extended : ℕ × ℕ → Bool
+may_be_extended new_kind = new_kind.0 == 1 || new_kind.0 == 3
+
+-- the ICMPv6 error of this kind about this quoted packet with this extension; the first byte of its word counts units of eight bytes
+abbrev pub extended_error : ℕ × ℕ → List ℕ → List ℕ → List ℕ
+extended_error new_kind quote extension = extended new_kind (padded_len 8 (length quote) / 8 ∷ 0 ∷ 0 ∷ 0 ∷ [])
+    (padded_len 8 (length quote)) quote extension
+
+-- The ICMPv6 error of this kind with this extension. `error` is the error without the extension, which is left out if it is empty, or if an
+-- error of this kind has none.
+abbrev pub with_extension : ℕ × ℕ → List ℕ → List ℕ → List ℕ
+with_extension new_kind extension error =
+    if may_be_extended new_kind && not (length extension == 0) then extended_error new_kind (drop 8 error) extension else error
+
 -- the ICMPv6 error, with 0 instead of its checksum
 abbrev pub error_without_checksum : Prefixes → List ℕ → List ℕ
-error_without_checksum prefixes message = error_about (quoted_ipv4 message) (kind message) (exchanged prefixes) message
+error_without_checksum prefixes message = with_extension (kind message) (extension_of (stated_len message) message)
+    (error_about (quoted_ipv4 (quoting message)) (kind message) (exchanged prefixes) (quoting message))
 
 -- An error with its checksum, if `error` is this error with 0 instead of its checksum. The checksum is that of the ICMP error, updated for
 -- all words of both messages. The error is the payload of a packet with this IPv4 header.

@@ -3,6 +3,7 @@ pub mod EchoMessages
 pub mod ErrorTexts
 pub mod ErrorsToIpv4
 pub mod ErrorsToIpv6
+pub mod Extensions
 pub mod Fragments
 pub mod FragmentsToIpv6
 pub mod HeadersToIpv4

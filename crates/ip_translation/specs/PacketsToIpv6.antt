@@ -1,7 +1,6 @@
 -- The translation of IPv4 packets to IPv6 (RFC 7915, section 4), and the packets that are not translated.
-use Rattle.std.specs.Prelude.{◌≡◌, ◌≢◌, ◌≤◌, ◌↔◌, ℕ, ◌+◌, ◌-◌, ◌==◌, Bool, true, false, ◌&&◌, ◌||◌, not, nat_le, nat_lt, if◌then◌else◌, List, [], ◌∷◌, ◌++◌, is_none, length, slice_index, take, Option, None}
+use Rattle.std.specs.Prelude.{◌≡◌, ◌≢◌, ◌≤◌, ◌↔◌, ℕ, ◌+◌, ◌-◌, ◌==◌, Bool, true, false, ◌&&◌, ◌||◌, nat_le, nat_lt, if◌then◌else◌, List, [], ◌∷◌, ◌++◌, is_none, length, slice_index, take, Option, None}
 use Rattle.std.specs.Option.{option_map, unwrap_or}
-use Rattle.ip_part.specs.Ip.{ipv4_header}
 use Rattle.net_base.specs.IpNumbers.{icmpv4_number, icmpv6_number, tcp_number, udp_number}
 use Rattle.net_base.specs.PseudoHeader.{max_len_over_ipv4}
 use Rattle.net_base.specs.Refusals.{first_of, refused_if}
@@ -12,7 +11,7 @@ use Rattle.ip_translation.specs.EchoMessages.{translated_echo, type_over_ipv6}
 use Rattle.ip_translation.specs.ErrorsToIpv6.{error_refusal, error_without_checksum, translated_error, with_new_checksum}
 use Rattle.ip_translation.specs.HeadersToIpv6.{header_refusal, header_with, new_pseudo_header, old_pseudo_header, protocol, time_to_live, total_len, translated_header}
 use Rattle.ip_translation.specs.declared.packet_translation_error.PacketTranslationError.{PacketTranslationError}
-use Rattle.ip_translation.specs.declared.packet_translation_error.PacketTranslationError.TheVariants.{CutOff, Header, NoIpv4Header, Space, UdpLength}
+use Rattle.ip_translation.specs.declared.packet_translation_error.PacketTranslationError.TheVariants.{CutOff, Header, Space, UdpLength}
 use Rattle.ip_translation.specs.declared.prefixes.Prefixes.{Prefixes}
 pub use Rattle.ip_translation.specs.Ipv4Packets.{added_addresses, begins_with_header, header_len_refusal, message_after, message_of, removed_addresses, tcp_checksum, udp_checksum, udp_length}
 

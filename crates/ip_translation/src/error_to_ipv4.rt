@@ -1,13 +1,17 @@
-ghost use Rattle.std.specs.Prelude.{◌≡◌, ◌≤◌, ◌<◌, IfOk, length, slice_index};
+ghost use Rattle.std.specs.Prelude.{◌≡◌, ◌≤◌, ◌<◌, ◌+◌, IfOk, length, slice_index};
 ghost use Rattle.std.specs.Option.{option_map};
 ghost use Rattle.net_base.specs.Refusals.{RefusesExactly};
 ghost use Rattle.ip_translation.specs.ErrorsToIpv4 as specs;
+ghost use Rattle.ip_translation.specs.Extensions as extensions;
 ghost use Rattle.ip_translation.specs.HeadersToIpv4 as headers;
 ghost use Rattle.ip_translation.specs.QuotedPackets.{max_quoted_len};
 ghost use Rattle.ip_translation.specs.declared.packet_translation_error.PacketTranslationError.TheVariants.{QuotedHeader};
 
 use crate::echo_translation::{
     check_quoted_ipv6_echo, icmpv6_pseudo_header, type_over_ipv4, write_echo,
+};
+use crate::extensions::{
+    IPV4_UNIT, IPV6_UNIT, MIN_QUOTE_LEN, extended, first_bytes, is_wrong_len, split_extension,
 };
 use crate::header_translation::IPV6_LEN;
 use crate::ipv4_header_translation::quoted_header_to_ipv4;
@@ -24,6 +28,9 @@ use net_base::{IpNumber, Ipv6HeaderSlice, ip_number};
 
 /// The place of the length of the quoted packet in an ICMPv6 error, in bytes (RFC 4884, section 4).
 const QUOTE_LENGTH_AT: usize = 4;
+
+/// The greatest length of a quoted packet before an extension, in bytes: the length field is a byte (RFC 4884, section 4).
+const MAX_STATED_LEN: usize = u8::MAX as usize * IPV4_UNIT;
 
 /// The type of the ICMPv6 message "destination unreachable" (RFC 4443, section 3.1).
 const UNREACHABLE: u8 = 1;
@@ -52,17 +59,80 @@ pub(crate) fn error_to_ipv4(
     ensures some { IfOk result (λ error. 0 < slice_index error.items 0) }
 {
     let kind = kind_to_ipv4(message)?;
-    let Some(quoted) = front_header(&message[ERROR_LEN..]) else {
+    let (quoting, extension) = split_extension(stated_len(message), message);
+    let Some(quoted) = front_header(&quoting[ERROR_LEN..]) else {
         return Err(PacketTranslationError::NoQuotedHeader);
     };
     let exchanged = Prefixes {
         source: prefixes.destination,
         destination: prefixes.source,
     };
-    error_about(&quoted, kind, message, &exchanged)
+    let error = error_about(&quoted, kind, quoting, &exchanged)?;
+    Ok(with_extension(kind, extension, error))
 }
 
-/// The ICMP type and code of an error. Refuses a message that is dropped, or that has an extension.
+/// The ICMP error of this kind with this extension. `error` is the error without the extension.
+fn with_extension(
+    kind: (u8, u8),
+    extension: &[u8],
+    error: ArrayVec<u8, MAX_ERROR_LEN>,
+) -> ArrayVec<u8, MAX_ERROR_LEN>
+    requires there { 28 ≤ length error.items }
+    requires kind { 0 < kind.0 }
+    requires some { 0 < slice_index error.items 0 }
+    ensures bytes { result.items ≡ specs.with_extension kind extension.now error.items }
+    ensures there { 28 ≤ length result.items }
+    ensures some { 0 < slice_index result.items 0 }
+{
+    if extension.is_empty() {
+        return error;
+    }
+    let quote = first_bytes(&error.as_slice()[ERROR_LEN..], MAX_STATED_LEN);
+    extended_error(kind, quote, extension)
+}
+
+/// The ICMP error of this kind about this quoted packet with this extension.
+fn extended_error(kind: (u8, u8), quote: &[u8], extension: &[u8]) -> ArrayVec<u8, MAX_ERROR_LEN>
+    requires short { length quote.now ≤ specs.max_stated_len }
+    requires kind { 0 < kind.0 }
+    ensures bytes { result.items ≡ specs.extended_error kind quote.now extension.now }
+    ensures there { 28 ≤ length result.items }
+    ensures some { 0 < slice_index result.items 0 }
+{
+    let len = padded_len(quote.len());
+    extended(
+        kind,
+        [0, (len / IPV4_UNIT) as u8, 0, 0],
+        quote,
+        len,
+        extension,
+    )
+}
+
+/// This length with zeros after it: a multiple of four bytes, and at least 128.
+fn padded_len(len: usize) -> usize
+    requires short { len ≤ specs.max_stated_len }
+    ensures value { result ≡ extensions.padded_len 4 len }
+    ensures least { (len ≤ result) × (128 ≤ result) }
+    ensures greatest { (result ≤ len + 128) × (result ≤ specs.max_stated_len) }
+{
+    MIN_QUOTE_LEN.max((len + (IPV4_UNIT - 1)) / IPV4_UNIT * IPV4_UNIT)
+}
+
+/// The length of the quoted packet that an ICMPv6 error states, in bytes. 0 if it states no length. Only "destination unreachable" and "time
+/// exceeded" state one.
+fn stated_len(message: &[u8]) -> usize
+    requires there { 8 ≤ length message.now }
+    ensures len { result ≡ specs.stated_len message.now }
+    ensures short { result ≤ 2040 }
+{
+    if message[0] == UNREACHABLE || message[0] == TIME_EXCEEDED {
+        return usize::from(message[QUOTE_LENGTH_AT]) * IPV6_UNIT;
+    }
+    0
+}
+
+/// The ICMP type and code of an error. Refuses a message that is dropped, or that states a wrong length of the quoted packet.
 fn kind_to_ipv4(message: &[u8]) -> Result<(u8, u8), PacketTranslationError>
     requires there { 8 ≤ length message.now }
     ensures refused { RefusesExactly result (specs.kind_refusal message.now) }
@@ -75,18 +145,10 @@ fn kind_to_ipv4(message: &[u8]) -> Result<(u8, u8), PacketTranslationError>
             code_u8: message[1],
         });
     };
-    if has_extension(message) {
+    if is_wrong_len(stated_len(message), message) {
         return Err(PacketTranslationError::IcmpExtension(message[QUOTE_LENGTH_AT]));
     }
     Ok(kind)
-}
-
-/// Whether an ICMPv6 error has an extension. Only "destination unreachable" and "time exceeded" can have one.
-fn has_extension(message: &[u8]) -> bool
-    requires there { 8 ≤ length message.now }
-    ensures { result ≡ specs.has_extension message.now }
-{
-    (message[0] == UNREACHABLE || message[0] == TIME_EXCEEDED) && message[QUOTE_LENGTH_AT] != 0
 }
 
 /// The ICMP error of this kind about a packet with this header. The prefixes are those of the quoted packet.

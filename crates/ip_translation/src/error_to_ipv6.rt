@@ -1,14 +1,18 @@
-ghost use Rattle.std.specs.Prelude.{◌≡◌, ◌≤◌, IfOk, length};
+ghost use Rattle.std.specs.Prelude.{◌≡◌, ◌≤◌, ◌+◌, IfOk, length};
 ghost use Rattle.std.specs.Option.{option_map};
 ghost use Rattle.net_base.specs.IpHeaders.{ipv4_header_len};
 ghost use Rattle.net_base.specs.Refusals.{RefusesExactly};
 ghost use Rattle.ip_translation.specs.ErrorsToIpv6 as specs;
+ghost use Rattle.ip_translation.specs.Extensions as extensions;
 ghost use Rattle.ip_translation.specs.HeadersToIpv6 as headers;
-ghost use Rattle.ip_translation.specs.QuotedPackets.{max_quoted_len, min_error_len};
+ghost use Rattle.ip_translation.specs.QuotedPackets.{max_error_len, max_quoted_len, min_error_len};
 ghost use Rattle.ip_translation.specs.declared.packet_translation_error.PacketTranslationError.TheVariants.{QuotedHeader};
 
 use crate::echo_translation::{
     check_quoted_echo, icmpv6_pseudo_header, type_over_ipv6, write_echo,
+};
+use crate::extensions::{
+    IPV4_UNIT, IPV6_UNIT, MIN_QUOTE_LEN, extended, is_wrong_len, split_extension,
 };
 use crate::header_translation::quoted_header_to_ipv6;
 use crate::message_translation::{TCP_CHECKSUM_AT, UDP_LEN, check_header_len, number};
@@ -27,6 +31,12 @@ const POINTER_AT: usize = 4;
 
 /// The place of the length of the quoted packet in an ICMP error, in bytes (RFC 4884, section 4).
 const QUOTE_LENGTH_AT: usize = 5;
+
+/// The type of the ICMPv6 message "destination unreachable" (RFC 4443, section 3.1).
+const UNREACHABLE: u8 = 1;
+
+/// The type of the ICMPv6 message "time exceeded" (RFC 4443, section 3.3).
+const TIME_EXCEEDED: u8 = 3;
 
 /// The place of the MTU in an ICMP message "fragmentation needed", in bytes (RFC 1191, section 4).
 const MTU_AT: usize = 6;
@@ -51,17 +61,80 @@ pub(crate) fn error_to_ipv6(
     ensures there { IfOk result (λ error. min_error_len ≤ length error.items) }
 {
     let kind = kind_to_ipv6(message)?;
-    let Some(quoted) = front_header(&message[ERROR_LEN..]) else {
+    let (quoting, extension) = split_extension(stated_len(message), message);
+    let Some(quoted) = front_header(&quoting[ERROR_LEN..]) else {
         return Err(PacketTranslationError::NoQuotedHeader);
     };
     let exchanged = Prefixes {
         source: prefixes.destination,
         destination: prefixes.source,
     };
-    error_about(&quoted, kind, message, &exchanged)
+    let error = error_about(&quoted, kind, quoting, &exchanged)?;
+    Ok(with_extension(kind, extension, error))
 }
 
-/// The ICMPv6 type and code of an error. Refuses a message that is dropped, or that has an extension.
+/// The ICMPv6 error of this kind with this extension. `error` is the error without the extension.
+fn with_extension(
+    kind: (u8, u8),
+    extension: &[u8],
+    error: ArrayVec<u8, MAX_ERROR_LEN>,
+) -> ArrayVec<u8, MAX_ERROR_LEN>
+    requires there { min_error_len ≤ length error.items }
+    ensures bytes { result.items ≡ specs.with_extension kind extension.now error.items }
+    ensures there { min_error_len ≤ length result.items }
+{
+    if !may_be_extended(kind) {
+        return error;
+    }
+    if extension.is_empty() {
+        return error;
+    }
+    extended_error(kind, &error.as_slice()[ERROR_LEN..], extension)
+}
+
+/// Whether ICMPv6 errors of this kind may have an extension.
+fn may_be_extended(kind: (u8, u8)) -> bool
+    ensures { result ≡ specs.may_be_extended kind }
+{
+    kind.0 == UNREACHABLE || kind.0 == TIME_EXCEEDED
+}
+
+/// The ICMPv6 error of this kind about this quoted packet with this extension.
+fn extended_error(kind: (u8, u8), quote: &[u8], extension: &[u8]) -> ArrayVec<u8, MAX_ERROR_LEN>
+    requires short { length quote.now + 8 ≤ max_error_len }
+    ensures bytes { result.items ≡ specs.extended_error kind quote.now extension.now }
+    ensures there { min_error_len ≤ length result.items }
+{
+    let len = padded_len(quote.len());
+    extended(
+        kind,
+        [(len / IPV6_UNIT) as u8, 0, 0, 0],
+        quote,
+        len,
+        extension,
+    )
+}
+
+/// This length with zeros after it: a multiple of eight bytes, and at least 128.
+fn padded_len(len: usize) -> usize
+    requires short { len + 8 ≤ max_error_len }
+    ensures value { result ≡ extensions.padded_len 8 len }
+    ensures least { (len ≤ result) × (128 ≤ result) }
+    ensures greatest { (result ≤ len + 128) × (result + 8 ≤ max_error_len) }
+{
+    MIN_QUOTE_LEN.max((len + (IPV6_UNIT - 1)) / IPV6_UNIT * IPV6_UNIT)
+}
+
+/// The length of the quoted packet that an ICMP error states, in bytes. 0 if it states no length.
+fn stated_len(message: &[u8]) -> usize
+    requires there { 8 ≤ length message.now }
+    ensures len { result ≡ specs.stated_len message.now }
+    ensures short { result ≤ 2040 }
+{
+    usize::from(message[QUOTE_LENGTH_AT]) * IPV4_UNIT
+}
+
+/// The ICMPv6 type and code of an error. Refuses a message that is dropped, or that states a wrong length of the quoted packet.
 fn kind_to_ipv6(message: &[u8]) -> Result<(u8, u8), PacketTranslationError>
     requires there { 8 ≤ length message.now }
     ensures refused { RefusesExactly result (specs.kind_refusal message.now) }
@@ -73,7 +146,7 @@ fn kind_to_ipv6(message: &[u8]) -> Result<(u8, u8), PacketTranslationError>
             code_u8: message[1],
         });
     };
-    if message[QUOTE_LENGTH_AT] != 0 {
+    if is_wrong_len(stated_len(message), message) {
         return Err(PacketTranslationError::IcmpExtension(message[QUOTE_LENGTH_AT]));
     }
     Ok(kind)

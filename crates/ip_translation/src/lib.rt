@@ -15,6 +15,7 @@ mod changed_message;
 mod echo_translation;
 mod error_to_ipv4;
 mod error_to_ipv6;
+mod extensions;
 mod fragment_fields;
 mod fragment_to_ipv6;
 mod header_translation;

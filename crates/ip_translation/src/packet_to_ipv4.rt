@@ -41,6 +41,10 @@ const IPV4_LEN: usize = 20;
 /// (section 5.2). The packet that it quotes is translated with the exchanged prefixes, keeps its hop limit, and gets the identification 0
 /// (section 5.3). Its checksum is updated if the quote contains it. A quote that is longer than in an ICMPv6 error of 1280 bytes is cut.
 ///
+/// An extension of the error (RFC 4884) is unchanged, as section 5.2 requires. The length field is adjusted, and zeros after the quote are
+/// added. Before an extension the quote is cut to 1,020 bytes, the most that the length field can state. An error with an extension has at most
+/// 1240 bytes, so a longer extension is cut.
+///
 /// If the packet has a fragment header, this header determines the fragment offset, "more fragments" and the low 16 bits of the identification
 /// (section 5.1.1). Then "don't fragment" is 0, and the argument `identification` is not used. A later fragment has no transport header, so
 /// its bytes are unchanged. An atomic fragment is translated as a whole packet.
@@ -57,7 +61,8 @@ const IPV4_LEN: usize = 20;
 /// - `IcmpFragment` if one of several fragments is part of an ICMPv6 message (section 1.2).
 /// - `TransportHeader` if a UDP packet or an ICMP message is shorter than 8 bytes, or a TCP segment is shorter than 20 bytes.
 /// - `IcmpMessage` if an ICMPv6 message is not an echo message, and `icmpv4_error` returns `None`.
-/// - `IcmpExtension` if "destination unreachable" or "time exceeded" has an extension (RFC 4884): byte 4 of the message is not 0.
+/// - `IcmpExtension` if the length field of "destination unreachable" or "time exceeded" (RFC 4884) is not 0, and states fewer than 128 bytes or
+///   more than there are.
 /// - `NoQuotedHeader` if the packet that an ICMPv6 error quotes does not begin with a whole IPv6 header.
 /// - `QuotedHeader` if the quoted header has no translation. The call checks its next header, its payload length and its addresses, as
 ///   `header_to_ipv4` does.

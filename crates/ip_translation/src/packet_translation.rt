@@ -33,6 +33,10 @@ use net_base::{IpNumber, Ipv4HeaderSlice, ip_number};
 /// (section 4.2). The packet that it quotes is translated with the exchanged prefixes, and keeps its time to live (section 4.3). Its checksum
 /// is updated if the quote contains it. The quote is cut so that the IPv6 packet has at most 1280 bytes.
 ///
+/// An extension of the error (RFC 4884) is unchanged, as section 4.2 requires. The length field is adjusted, and zeros after the quote are
+/// added. If the IPv6 packet would be longer than 1280 bytes, the extension is cut. "Packet too big" and "parameter problem" have no length
+/// field, so their extension is left out.
+///
 /// A fragment becomes a fragment with a fragment header, which contains the identification, the offset and "more fragments" (section 4.1). A
 /// later fragment has no transport header, so its bytes are unchanged. The call returns one packet, so it does not fragment. To send a packet
 /// without "don't fragment" that is too long for the path, fragment it before it is translated (section 4).
@@ -46,7 +50,7 @@ use net_base::{IpNumber, Ipv4HeaderSlice, ip_number};
 /// - `IcmpFragment` if a fragment is part of an ICMP message (section 1.2).
 /// - `TransportHeader` if a UDP packet or an ICMP message is shorter than 8 bytes, or a TCP segment is shorter than 20 bytes.
 /// - `IcmpMessage` if an ICMP message is not an echo message, and `icmpv6_error` returns `None`.
-/// - `IcmpExtension` if an ICMP error has an extension (RFC 4884): byte 5 of the message is not 0.
+/// - `IcmpExtension` if the length field of an ICMP error (RFC 4884) is not 0, and states fewer than 128 bytes or more than there are.
 /// - `NoQuotedHeader` if the packet that an ICMP error quotes does not begin with a whole IPv4 header.
 /// - `QuotedHeader` if the quoted header has no translation. The call checks its total length, whether it is a fragment, and the addresses, as
 ///   `header_to_ipv6` does.

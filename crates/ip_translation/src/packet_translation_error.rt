@@ -32,7 +32,8 @@ pub enum PacketTranslationError {
         /// The code of the message.
         code_u8: u8,
     },
-    /// An ICMP error contains an extension. This is its length field, which counts words of the quoted packet (RFC 4884, section 4).
+    /// An ICMP error has this wrong length field, which counts units of four bytes of the quoted packet, and over IPv6 of eight (RFC 4884, section
+    /// 4). The length is below 128 bytes, or above the rest of the message.
     IcmpExtension(u8),
     /// The pointer of an ICMP parameter problem points to this byte of the IP header, which has no place in the other version of IP.
     IcmpPointer(u32),
@@ -125,9 +126,9 @@ impl PacketTranslationError {
                 ])
             }
             PacketTranslationError::IcmpExtension(length) => ErrorText::from_parts(&[
-                Words("Translation Error: an ICMP error with an extension, with length field "),
+                Words("Translation Error: the length field "),
                 Number(usize::from(*length)),
-                Words(", is not translated."),
+                Words(" of an ICMP error with an extension is wrong."),
             ]),
             PacketTranslationError::IcmpPointer(pointer) => ErrorText::from_parts(&[
                 Words("Translation Error: the pointer "),
