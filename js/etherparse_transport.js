@@ -1545,6 +1545,60 @@ function translationOf({ source, destination, sourcePort, destinationPort }) {
     };
 }
 
+// ---- packets between IPv4 and IPv6 (RFC 7915)
+
+/**
+ * @typedef {object} Prefixes  The prefixes of the addresses (RFC 6052), such as "64:ff9b::/96".
+ * @property {string} source
+ * @property {string} destination
+ */
+
+/** A prefix as the struct has it. */
+function prefixOf(prefix) {
+    const [address, len, ...more] = String(prefix).split("/");
+    const octets = addressBytes(address);
+    if (octets.length === IPV4_LEN || !/^\d{1,3}$/.test(len ?? "") || more.length > 0) throw new TypeError(`${prefix} is no prefix`);
+    return { address: octets, len: integer(Number(len), 128, "the length of a prefix") };
+}
+
+/** The packet that a call writes behind its packet. It is at most 20 bytes longer, or an ICMP error of at most 1280 bytes. */
+function betweenVersions(call, packet, { source, destination }, ...more) {
+    const prefixes = [source, destination].map(prefixOf);
+    const length = setInput(packet, "packet");
+    const room = packet.length + Number(BUFFER_LEN);
+    makeRoom(packet.length + room);
+    prefixes.forEach((prefix, place) => setPrefix64(base + [STRUCT_PLACE, SECOND_PLACE][place], prefix));
+    check(calls[call](input, length, struct, second, ...more, input + length, BigInt(room), result, error));
+    return inputPart(packet.length, getSize(base + RESULT_PLACE));
+}
+
+/**
+ * Returns the IPv6 packet for an IPv4 packet, with IPv4 addresses behind these prefixes. UDP, TCP and ICMP echo messages are translated,
+ * and ICMP errors with the packet that they quote. A message of another protocol is copied. A receiver accepts the message of the
+ * translated packet if it accepts the message of the packet.
+ *
+ * @param {Uint8Array} packet
+ * @param {Prefixes} prefixes
+ * @returns {Uint8Array}
+ * @throws {EtherparseError} if a prefix or the packet is refused, such as a fragment over IPv4
+ */
+export function ipv4ToIpv6(packet, prefixes) {
+    return betweenVersions("etherparse_ipv4_to_ipv6", packet, prefixes);
+}
+
+/**
+ * Returns the IPv4 packet for an IPv6 packet, as `ipv4ToIpv6`, with this identification. A fragment becomes a fragment with the
+ * identification of its fragment header.
+ *
+ * @param {Uint8Array} packet
+ * @param {Prefixes & {identification?: number}} options
+ * @returns {Uint8Array}
+ * @throws {EtherparseError} if a prefix or the packet is refused, such as a fragment of an ICMPv6 message
+ */
+export function ipv6ToIpv4(packet, { identification = 0, ...prefixes }) {
+    return betweenVersions("etherparse_ipv6_to_ipv4", packet, prefixes, integer(identification, 0xffff, "identification"));
+}
+
 // ---- canonical headers
 
 /**

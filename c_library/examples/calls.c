@@ -1224,6 +1224,137 @@ static void packets_put_together(void)
     EXPECT(written == 7);
 }
 
+/* UDP over IPv4, 192.168.1.1 to 192.168.1.2; and over IPv6, with the prefix 2001:db8:64::/96. */
+static const uint8_t siit_ipv4[31] = {0x45, 0, 0, 31, 0, 7, 0, 0, 64, 17, 0xf7, 0x73, 192, 168, 1, 1,
+                                      192, 168, 1, 2, 0, 21, 4, 210, 0, 11, 0xb3, 0x3a, 'a', 'b', 'c'};
+static const uint8_t siit_ipv6[51] = {0x60, 0, 0, 0, 0, 11, 17, 63, 0x20, 1, 0x0d, 0xb8, 0, 0x64, 0, 0, 0, 0, 0, 0, 192, 168, 1, 1, 0x20, 1,
+                                      0x0d, 0xb8, 0, 0x64, 0, 0, 0, 0, 0, 0, 192, 168, 1, 2, 0, 21, 4, 210, 0, 11, 0x57, 0, 'a', 'b', 'c'};
+static const etherparse_prefix64 prefix64 = {{0x20, 1, 0x0d, 0xb8, 0, 0x64}, 96};
+static const etherparse_prefix64 well_known64 = {{0, 0x64, 0xff, 0x9b}, 96};
+
+/* A packet is translated to IPv6 and back. Only identification, time to live and header checksum differ. */
+static void between_versions(void)
+{
+    uint8_t back[64];
+    clear();
+    OK(etherparse_ipv4_to_ipv6(siit_ipv4, 31, &prefix64, &prefix64, buffer, 51, &written, &error));
+    EXPECT(holds(siit_ipv6, 51, 51) && error_is_untouched());
+    OK(etherparse_ipv6_to_ipv4(siit_ipv6, 51, &prefix64, &prefix64, 9, back, 31, &written, &error));
+    EXPECT(written == 31 && memcmp(back, siit_ipv4, 5) == 0 && back[5] == 9 && back[8] == 62 && memcmp(back + 12, siit_ipv4 + 12, 19) == 0);
+    EXPECT(back[6] == 0 && back[10] == 0xf9 && back[11] == 0x71 && error_is_untouched());
+}
+
+/* The first fragment of UDP over IPv6, with the same addresses. Its message has 24 bytes, of which these are 16. */
+static const uint8_t siit_fragment[64] = {0x60, 0, 0, 0, 0, 24, 44, 63, 0x20, 1, 0x0d, 0xb8, 0, 0x64, 0, 0, 0, 0, 0, 0, 192, 168,
+                                          1, 1, 0x20, 1, 0x0d, 0xb8, 0, 0x64, 0, 0, 0, 0, 0, 0, 192, 168, 1, 2, 17, 0, 0, 1,
+                                          0xab, 0xcd, 0x12, 0x34, 0, 21, 4, 210, 0, 24, 0x57, 0, 'a', 'b', 'c', 'd', 'e', 'f', 'g', 'h'};
+
+/* A packet with another byte at a place. */
+static const uint8_t *siit_with(const uint8_t *from, size_t len, size_t place, uint8_t byte)
+{
+    static uint8_t packet[64];
+    memcpy(packet, from, len);
+    packet[place] = byte;
+    return packet;
+}
+
+#define FRAGMENT_TO_IPV4(place, byte) \
+    etherparse_ipv6_to_ipv4(siit_with(siit_fragment, 64, place, byte), 64, &prefix64, &prefix64, 9, buffer, 36, &written, &error)
+
+/* Fragments over IPv6 with this byte of the offset, and the flags, the offset and the UDP checksum over IPv4. */
+static const struct {
+    uint8_t offset, flags_and_offset[2], checksum[2];
+} siit_fragments[3] = {
+    {1, {0x20, 0}, {0xb3, 0x3a}}, /* a first fragment */
+    {0x10, {0, 2}, {0x57, 0}},    /* a later fragment, whose bytes are copied */
+    {0, {0, 0}, {0xb3, 0x3a}},    /* an atomic fragment */
+};
+
+/* The fragment header determines the identification. A fragment of ICMPv6 is refused. */
+static void fragments_between_versions(void)
+{
+    size_t i;
+    clear();
+    for (i = 0; i < sizeof siit_fragments / sizeof *siit_fragments; i++) {
+        OK(FRAGMENT_TO_IPV4(43, siit_fragments[i].offset));
+        EXPECT(written == 36 && buffer[3] == 36 && buffer[4] == 0x12 && buffer[5] == 0x34 && buffer[9] == 17 && buffer[36] == 0xee);
+        EXPECT(memcmp(buffer + 6, siit_fragments[i].flags_and_offset, 2) == 0 && memcmp(buffer + 12, siit_ipv4 + 12, 8) == 0);
+        EXPECT(memcmp(buffer + 20, siit_fragment + 48, 6) == 0 && memcmp(buffer + 26, siit_fragments[i].checksum, 2) == 0);
+        EXPECT(memcmp(buffer + 28, siit_fragment + 56, 8) == 0 && error_is_untouched());
+    }
+    clear();
+    FILLED(FRAGMENT_TO_IPV4(40, 58), ETHERPARSE_STATUS_SIIT_ICMP_FRAGMENT);
+    EXPECT(error_has_text("Translation Error: a fragment of an ICMP message is not translated."));
+    REFUSED(FRAGMENT_TO_IPV4(40, 60), ETHERPARSE_STATUS_SIIT_EXTENSION_HEADER);
+    EXPECT(error.actual == 60);
+    REFUSED(FRAGMENT_TO_IPV4(5, 7), ETHERPARSE_STATUS_SIIT_EXTENSION_HEADER_CUT_OFF);
+    EXPECT(error.actual == 44 && error.required_len == 8 && error.len == 7);
+    REFUSED(FRAGMENT_TO_IPV4(5, 15), ETHERPARSE_STATUS_SIIT_TRANSPORT_HEADER);
+    EXPECT(error.required_len == 8 && error.len == 7 && holds(none, 0, 77));
+}
+
+/* The prefix is refused first, the source before the destination. */
+static void prefixes_refused(void)
+{
+    etherparse_prefix64 other = prefix64;
+    clear();
+    other.len = 33;
+    REFUSED(etherparse_ipv4_to_ipv6(siit_ipv4, 31, &other, &other, buffer, 51, &written, &error), ETHERPARSE_STATUS_PREFIX_LENGTH);
+    EXPECT(error.actual == 33);
+    other.len = 32;
+    FILLED(etherparse_ipv6_to_ipv4(siit_ipv6, 51, &prefix64, &other, 9, buffer, 51, &written, &error), ETHERPARSE_STATUS_PREFIX_SUFFIX);
+    other.address[8] = 1;
+    FILLED(etherparse_ipv4_to_ipv6(siit_ipv4, 31, &prefix64, &other, buffer, 51, &written, &error),
+           ETHERPARSE_STATUS_PREFIX_RESERVED_OCTET);
+    EXPECT(holds(none, 0, 77));
+}
+
+#define TO_IPV6(place, byte) \
+    etherparse_ipv4_to_ipv6(siit_with(siit_ipv4, 31, place, byte), 31, &prefix64, &prefix64, buffer, 51, &written, &error)
+#define TO_IPV4(place, byte) \
+    etherparse_ipv6_to_ipv4(siit_with(siit_ipv6, 51, place, byte), 51, &prefix64, &prefix64, 9, buffer, 51, &written, &error)
+
+/* Packets that are not translated between IPv4 and IPv6. Nothing is written. */
+static void between_versions_refused(void)
+{
+    uint8_t routed[51];
+    clear();
+    REFUSED(TO_IPV6(0, 0x60), ETHERPARSE_STATUS_SIIT_NO_HEADER);
+    EXPECT(error.actual == 4);
+    REFUSED(TO_IPV4(0, 0x40), ETHERPARSE_STATUS_SIIT_NO_HEADER);
+    EXPECT(error.actual == 6);
+    REFUSED(TO_IPV6(3, 19), ETHERPARSE_STATUS_IP_TOTAL_LENGTH);
+    EXPECT(error.len == 19 && error.required_len == 20);
+    FILLED(TO_IPV6(10, 0), ETHERPARSE_STATUS_SIIT_HEADER_CHECKSUM);
+    REFUSED(TO_IPV4(6, 44), ETHERPARSE_STATUS_SIIT_EXTENSION_HEADER);
+    EXPECT(error.actual == 0);
+    REFUSED(TO_IPV4(6, 43), ETHERPARSE_STATUS_SIIT_EXTENSION_HEADER_CUT_OFF);
+    EXPECT(error.actual == 43 && error.required_len == 176 && error.len == 11);
+    memcpy(routed, siit_ipv6, 51);
+    routed[6] = 43;
+    REFUSED(etherparse_ipv6_to_ipv4(siit_with(routed, 51, 41, 0), 51, &prefix64, &prefix64, 9, buffer, 51, &written, &error),
+            ETHERPARSE_STATUS_SIIT_SEGMENTS_LEFT);
+    EXPECT(error.actual == 43);
+    REFUSED(TO_IPV4(4, 0xff), ETHERPARSE_STATUS_IP_PACKET_CUT_OFF);
+    FILLED(TO_IPV4(7, 1), ETHERPARSE_STATUS_SIIT_TIME_EXCEEDED);
+    REFUSED(TO_IPV4(28, 1), ETHERPARSE_STATUS_SIIT_NOT_EMBEDDED);
+    EXPECT(error.actual == 1);
+    REFUSED(etherparse_ipv4_to_ipv6(siit_ipv4, 31, &well_known64, &prefix64, buffer, 51, &written, &error),
+            ETHERPARSE_STATUS_SIIT_NOT_GLOBAL);
+    EXPECT(error.actual == 0);
+    REFUSED(etherparse_ipv4_to_ipv6(siit_ipv4, 30, &prefix64, &prefix64, buffer, 51, &written, &error),
+            ETHERPARSE_STATUS_IP_PACKET_CUT_OFF);
+    EXPECT(error.len == 30 && error.required_len == 31);
+    REFUSED(TO_IPV4(5, 7), ETHERPARSE_STATUS_SIIT_TRANSPORT_HEADER);
+    EXPECT(error.len == 7 && error.required_len == 8);
+    FILLED(etherparse_ipv6_to_ipv4(siit_with(siit_ipv6, 51, 46, 0), 51, &prefix64, &prefix64, 9, buffer, 51, &written, &error),
+           ETHERPARSE_STATUS_SIIT_NO_UDP_CHECKSUM);
+    REFUSED(TO_IPV4(6, 58), ETHERPARSE_STATUS_SIIT_ICMP_MESSAGE);
+    EXPECT(error.actual == 21);
+    REFUSED(etherparse_ipv4_to_ipv6(siit_ipv4, 31, &prefix64, &prefix64, buffer, 50, &written, &error), ETHERPARSE_STATUS_BUFFER_TOO_SMALL);
+    EXPECT(error.len == 50 && error.required_len == 51 && holds(none, 0, 77));
+}
+
 /* The reply from another host, which only the second test accepts; and a reply with another sequence number. */
 static void echo_replies_from_any(void)
 {
@@ -1877,6 +2008,8 @@ static void nulls(etherparse_error *told)
     REFUSED_TO(etherparse_maximum_segment_size_lower(NULL, 0, 0, &checksum, told), ETHERPARSE_STATUS_IP_HEADER_CUT_OFF);
     REFUSED_TO(etherparse_icmpv4_error_about(NULL, 0, &echo4, source4, 64, NULL, 0, &written, told), ETHERPARSE_STATUS_NO_ICMP_ERROR);
     REFUSED_TO(etherparse_icmpv6_error_about(NULL, 0, &echo6, source6, 64, NULL, 0, &written, told), ETHERPARSE_STATUS_NO_ICMP_ERROR);
+    REFUSED_TO(etherparse_ipv4_to_ipv6(NULL, 0, &prefix64, &prefix64, NULL, 0, &written, told), ETHERPARSE_STATUS_SIIT_NO_HEADER);
+    REFUSED_TO(etherparse_ipv6_to_ipv4(NULL, 0, &prefix64, &prefix64, 0, NULL, 0, &written, told), ETHERPARSE_STATUS_SIIT_NO_HEADER);
     REFUSED_TO(etherparse_translate_ipv4(NULL, 0, &to_outside, told), ETHERPARSE_STATUS_IP_HEADER_CUT_OFF);
     REFUSED_TO(etherparse_translate_ipv6(NULL, 0, &new_parts, told), ETHERPARSE_STATUS_IP_HEADER_CUT_OFF);
     REFUSED_TO(etherparse_translate_ipv4_with_quoted(NULL, 0, &to_outside, &to_inside, told), ETHERPARSE_STATUS_IP_HEADER_CUT_OFF);
@@ -1925,6 +2058,10 @@ int main(void)
     maximum_segment_sizes();
     fragments_read();
     packets_put_together();
+    between_versions();
+    fragments_between_versions();
+    prefixes_refused();
+    between_versions_refused();
     icmp_errors();
     echo_replies_from_any();
     translations();

@@ -205,6 +205,26 @@ enum etherparse_status_number {
     ETHERPARSE_STATUS_SEGMENT_SIZE_LATER_FRAGMENT = 53,
     ETHERPARSE_STATUS_SEGMENT_SIZE_NO_SYN = 54,
     ETHERPARSE_STATUS_SEGMENT_SIZE_NO_OPTION = 55,
+    ETHERPARSE_STATUS_PREFIX_LENGTH = 56,
+    ETHERPARSE_STATUS_PREFIX_RESERVED_OCTET = 57,
+    ETHERPARSE_STATUS_PREFIX_SUFFIX = 58,
+    ETHERPARSE_STATUS_SIIT_NO_HEADER = 59,
+    ETHERPARSE_STATUS_SIIT_HEADER_CHECKSUM = 60,
+    ETHERPARSE_STATUS_SIIT_FRAGMENT = 61,
+    ETHERPARSE_STATUS_SIIT_EXTENSION_HEADER = 62,
+    ETHERPARSE_STATUS_SIIT_PAYLOAD_LENGTH = 63,
+    ETHERPARSE_STATUS_SIIT_TIME_EXCEEDED = 64,
+    ETHERPARSE_STATUS_SIIT_SOURCE = 65,
+    ETHERPARSE_STATUS_SIIT_DESTINATION = 66,
+    ETHERPARSE_STATUS_SIIT_NOT_EMBEDDED = 67,
+    ETHERPARSE_STATUS_SIIT_NOT_GLOBAL = 68,
+    ETHERPARSE_STATUS_SIIT_ICMP_EXTENSION = 69,
+    ETHERPARSE_STATUS_SIIT_ICMP_POINTER = 70,
+    ETHERPARSE_STATUS_SIIT_TRANSPORT_HEADER = 71,
+    ETHERPARSE_STATUS_SIIT_UDP_LENGTH = 72,
+    ETHERPARSE_STATUS_SIIT_NO_UDP_CHECKSUM = 73,
+    ETHERPARSE_STATUS_SIIT_ICMP_MESSAGE = 74,
+    ETHERPARSE_STATUS_SIIT_QUOTED_PACKET = 75,
     ETHERPARSE_STATUS_REASSEMBLY_NO_FRAGMENT = 76,
     ETHERPARSE_STATUS_REASSEMBLY_HEADER_CHAIN_CUT_OFF = 77,
     ETHERPARSE_STATUS_REASSEMBLY_OTHER_KEY = 78,
@@ -218,7 +238,10 @@ enum etherparse_status_number {
     ETHERPARSE_STATUS_REASSEMBLY_TOO_MANY_FRAGMENTS = 86,
     ETHERPARSE_STATUS_REASSEMBLY_INCOMPLETE = 87,
     ETHERPARSE_STATUS_REASSEMBLY_HEADER = 88,
-    ETHERPARSE_STATUS_REASSEMBLY_LENGTHS = 89
+    ETHERPARSE_STATUS_REASSEMBLY_LENGTHS = 89,
+    ETHERPARSE_STATUS_SIIT_EXTENSION_HEADER_CUT_OFF = 90,
+    ETHERPARSE_STATUS_SIIT_SEGMENTS_LEFT = 91,
+    ETHERPARSE_STATUS_SIIT_ICMP_FRAGMENT = 92
 };
 
 /*
@@ -349,6 +372,64 @@ enum etherparse_status_number {
 #define ETHERPARSE_STATUS_SEGMENT_SIZE_NO_SYN 54
 /* The options of the segment contain no maximum segment size: no other field. */
 #define ETHERPARSE_STATUS_SEGMENT_SIZE_NO_OPTION 55
+/* The length of a prefix is not 32, 40, 48, 56, 64 or 96 bits: actual is the length. */
+#define ETHERPARSE_STATUS_PREFIX_LENGTH 56
+/* Bits 64 to 71 of a prefix are not 0: no other field. */
+#define ETHERPARSE_STATUS_PREFIX_RESERVED_OCTET 57
+/* A bit after a prefix is not 0: no other field. */
+#define ETHERPARSE_STATUS_PREFIX_SUFFIX 58
+/*
+ * The packet is not translated between IPv4 and IPv6, because it does not begin with a whole header of the IP version that the call reads:
+ * actual is the version, 4 or 6.
+ */
+#define ETHERPARSE_STATUS_SIIT_NO_HEADER 59
+/* The packet is not translated between IPv4 and IPv6, because the checksum of its IPv4 header is wrong: no other field. */
+#define ETHERPARSE_STATUS_SIIT_HEADER_CHECKSUM 60
+/* The packet is not translated from IPv4 to IPv6, because it is a fragment: no other field. */
+#define ETHERPARSE_STATUS_SIIT_FRAGMENT 61
+/*
+ * The packet is not translated from IPv6 to IPv4, because an extension header follows its fragment header: actual is the number of that
+ * extension header.
+ */
+#define ETHERPARSE_STATUS_SIIT_EXTENSION_HEADER 62
+/* The packet is not translated from IPv6 to IPv4, because its payload length is above 65,515: actual is the payload length. */
+#define ETHERPARSE_STATUS_SIIT_PAYLOAD_LENGTH 63
+/* The packet is not translated between IPv4 and IPv6, because its time to live or hop limit is 0 or 1: no other field. */
+#define ETHERPARSE_STATUS_SIIT_TIME_EXCEEDED 64
+/* The packet is not translated between IPv4 and IPv6, because its source is not the address of a host: no other field. */
+#define ETHERPARSE_STATUS_SIIT_SOURCE 65
+/* The packet is not translated between IPv4 and IPv6, because its destination is not the address of a host: no other field. */
+#define ETHERPARSE_STATUS_SIIT_DESTINATION 66
+/*
+ * The packet is not translated from IPv6 to IPv4, because an address contains no IPv4 address after its prefix: actual is 0 for the source,
+ * and 1 for the destination.
+ */
+#define ETHERPARSE_STATUS_SIIT_NOT_EMBEDDED 67
+/*
+ * The packet is not translated between IPv4 and IPv6, because an IPv4 address is not global, and its prefix is the well-known prefix:
+ * actual is 0 for the source, and 1 for the destination.
+ */
+#define ETHERPARSE_STATUS_SIIT_NOT_GLOBAL 68
+/* The ICMP error is not translated between IPv4 and IPv6, because it contains an extension: actual is its length field. */
+#define ETHERPARSE_STATUS_SIIT_ICMP_EXTENSION 69
+/* The ICMP parameter problem is not translated between IPv4 and IPv6, because its pointer has no translation: actual is the pointer. */
+#define ETHERPARSE_STATUS_SIIT_ICMP_POINTER 70
+/*
+ * The packet is not translated between IPv4 and IPv6, because the packet, or the packet that it quotes, ends within its transport header:
+ * required_len, len.
+ */
+#define ETHERPARSE_STATUS_SIIT_TRANSPORT_HEADER 71
+/*
+ * The packet is not translated from IPv4 to IPv6, because it has no UDP checksum, and its UDP length is wrong: actual is the length field,
+ * len.
+ */
+#define ETHERPARSE_STATUS_SIIT_UDP_LENGTH 72
+/* The packet is not translated from IPv6 to IPv4, because it has no UDP checksum: no other field. */
+#define ETHERPARSE_STATUS_SIIT_NO_UDP_CHECKSUM 73
+/* The ICMP message is not translated between IPv4 and IPv6: actual is 256 times the type, plus the code. */
+#define ETHERPARSE_STATUS_SIIT_ICMP_MESSAGE 74
+/* The ICMP error is not translated between IPv4 and IPv6, because the packet that it quotes can't be translated: no other field. */
+#define ETHERPARSE_STATUS_SIIT_QUOTED_PACKET 75
 /* The packet is whole, so it is not a fragment: no other field. */
 #define ETHERPARSE_STATUS_REASSEMBLY_NO_FRAGMENT 76
 /*
@@ -386,6 +467,18 @@ enum etherparse_status_number {
 #define ETHERPARSE_STATUS_REASSEMBLY_HEADER 88
 /* A length counts more bytes than are left: required_len, which is the length, and len, which is the number of bytes that are left. */
 #define ETHERPARSE_STATUS_REASSEMBLY_LENGTHS 89
+/*
+ * The packet is not translated from IPv6 to IPv4, because an extension header ends after the packet: actual is the number of the header,
+ * required_len its length (8 if the packet ends within its first 8 bytes), and len the number of bytes that are left.
+ */
+#define ETHERPARSE_STATUS_SIIT_EXTENSION_HEADER_CUT_OFF 90
+/*
+ * The packet is not translated from IPv6 to IPv4, because a routing header has segments left: actual is the place of the field "segments
+ * left" in the packet, for the pointer of an ICMPv6 parameter problem.
+ */
+#define ETHERPARSE_STATUS_SIIT_SEGMENTS_LEFT 91
+/* The packet is not translated from IPv6 to IPv4, because it is a fragment of an ICMPv6 message: no other field. */
+#define ETHERPARSE_STATUS_SIIT_ICMP_FRAGMENT 92
 
 /* The layer whose length was wrong. 0 means no layer. The numbers from 8 on are reserved for IP headers. */
 enum {
@@ -1587,6 +1680,55 @@ ETHERPARSE_CHECK_RESULT ETHERPARSE_NOT_NULL(3, 4)
 etherparse_status etherparse_translate_ipv6_with_quoted(uint8_t *packet, size_t packet_len, const etherparse_ipv6_translation *translation,
                                                         const etherparse_ipv6_translation *quoted, etherparse_error *error);
 
+/* ---- packets between IPv4 and IPv6 (RFC 7915: stateless IP/ICMP translation, SIIT) ---------------------------------------- */
+
+/*
+ * A prefix of IPv6 addresses that contain an IPv4 address (RFC 6052, section 2.2). The address begins with the prefix, and its other bits
+ * are 0. The well-known prefix is {{0, 0x64, 0xff, 0x9b}, 96}.
+ */
+typedef struct etherparse_prefix64 {
+    uint8_t address[16]; /* the prefix, and then zeros; bits 64 to 71 are 0 */
+    uint8_t len;         /* the length of the prefix in bits: 32, 40, 48, 56, 64 or 96 */
+} etherparse_prefix64;
+
+/*
+ * Translates an IPv4 packet to IPv6 (RFC 7915, section 4), or an IPv6 packet to IPv4 (section 5). Writes the translated packet to the front
+ * of the buffer, and its length to *written. The rest of the buffer is unchanged. `source` is the prefix of the source, and `destination`
+ * the prefix of the destination. `identification` is the identification of the IPv4 packet. A translated packet is at most 20 bytes longer
+ * than the packet, or has at most 1,280 bytes if it is an ICMP error. Bytes after the packet are ignored. The buffer and the packet must
+ * not overlap.
+ *
+ * UDP, TCP and ICMP echo messages are translated, and ICMP errors with the packet that they quote. A message of another protocol is copied.
+ * A receiver accepts the message of the translated packet if it accepts the message of the original packet.
+ *
+ * Over IPv6 hop-by-hop options, destination options and routing headers without segments left are skipped. A fragment over IPv6 becomes a
+ * fragment over IPv4. Its fragment header determines the identification, the fragment offset and "more fragments", and `identification` is
+ * not used. A later fragment is copied behind its new header. An atomic fragment is translated as a whole packet. A fragment over IPv4 is
+ * refused.
+ *
+ * In this order:
+ *  - The first refused prefix: ETHERPARSE_STATUS_PREFIX_LENGTH, ETHERPARSE_STATUS_PREFIX_RESERVED_OCTET or ETHERPARSE_STATUS_PREFIX_SUFFIX.
+ *  - ETHERPARSE_STATUS_SIIT_NO_HEADER.
+ *  - Only over IPv6: ETHERPARSE_STATUS_IP_PACKET_CUT_OFF. Then ETHERPARSE_STATUS_SIIT_EXTENSION_HEADER_CUT_OFF or
+ *    ETHERPARSE_STATUS_SIIT_SEGMENTS_LEFT for each header that is skipped. Then ETHERPARSE_STATUS_SIIT_EXTENSION_HEADER_CUT_OFF or
+ *    ETHERPARSE_STATUS_SIIT_EXTENSION_HEADER for a fragment header.
+ *  - The IP header: a status from ETHERPARSE_STATUS_SIIT_HEADER_CHECKSUM to ETHERPARSE_STATUS_SIIT_NOT_GLOBAL,
+ *    ETHERPARSE_STATUS_IP_TOTAL_LENGTH or ETHERPARSE_STATUS_TRANSLATE_SOURCE_ROUTE.
+ *  - Over IPv4 ETHERPARSE_STATUS_IP_PACKET_CUT_OFF. Over IPv6 ETHERPARSE_STATUS_SIIT_ICMP_FRAGMENT.
+ *  - The message: a status from ETHERPARSE_STATUS_SIIT_ICMP_EXTENSION to ETHERPARSE_STATUS_SIIT_QUOTED_PACKET.
+ *  - ETHERPARSE_STATUS_BUFFER_TOO_SMALL.
+ *
+ * The buffer and *written are then unchanged.
+ */
+ETHERPARSE_CHECK_RESULT ETHERPARSE_NOT_NULL(3, 4, 7)
+etherparse_status etherparse_ipv4_to_ipv6(const uint8_t *packet, size_t packet_len, const etherparse_prefix64 *source,
+                                          const etherparse_prefix64 *destination, uint8_t *buffer, size_t buffer_len, size_t *written,
+                                          etherparse_error *error);
+ETHERPARSE_CHECK_RESULT ETHERPARSE_NOT_NULL(3, 4, 8)
+etherparse_status etherparse_ipv6_to_ipv4(const uint8_t *packet, size_t packet_len, const etherparse_prefix64 *source,
+                                          const etherparse_prefix64 *destination, uint16_t identification, uint8_t *buffer,
+                                          size_t buffer_len, size_t *written, etherparse_error *error);
+
 /* ---- canonical headers ---------------------------------------------------------------------------------------------------- */
 
 /*
@@ -1743,6 +1885,26 @@ static inline const char *etherparse_name_of_status(etherparse_status status)
     ETHERPARSE_CASE(ETHERPARSE_STATUS_SEGMENT_SIZE_LATER_FRAGMENT)
     ETHERPARSE_CASE(ETHERPARSE_STATUS_SEGMENT_SIZE_NO_SYN)
     ETHERPARSE_CASE(ETHERPARSE_STATUS_SEGMENT_SIZE_NO_OPTION)
+    ETHERPARSE_CASE(ETHERPARSE_STATUS_PREFIX_LENGTH)
+    ETHERPARSE_CASE(ETHERPARSE_STATUS_PREFIX_RESERVED_OCTET)
+    ETHERPARSE_CASE(ETHERPARSE_STATUS_PREFIX_SUFFIX)
+    ETHERPARSE_CASE(ETHERPARSE_STATUS_SIIT_NO_HEADER)
+    ETHERPARSE_CASE(ETHERPARSE_STATUS_SIIT_HEADER_CHECKSUM)
+    ETHERPARSE_CASE(ETHERPARSE_STATUS_SIIT_FRAGMENT)
+    ETHERPARSE_CASE(ETHERPARSE_STATUS_SIIT_EXTENSION_HEADER)
+    ETHERPARSE_CASE(ETHERPARSE_STATUS_SIIT_PAYLOAD_LENGTH)
+    ETHERPARSE_CASE(ETHERPARSE_STATUS_SIIT_TIME_EXCEEDED)
+    ETHERPARSE_CASE(ETHERPARSE_STATUS_SIIT_SOURCE)
+    ETHERPARSE_CASE(ETHERPARSE_STATUS_SIIT_DESTINATION)
+    ETHERPARSE_CASE(ETHERPARSE_STATUS_SIIT_NOT_EMBEDDED)
+    ETHERPARSE_CASE(ETHERPARSE_STATUS_SIIT_NOT_GLOBAL)
+    ETHERPARSE_CASE(ETHERPARSE_STATUS_SIIT_ICMP_EXTENSION)
+    ETHERPARSE_CASE(ETHERPARSE_STATUS_SIIT_ICMP_POINTER)
+    ETHERPARSE_CASE(ETHERPARSE_STATUS_SIIT_TRANSPORT_HEADER)
+    ETHERPARSE_CASE(ETHERPARSE_STATUS_SIIT_UDP_LENGTH)
+    ETHERPARSE_CASE(ETHERPARSE_STATUS_SIIT_NO_UDP_CHECKSUM)
+    ETHERPARSE_CASE(ETHERPARSE_STATUS_SIIT_ICMP_MESSAGE)
+    ETHERPARSE_CASE(ETHERPARSE_STATUS_SIIT_QUOTED_PACKET)
     ETHERPARSE_CASE(ETHERPARSE_STATUS_REASSEMBLY_NO_FRAGMENT)
     ETHERPARSE_CASE(ETHERPARSE_STATUS_REASSEMBLY_HEADER_CHAIN_CUT_OFF)
     ETHERPARSE_CASE(ETHERPARSE_STATUS_REASSEMBLY_OTHER_KEY)
@@ -1757,6 +1919,9 @@ static inline const char *etherparse_name_of_status(etherparse_status status)
     ETHERPARSE_CASE(ETHERPARSE_STATUS_REASSEMBLY_INCOMPLETE)
     ETHERPARSE_CASE(ETHERPARSE_STATUS_REASSEMBLY_HEADER)
     ETHERPARSE_CASE(ETHERPARSE_STATUS_REASSEMBLY_LENGTHS)
+    ETHERPARSE_CASE(ETHERPARSE_STATUS_SIIT_EXTENSION_HEADER_CUT_OFF)
+    ETHERPARSE_CASE(ETHERPARSE_STATUS_SIIT_SEGMENTS_LEFT)
+    ETHERPARSE_CASE(ETHERPARSE_STATUS_SIIT_ICMP_FRAGMENT)
     default: return "unknown status";
     }
 }

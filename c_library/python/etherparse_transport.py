@@ -41,17 +41,18 @@ __all__ = [
     "NeighborFlags", "Protocol", "RouterFlags", "Status", "Sum", "TcpFlags", "TcpOption", "TcpOptionKind", "TcpOptionValues", "TcpPacket",
     "Transport", "UdpPacket", "ValueType", "Verdict", "VerdictKind", "answer_echo", "canonical_header", "check_icmpv4", "check_icmpv6",
     "check_ipv4_header", "check_tcp", "check_udp", "flow", "header_addresses", "icmpv4_checksum", "icmpv4_error_about", "icmpv6_checksum",
-    "icmpv6_error_about", "ipv4_header_checksum", "is_checksum_partial", "is_reply_from_any", "is_reply_to", "library_version",
-    "lower_hop_limit", "lower_maximum_segment_size", "quoted_by_icmpv4", "quoted_by_icmpv6", "read_fragment", "read_icmpv4", "read_icmpv6",
-    "read_tcp", "read_udp", "reassemble", "status_name", "store_checksum", "store_icmpv4_checksum", "store_icmpv6_checksum",
-    "store_ipv4_header_checksum", "store_tcp_checksum", "store_tcp_header", "store_udp_checksum", "tcp_checksum", "tcp_option_values",
-    "tcp_options", "translate", "transport", "udp_checksum", "verdict", "verdict_name", "write_icmpv4_header", "write_icmpv6_header",
-    "write_packet", "write_tcp_header", "write_tcp_options", "write_udp_header",
+    "icmpv6_error_about", "ipv4_header_checksum", "ipv4_to_ipv6", "ipv6_to_ipv4", "is_checksum_partial", "is_reply_from_any", "is_reply_to",
+    "library_version", "lower_hop_limit", "lower_maximum_segment_size", "quoted_by_icmpv4", "quoted_by_icmpv6", "read_fragment",
+    "read_icmpv4", "read_icmpv6", "read_tcp", "read_udp", "reassemble", "status_name", "store_checksum", "store_icmpv4_checksum",
+    "store_icmpv6_checksum", "store_ipv4_header_checksum", "store_tcp_checksum", "store_tcp_header", "store_udp_checksum", "tcp_checksum",
+    "tcp_option_values", "tcp_options", "translate", "transport", "udp_checksum", "verdict", "verdict_name", "write_icmpv4_header",
+    "write_icmpv6_header", "write_packet", "write_tcp_header", "write_tcp_options", "write_udp_header",
 ]
 
 Bytes = Union[bytes, bytearray, memoryview]
 Address = Union[ipaddress.IPv4Address, ipaddress.IPv6Address]
 AnyAddress = Union[ipaddress.IPv4Address, ipaddress.IPv6Address, str, bytes]
+AnyPrefix = Union[ipaddress.IPv6Network, str]
 
 # The part of the library's version that has to match, in this form part of its name.
 _INTERFACE = "0.5"
@@ -129,6 +130,26 @@ class Status(_Number):
     SEGMENT_SIZE_LATER_FRAGMENT = 53
     SEGMENT_SIZE_NO_SYN = 54
     SEGMENT_SIZE_NO_OPTION = 55
+    PREFIX_LENGTH = 56
+    PREFIX_RESERVED_OCTET = 57
+    PREFIX_SUFFIX = 58
+    SIIT_NO_HEADER = 59
+    SIIT_HEADER_CHECKSUM = 60
+    SIIT_FRAGMENT = 61
+    SIIT_EXTENSION_HEADER = 62
+    SIIT_PAYLOAD_LENGTH = 63
+    SIIT_TIME_EXCEEDED = 64
+    SIIT_SOURCE = 65
+    SIIT_DESTINATION = 66
+    SIIT_NOT_EMBEDDED = 67
+    SIIT_NOT_GLOBAL = 68
+    SIIT_ICMP_EXTENSION = 69
+    SIIT_ICMP_POINTER = 70
+    SIIT_TRANSPORT_HEADER = 71
+    SIIT_UDP_LENGTH = 72
+    SIIT_NO_UDP_CHECKSUM = 73
+    SIIT_ICMP_MESSAGE = 74
+    SIIT_QUOTED_PACKET = 75
     REASSEMBLY_NO_FRAGMENT = 76
     REASSEMBLY_HEADER_CHAIN_CUT_OFF = 77
     REASSEMBLY_OTHER_KEY = 78
@@ -143,6 +164,9 @@ class Status(_Number):
     REASSEMBLY_INCOMPLETE = 87
     REASSEMBLY_HEADER = 88
     REASSEMBLY_LENGTHS = 89
+    SIIT_EXTENSION_HEADER_CUT_OFF = 90
+    SIIT_SEGMENTS_LEFT = 91
+    SIIT_ICMP_FRAGMENT = 92
 
     @property
     def text(self) -> str:
@@ -497,6 +521,13 @@ class _Ipv6Header(ctypes.Structure):
     ]
 
 
+class _Prefix64(ctypes.Structure):
+    _fields_ = [
+        ("address", ctypes.c_uint8 * 16),
+        ("len", ctypes.c_uint8),
+    ]
+
+
 class _Ipv4Translation(ctypes.Structure):
     _fields_ = [
         ("source", ctypes.c_uint8 * 4),
@@ -737,6 +768,8 @@ _CALLS = {
     "translate_ipv6": (ctypes.c_uint32, *_reader(_Ipv6Translation)),
     "translate_ipv4_with_quoted": (ctypes.c_uint32, *_PACKET, *[ctypes.POINTER(_Ipv4Translation)] * 2, *_ERROR),
     "translate_ipv6_with_quoted": (ctypes.c_uint32, *_PACKET, *[ctypes.POINTER(_Ipv6Translation)] * 2, *_ERROR),
+    "ipv4_to_ipv6": (ctypes.c_uint32, *_PACKET, *[ctypes.POINTER(_Prefix64)] * 2, *_PACKET, *_REPLY),
+    "ipv6_to_ipv4": (ctypes.c_uint32, *_PACKET, *[ctypes.POINTER(_Prefix64)] * 2, ctypes.c_uint16, *_PACKET, *_REPLY),
     "canonical_header": (ctypes.c_uint32, ctypes.c_uint32, *_PACKET, *_PACKET, *_REPLY),
     "sum_new": (_Sum,),
     "sum_add": (_Sum, _Sum, *_PACKET),
@@ -1826,6 +1859,43 @@ def translate(
     [version] = versions
     name = ("translate_ipv6" if version == 6 else "translate_ipv4") + ("" if quoted is None else "_with_quoted")
     _changed(name, packet, *(ctypes.byref(_translation(version, its)) for its in parts))
+
+
+# ---- packets between IPv4 and IPv6
+
+
+def _prefix64(prefix: AnyPrefix) -> _Prefix64:
+    """A prefix of IPv6 addresses that contain an IPv4 address."""
+    network = ipaddress.IPv6Network(prefix)
+    return _Prefix64((ctypes.c_uint8 * 16)(*network.network_address.packed), network.prefixlen)
+
+
+def _between_versions(name: str, packet: Bytes, source: AnyPrefix, destination: AnyPrefix, *more: int) -> bytes:
+    """The packet that a call writes. It is at most 20 bytes longer than the packet, or an ICMP error of at most 1280 bytes."""
+    data = _bytes_of(packet)
+    prefixes = [ctypes.byref(_prefix64(it)) for it in (source, destination)]
+    buffer, written = ctypes.create_string_buffer(len(data) + _ERROR_MAX_LEN), ctypes.c_size_t()
+    _call(name, data, len(data), *prefixes, *more, buffer, len(buffer), ctypes.byref(written))
+    return buffer.raw[: written.value]
+
+
+def ipv4_to_ipv6(packet: Bytes, source: AnyPrefix, destination: AnyPrefix) -> bytes:
+    """The IPv6 packet for an IPv4 packet (RFC 7915, section 4), with IPv4 addresses behind these prefixes, such as "64:ff9b::/96".
+
+    UDP, TCP and ICMP echo messages are translated, and ICMP errors with the packet that they quote. A message of another protocol is
+    copied. A receiver accepts the message of the translated packet if it accepts the message of the packet.
+
+    Raises `Error` if a prefix or the packet is refused, such as a fragment over IPv4, and `ValueError` if a text is no prefix.
+    """
+    return _between_versions("ipv4_to_ipv6", packet, source, destination)
+
+
+def ipv6_to_ipv4(packet: Bytes, source: AnyPrefix, destination: AnyPrefix, *, identification: int = 0) -> bytes:
+    """The IPv4 packet for an IPv6 packet (RFC 7915, section 5), as `ipv4_to_ipv6`, with this identification.
+
+    A fragment becomes a fragment with the identification of its fragment header. A fragment of an ICMPv6 message is refused.
+    """
+    return _between_versions("ipv6_to_ipv4", packet, source, destination, _integer(identification, 16, "an identification"))
 
 
 # ---- canonical headers

@@ -587,6 +587,53 @@ class Calls(unittest.TestCase):
             self.assertEqual(caught.exception.status, status)
         self.assertEqual(str(caught.exception), "Reassembly Error: the packet is not a fragment.")
 
+    def test_packets_between_ipv4_and_ipv6(self):
+        packet = bytes.fromhex("4500001F000700004011F773C0A80101C0A80102001504D2000BB33A616263")
+        translated = bytes.fromhex(
+            "60000000000B113F20010DB8006400000000" "0000C0A8010120010DB8006400000000" "0000C0A80102" "001504D2000B5700616263")
+        prefix = "2001:db8:64::/96"
+        self.assertEqual(ept.ipv4_to_ipv6(packet, prefix, prefix), translated)
+        back = ept.ipv6_to_ipv4(translated, prefix, ipaddress.IPv6Network(prefix), identification=7)
+        self.assertEqual(back, packet[:8] + b"\x3E" + packet[9:10] + b"\xF9\x73" + packet[12:])
+        self.assertEqual(ept.verdict(translated).kind, ept.VerdictKind.RIGHT)
+        for value in ("2001:db8:64::1/96", "10.0.0.0/8"):
+            with self.assertRaises(ValueError):
+                ept.ipv4_to_ipv6(packet, value, prefix)
+        with self.assertRaises(ValueError):
+            ept.ipv6_to_ipv4(translated, prefix, prefix, identification=65536)
+        with self.assertRaises(ept.Error) as caught:
+            ept.ipv4_to_ipv6(packet, prefix, "2001:db8::/33")
+        self.assertEqual((caught.exception.status, caught.exception.actual), (Status.PREFIX_LENGTH, 33))
+        with self.assertRaises(ept.Error) as caught:
+            ept.ipv4_to_ipv6(packet, prefix, "64:ff9b::/96")
+        self.assertEqual((caught.exception.status, caught.exception.actual), (Status.SIIT_NOT_GLOBAL, 1))
+        with self.assertRaises(ept.Error) as caught:
+            ept.ipv6_to_ipv4(packet, prefix, prefix)
+        self.assertEqual((caught.exception.status, caught.exception.actual), (Status.SIIT_NO_HEADER, 6))
+        self.assertEqual(str(caught.exception), "Translation Error: the bytes do not begin with an IPv6 header.")
+
+    def test_fragments_over_ipv6_become_fragments_over_ipv4(self):
+        address = "20010DB8006400000000" "0000C0A801"
+        fragment = bytes.fromhex(
+            "6000000000182C3F" + address + "01" + address + "02" "11000001ABCD1234" "001504D2001857006162636465666768")
+        prefix = "2001:db8:64::/96"
+
+        def changed(place, byte):
+            return ept.ipv6_to_ipv4(fragment[:place] + bytes([byte]) + fragment[place + 1:], prefix, prefix, identification=7)
+
+        # A first, a later and an atomic fragment. The bytes of the later one are copied.
+        for byte, flags, checksum in ((1, "2000", "B33A"), (16, "0002", "5700"), (0, "0000", "B33A")):
+            translated = changed(43, byte)
+            self.assertEqual((len(translated), translated[4:8]), (36, bytes.fromhex("1234" + flags)))
+            self.assertEqual(translated[20:], fragment[48:54] + bytes.fromhex(checksum) + fragment[56:])
+        with self.assertRaises(ept.Error) as caught:
+            changed(40, 58)
+        self.assertEqual(caught.exception.status, Status.SIIT_ICMP_FRAGMENT)
+        self.assertEqual(str(caught.exception), "Translation Error: a fragment of an ICMP message is not translated.")
+        with self.assertRaises(ept.Error) as caught:
+            changed(40, 60)
+        self.assertEqual((caught.exception.status, caught.exception.actual), (Status.SIIT_EXTENSION_HEADER, 60))
+
     def test_a_partial_checksum_is_completed(self):
         packet = bytearray(PACKET)
         self.assertIs(ept.is_checksum_partial(packet), False)

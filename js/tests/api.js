@@ -177,6 +177,43 @@ export const TESTS = {
         thrown(() => library.reassemble([[1, 2]]), TypeError);
     },
 
+    packetsBetweenIpv4AndIpv6() {
+        const packet = Uint8Array.of(
+            0x45, 0, 0, 31, 0, 7, 0, 0, 64, 17, 0xf7, 0x73, 192, 168, 1, 1, 192, 168, 1, 2, 0, 21, 4, 210, 0, 11, 0xb3, 0x3a, 97, 98, 99,
+        );
+        const prefixes = { source: "2001:db8:64::/96", destination: "2001:db8:64::/96" };
+        const translated = library.ipv4ToIpv6(packet, prefixes);
+        expect([translated.length, translated[0], translated[5], translated[7]], [51, 0x60, 11, 63]);
+        expect([...translated.subarray(20, 24)], [192, 168, 1, 1]);
+        expect(library.verdict(translated).kind, VerdictKind.RIGHT);
+        const back = library.ipv6ToIpv4(translated, { ...prefixes, identification: 7 });
+        expect([back.length, back[5], back[8], back[10], back[11]], [31, 7, 62, 0xf9, 0x73]);
+        expect([...back.subarray(12)], [...packet.subarray(12)]);
+        thrown(() => library.ipv4ToIpv6(packet, { ...prefixes, source: "10.0.0.0/8" }), TypeError);
+        thrown(() => library.ipv4ToIpv6(packet, { ...prefixes, source: "2001:db8::" }), TypeError);
+        const length = thrown(() => library.ipv4ToIpv6(packet, { ...prefixes, source: "2001:db8::/33" }), library.EtherparseError);
+        expect([length.status, length.actual], [Status.PREFIX_LENGTH, 33]);
+        const { status, message } = thrown(() => library.ipv6ToIpv4(packet, prefixes), library.EtherparseError);
+        expect([status, message], [Status.SIIT_NO_HEADER, "Translation Error: the bytes do not begin with an IPv6 header."]);
+    },
+
+    fragmentsOverIpv6() {
+        const address = [0x20, 1, 0x0d, 0xb8, 0, 0x64, 0, 0, 0, 0, 0, 0, 192, 168, 1];
+        const message = [0, 21, 4, 210, 0, 24, 0x57, 0, 97, 98, 99, 100, 101, 102, 103, 104];
+        const fragment = (protocol, offset) => Uint8Array.of(
+            0x60, 0, 0, 0, 0, 24, 44, 63, ...address, 1, ...address, 2, protocol, 0, 0, offset, 0xab, 0xcd, 0x12, 0x34, ...message,
+        );
+        const prefixes = { source: "2001:db8:64::/96", destination: "2001:db8:64::/96", identification: 7 };
+        // A first, a later and an atomic fragment. The bytes of the later one are copied.
+        for (const [offset, flags, checksum] of [[1, [0x20, 0], [0xb3, 0x3a]], [16, [0, 2], [0x57, 0]], [0, [0, 0], [0xb3, 0x3a]]]) {
+            const translated = library.ipv6ToIpv4(fragment(17, offset), prefixes);
+            expect([...translated.subarray(2, 8)], [0, 36, 0x12, 0x34, ...flags]);
+            expect([...translated.subarray(20)], [...message.slice(0, 6), ...checksum, ...message.slice(8)]);
+        }
+        const { status, message: text } = thrown(() => library.ipv6ToIpv4(fragment(58, 1), prefixes), library.EtherparseError);
+        expect([status, text], [Status.SIIT_ICMP_FRAGMENT, "Translation Error: a fragment of an ICMP message is not translated."]);
+    },
+
     /** The memory grows with its input, from call to call. */
     growth() {
         for (const length of [0, 60000, 65536, 65528, 1000000, 3, 5000001]) {

@@ -371,6 +371,19 @@ static void call_icmp_errors(void)
     (void)(etherparse_icmpv6_error_about(packet, len, &header6, router6, 64, room, sizeof room, &written, &error) == 0);
 }
 
+/* Translates the packet between IPv4 and IPv6, with a prefix of each length. */
+static void call_between_versions(void)
+{
+    static const uint8_t lens[7] = {32, 40, 48, 56, 64, 96, 33};
+    static uint8_t room[ROOM + 1280];
+    etherparse_prefix64 prefix = {{0x20, 1, 0x0d, 0xb8}, 0};
+    etherparse_prefix64 well_known = {{0, 0x64, 0xff, 0x9b}, 96};
+    size_t written;
+    prefix.len = lens[below(7)];
+    (void)(etherparse_ipv4_to_ipv6(packet, len, &prefix, &well_known, room, sizeof room, &written, &error) == 0);
+    (void)(etherparse_ipv6_to_ipv4(packet, len, &well_known, &prefix, 7, room, sizeof room, &written, &error) == 0);
+}
+
 /* Tests whether the checksum is partial, stores the right checksum, and lowers the hop limit and the maximum segment size. */
 static void call_packet_checksum(void)
 {
@@ -442,6 +455,7 @@ static void call_all(void)
     (void)(etherparse_ipv4_header_checksum_test(packet, len, &error) == 0);
     call_packet_checksum();
     call_icmp_errors();
+    call_between_versions();
     call_sums();
     if (etherparse_transport_in_ip_lax(packet, len, &found, &error) != ETHERPARSE_OK)
         return;

@@ -217,6 +217,11 @@ function tcpPacket(bytes) {
     return { packet: { header, options_offset: 20, options_len: options.length, ...payload } };
 }
 
+/** A prefix as a function that translates takes it. */
+function prefixOf({ address, len }) {
+    return `${library.addressText(Uint8Array.from(address))}/${len}`;
+}
+
 /** A header as a function that writes it takes it. */
 function headerOf(header) {
     const { bytes4to7, ...fields } = renamed(header, camel);
@@ -384,6 +389,10 @@ const CALLS = {
     },
     fragment_read: ({ bytes }) => ({ fragment: fragmentOf(library.readFragment(bytes), bytes) }),
     reassembly_packet: ({ packets, lens }) => ({ buffer: library.reassemble(partsOf(packets, lens)) }),
+    ipv4_to_ipv6: ({ packet, source, destination }) =>
+        ({ buffer: library.ipv4ToIpv6(packet, { source: prefixOf(source), destination: prefixOf(destination) }) }),
+    ipv6_to_ipv4: ({ packet, source, destination, identification }) =>
+        ({ buffer: library.ipv6ToIpv4(packet, { source: prefixOf(source), destination: prefixOf(destination), identification }) }),
     icmpv4_error_about: ({ packet, message, source, time_to_live: hopLimit }) =>
         ({ buffer: library.icmpv4ErrorAbout(packet, headerOf(message), source, { hopLimit }) }),
     icmpv6_error_about: ({ packet, message, source, hop_limit: hopLimit }) =>

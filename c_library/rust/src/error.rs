@@ -228,6 +228,48 @@ pub enum ErrorKind {
     SegmentSizeNoSyn,
     /// The options of the segment contain no maximum segment size.
     SegmentSizeNoOption,
+    /// The length of a prefix is not 32, 40, 48, 56, 64 or 96 bits.
+    PrefixLength,
+    /// Bits 64 to 71 of a prefix are not 0.
+    PrefixReservedOctet,
+    /// A bit after a prefix is not 0.
+    PrefixSuffix,
+    /// The packet is not translated between IPv4 and IPv6, because it does not begin with a whole header of the IP version that the call
+    /// reads.
+    SiitNoHeader,
+    /// The packet is not translated between IPv4 and IPv6, because the checksum of its IPv4 header is wrong.
+    SiitHeaderChecksum,
+    /// The packet is not translated from IPv4 to IPv6, because it is a fragment.
+    SiitFragment,
+    /// The packet is not translated from IPv6 to IPv4, because an extension header follows its fragment header.
+    SiitExtensionHeader,
+    /// The packet is not translated from IPv6 to IPv4, because its payload length is above 65,515.
+    SiitPayloadLength,
+    /// The packet is not translated between IPv4 and IPv6, because its time to live or hop limit is 0 or 1.
+    SiitTimeExceeded,
+    /// The packet is not translated between IPv4 and IPv6, because its source is not the address of a host.
+    SiitSource,
+    /// The packet is not translated between IPv4 and IPv6, because its destination is not the address of a host.
+    SiitDestination,
+    /// The packet is not translated from IPv6 to IPv4, because an address contains no IPv4 address after its prefix.
+    SiitNotEmbedded,
+    /// The packet is not translated between IPv4 and IPv6, because an IPv4 address is not global, and its prefix is the well-known prefix.
+    SiitNotGlobal,
+    /// The ICMP error is not translated between IPv4 and IPv6, because it contains an extension.
+    SiitIcmpExtension,
+    /// The ICMP parameter problem is not translated between IPv4 and IPv6, because its pointer has no translation.
+    SiitIcmpPointer,
+    /// The packet is not translated between IPv4 and IPv6, because the packet, or the packet that it quotes, ends within its transport
+    /// header.
+    SiitTransportHeader,
+    /// The packet is not translated from IPv4 to IPv6, because it has no UDP checksum, and its UDP length is wrong.
+    SiitUdpLength,
+    /// The packet is not translated from IPv6 to IPv4, because it has no UDP checksum.
+    SiitNoUdpChecksum,
+    /// The ICMP message is not translated between IPv4 and IPv6.
+    SiitIcmpMessage,
+    /// The ICMP error is not translated between IPv4 and IPv6, because the packet that it quotes can't be translated.
+    SiitQuotedPacket,
     /// The packet is whole, so it is not a fragment.
     ReassemblyNoFragment,
     /// The first fragment of an IPv6 packet ends within its transport header (RFC 7112).
@@ -277,6 +319,12 @@ pub enum ErrorKind {
         /// The actual length, or the place after the last byte.
         len: usize,
     },
+    /// The packet is not translated from IPv6 to IPv4, because an extension header ends after the packet.
+    SiitExtensionHeaderCutOff,
+    /// The packet is not translated from IPv6 to IPv4, because a routing header has segments left.
+    SiitSegmentsLeft,
+    /// The packet is not translated from IPv6 to IPv4, because it is a fragment of an ICMPv6 message.
+    SiitIcmpFragment,
     /// A status that this crate does not know.
     Other {
         /// The status.
@@ -445,6 +493,26 @@ impl Error {
             sys::STATUS_SEGMENT_SIZE_LATER_FRAGMENT => ErrorKind::SegmentSizeLaterFragment,
             sys::STATUS_SEGMENT_SIZE_NO_SYN => ErrorKind::SegmentSizeNoSyn,
             sys::STATUS_SEGMENT_SIZE_NO_OPTION => ErrorKind::SegmentSizeNoOption,
+            sys::STATUS_PREFIX_LENGTH => ErrorKind::PrefixLength,
+            sys::STATUS_PREFIX_RESERVED_OCTET => ErrorKind::PrefixReservedOctet,
+            sys::STATUS_PREFIX_SUFFIX => ErrorKind::PrefixSuffix,
+            sys::STATUS_SIIT_NO_HEADER => ErrorKind::SiitNoHeader,
+            sys::STATUS_SIIT_HEADER_CHECKSUM => ErrorKind::SiitHeaderChecksum,
+            sys::STATUS_SIIT_FRAGMENT => ErrorKind::SiitFragment,
+            sys::STATUS_SIIT_EXTENSION_HEADER => ErrorKind::SiitExtensionHeader,
+            sys::STATUS_SIIT_PAYLOAD_LENGTH => ErrorKind::SiitPayloadLength,
+            sys::STATUS_SIIT_TIME_EXCEEDED => ErrorKind::SiitTimeExceeded,
+            sys::STATUS_SIIT_SOURCE => ErrorKind::SiitSource,
+            sys::STATUS_SIIT_DESTINATION => ErrorKind::SiitDestination,
+            sys::STATUS_SIIT_NOT_EMBEDDED => ErrorKind::SiitNotEmbedded,
+            sys::STATUS_SIIT_NOT_GLOBAL => ErrorKind::SiitNotGlobal,
+            sys::STATUS_SIIT_ICMP_EXTENSION => ErrorKind::SiitIcmpExtension,
+            sys::STATUS_SIIT_ICMP_POINTER => ErrorKind::SiitIcmpPointer,
+            sys::STATUS_SIIT_TRANSPORT_HEADER => ErrorKind::SiitTransportHeader,
+            sys::STATUS_SIIT_UDP_LENGTH => ErrorKind::SiitUdpLength,
+            sys::STATUS_SIIT_NO_UDP_CHECKSUM => ErrorKind::SiitNoUdpChecksum,
+            sys::STATUS_SIIT_ICMP_MESSAGE => ErrorKind::SiitIcmpMessage,
+            sys::STATUS_SIIT_QUOTED_PACKET => ErrorKind::SiitQuotedPacket,
             sys::STATUS_REASSEMBLY_NO_FRAGMENT => ErrorKind::ReassemblyNoFragment,
             sys::STATUS_REASSEMBLY_HEADER_CHAIN_CUT_OFF => ErrorKind::ReassemblyHeaderChainCutOff { required_len, len },
             sys::STATUS_REASSEMBLY_OTHER_KEY => ErrorKind::ReassemblyOtherKey,
@@ -459,6 +527,9 @@ impl Error {
             sys::STATUS_REASSEMBLY_INCOMPLETE => ErrorKind::ReassemblyIncomplete,
             sys::STATUS_REASSEMBLY_HEADER => ErrorKind::ReassemblyHeader,
             sys::STATUS_REASSEMBLY_LENGTHS => ErrorKind::ReassemblyLengths { required_len, len },
+            sys::STATUS_SIIT_EXTENSION_HEADER_CUT_OFF => ErrorKind::SiitExtensionHeaderCutOff,
+            sys::STATUS_SIIT_SEGMENTS_LEFT => ErrorKind::SiitSegmentsLeft,
+            sys::STATUS_SIIT_ICMP_FRAGMENT => ErrorKind::SiitIcmpFragment,
             status => ErrorKind::Other { status },
         }
     }

@@ -922,3 +922,81 @@ pub fn write_packet_ipv6(header: &Ipv6Header, message: &[u8], buffer: &mut [u8])
     let status = unsafe { sys::etherparse_write_packet_ipv6(header, from, from_len, to, to_len, &mut written, &mut error) };
     answer(status, written, error)
 }
+
+/// A prefix of IPv6 addresses that contain an IPv4 address (RFC 6052, section 2.2): the address that begins with the prefix, and the length
+/// in bits.
+pub use crate::sys::Prefix64;
+
+/// Translates an IPv4 packet to IPv6 (RFC 7915, section 4), writes the IPv6 packet into the buffer, and returns its length. IPv4 addresses
+/// follow these prefixes. UDP, TCP and ICMP echo messages are translated, and ICMP errors with the packet that they quote. A message of
+/// another protocol is copied. A receiver accepts the message of the translated packet if it accepts the message of the packet.
+///
+/// Errors: `PrefixLength`, `PrefixReservedOctet`, `PrefixSuffix`, `SiitNoHeader`, the other errors that begin with `Siit`, `IpTotalLength`,
+/// `TranslateSourceRoute`, `IpPacketCutOff`, `BufferTooSmall`; the buffer is as it was.
+///
+/// ```
+/// use etherparse_transport_c::{ErrorKind, ip::{self, Prefix64}};
+/// let packet = [
+///     0x45, 0, 0, 31, 0, 7, 0, 0, 64, 17, 0xF7, 0x73, 192, 168, 1, 1, 192, 168, 1, 2, 0, 21, 4, 210, 0, 11, 0xB3, 0x3A, 97, 98, 99,
+/// ];
+/// let prefix = Prefix64 { address: [0x20, 1, 0x0D, 0xB8, 0, 0x64, 0, 0, 0, 0, 0, 0, 0, 0, 0, 0], len: 96 };
+/// let mut buffer = [0; 64];
+/// let len = ip::ipv4_to_ipv6(&packet, &prefix, &prefix, &mut buffer)?;
+/// assert_eq!((len, &buffer[..8], &buffer[20..24]), (51, &[0x60, 0, 0, 0, 0, 11, 17, 63][..], &[192, 168, 1, 1][..]));
+/// assert_eq!(ip::Packet::read(&buffer[..len])?.verdict, ip::ChecksumVerdict::Right);
+/// let mut back = [0; 64];
+/// assert_eq!(ip::ipv6_to_ipv4(&buffer[..len], &prefix, &prefix, 7, &mut back)?, 31);
+/// assert_eq!((&back[..8], &back[12..31]), (&packet[..8], &packet[12..]));
+/// let error = ip::ipv4_to_ipv6(&packet, &prefix, &Prefix64 { len: 33, ..prefix }, &mut buffer).unwrap_err();
+/// assert_eq!(error.kind(), ErrorKind::PrefixLength);
+/// # Ok::<(), etherparse_transport_c::Error>(())
+/// ```
+pub fn ipv4_to_ipv6(packet: &[u8], source: &Prefix64, destination: &Prefix64, buffer: &mut [u8]) -> Result<usize, Error> {
+    let (mut written, mut error) = (0, sys::Error::default());
+    let (start, len) = (packet.as_ptr(), packet.len());
+    let (room, room_len) = (buffer.as_mut_ptr(), buffer.len());
+    // SAFETY: each pointer is that of a live reference, and no two that are written through overlap another.
+    let status = unsafe { sys::etherparse_ipv4_to_ipv6(start, len, source, destination, room, room_len, &mut written, &mut error) };
+    answer(status, written, error)
+}
+
+/// Translates an IPv6 packet to IPv4 (RFC 7915, section 5), with this identification, otherwise as [`ipv4_to_ipv6`]. A fragment becomes a
+/// fragment with the identification of its fragment header.
+///
+/// Errors: as [`ipv4_to_ipv6`].
+///
+/// ```
+/// use etherparse_transport_c::{ErrorKind, ip::{self, Prefix64}};
+/// let mut fragment = [
+///     0x60, 0, 0, 0, 0, 16, 44, 63, 0x20, 1, 0x0D, 0xB8, 0, 0x64, 0, 0, 0, 0, 0, 0, 192, 168, 1, 1, 0x20, 1, 0x0D, 0xB8, 0, 0x64, 0, 0, 0, 0,
+///     0, 0, 192, 168, 1, 2, 17, 0, 0, 1, 0xAB, 0xCD, 0x12, 0x34, 0, 21, 4, 210, 0, 11, 0x57, 0,
+/// ];
+/// let prefix = Prefix64 { address: [0x20, 1, 0x0D, 0xB8, 0, 0x64, 0, 0, 0, 0, 0, 0, 0, 0, 0, 0], len: 96 };
+/// let mut buffer = [0; 28];
+/// // A first, a later and an atomic fragment: the flags and the offset, and the checksum, which a later fragment does not have.
+/// for (offset, flags, checksum) in [(1, [0x20, 0], [0xB3, 0x3A]), (16, [0, 2], [0x57, 0]), (0, [0, 0], [0xB3, 0x3A])] {
+///     fragment[43] = offset;
+///     assert_eq!(ip::ipv6_to_ipv4(&fragment, &prefix, &prefix, 7, &mut buffer)?, 28);
+///     assert_eq!((&buffer[4..6], &buffer[6..8], &buffer[26..]), (&[0x12, 0x34][..], &flags[..], &checksum[..]));
+/// }
+/// (fragment[40], fragment[43]) = (58, 1);
+/// let error = ip::ipv6_to_ipv4(&fragment, &prefix, &prefix, 7, &mut buffer).unwrap_err();
+/// assert_eq!(error.kind(), ErrorKind::SiitIcmpFragment);
+/// # Ok::<(), etherparse_transport_c::Error>(())
+/// ```
+pub fn ipv6_to_ipv4(
+    packet: &[u8],
+    source: &Prefix64,
+    destination: &Prefix64,
+    identification: u16,
+    buffer: &mut [u8],
+) -> Result<usize, Error> {
+    let (mut written, mut error) = (0, sys::Error::default());
+    let (start, len) = (packet.as_ptr(), packet.len());
+    let (room, room_len) = (buffer.as_mut_ptr(), buffer.len());
+    // SAFETY: each pointer is that of a live reference, and no two that are written through overlap another.
+    let status = unsafe {
+        sys::etherparse_ipv6_to_ipv4(start, len, source, destination, identification, room, room_len, &mut written, &mut error)
+    };
+    answer(status, written, error)
+}

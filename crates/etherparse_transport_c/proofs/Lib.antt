@@ -9,6 +9,7 @@ pub mod Ipv4HeaderLemmas
 pub mod PacketChecksumLemmas
 pub mod PacketVerdictLemmas
 pub mod QuotedPacketLemmas
+pub mod SiitLemmas
 pub mod SumLemmas
 pub mod TcpLemmas
 pub mod TcpOptionLemmas

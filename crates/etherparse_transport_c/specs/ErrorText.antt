@@ -16,6 +16,13 @@ use Rattle.etherparse_transport.specs.declared.err.packet.translate_error.Transl
 use Rattle.ip_part.specs.ErrorTexts.{ip_text}
 use Rattle.ip_part.specs.declared.ip_error.IpError.{IpError}
 use Rattle.ip_part.specs.declared.ip_error.IpError.TheVariants as ip
+use Rattle.ip_translation.specs.ErrorTexts.{address_text, packet_text, prefix_text, translation_text}
+use Rattle.ip_translation.specs.declared.address_error.AddressError.TheVariants as addresses
+use Rattle.ip_translation.specs.declared.packet_translation_error.PacketTranslationError.{PacketTranslationError}
+use Rattle.ip_translation.specs.declared.packet_translation_error.PacketTranslationError.TheVariants as siit
+use Rattle.ip_translation.specs.declared.prefix64_error.Prefix64Error.TheVariants as prefixes
+use Rattle.ip_translation.specs.declared.translation_error.TranslationError.{TranslationError}
+use Rattle.ip_translation.specs.declared.translation_error.TranslationError.TheVariants as headers
 use Rattle.net_base.specs.ErrorTexts.{header_text, len_text, option_text, options_text, value_text}
 use Rattle.net_base.specs.declared.err.layer.Layer.{Layer}
 use Rattle.net_base.specs.declared.err.layer.Layer.TheVariants as layers
@@ -69,6 +76,33 @@ build_text_in_c (build.Space required_len len) = buffer_text required_len len
 build_text_in_c build.Icmpv6InIpv4 = protocol_text numbers.protocol_icmpv6
 build_text_in_c build.Icmpv4InIpv6 = protocol_text numbers.protocol_icmpv4
 build_text_in_c error = build_text error
+
+-- the text for an ICMP message that is not translated between IPv4 and IPv6
+abbrev pub icmp_message_text : List ℕ
+icmp_message_text = codes "Translation Error: the ICMP message is not translated."
+
+-- the text for an ICMP error that quotes a packet that can't be translated between IPv4 and IPv6
+abbrev pub quoted_packet_text : List ℕ
+quoted_packet_text = codes "Translation Error: the packet that an ICMP error quotes can't be translated."
+
+-- The text for a header that is not translated between IPv4 and IPv6. A total length below the header length and a source route have the
+-- same texts in every call.
+abbrev pub siit_header_text_in_c : TranslationError → List ℕ
+siit_header_text_in_c (headers.TotalLength total_len header_len) = ip_text (ip.TotalLength total_len header_len)
+siit_header_text_in_c headers.SourceRoute = translate_text translate.SourceRoute
+siit_header_text_in_c error = translation_text error
+
+-- The text for a packet that is not translated between IPv4 and IPv6. A packet that is cut off and a buffer that is too small have the same
+-- texts in every call.
+abbrev pub siit_text_in_c : PacketTranslationError → List ℕ
+siit_text_in_c (siit.Header error) = siit_header_text_in_c error
+siit_text_in_c (siit.CutOff total_len len) = ip_text (ip.PacketCutOff total_len len)
+siit_text_in_c (siit.IcmpMessage type code) = icmp_message_text
+siit_text_in_c siit.NoQuotedHeader = quoted_packet_text
+siit_text_in_c (siit.QuotedHeader error) = quoted_packet_text
+siit_text_in_c (siit.QuotedIcmp type code) = quoted_packet_text
+siit_text_in_c (siit.Space required_len len) = buffer_text required_len len
+siit_text_in_c error = packet_text error
 
 -- ---- the error of the library in Rattle for an error in C, or `None` if no call returns these numbers
 
@@ -199,6 +233,42 @@ text_or other text (Some error) = text error
 abbrev pub untested_text_at : ℕ → List ℕ
 untested_text_at number = text_or (codes "Unknown error.") untested_text (untested_at number)
 
+-- The text for a packet whose message or extension header is not translated between IPv4 and IPv6: each status from 69 to 75 and from 90 to
+-- 92. An ICMP message, and a packet that an ICMP error quotes, have texts without numbers.
+unfoldable pub siit_message_text : EtherparseError → List ℕ
+siit_message_text error =
+    if error.status == numbers.status_siit_icmp_extension then packet_text (siit.IcmpExtension error.actual)
+    else if error.status == numbers.status_siit_icmp_pointer then packet_text (siit.IcmpPointer error.actual)
+    else if error.status == numbers.status_siit_transport_header then packet_text (siit.TransportHeader error.required_len error.len)
+    else if error.status == numbers.status_siit_udp_length then packet_text (siit.UdpLength error.actual error.len)
+    else if error.status == numbers.status_siit_no_udp_checksum then packet_text siit.NoUdpChecksum
+    else if error.status == numbers.status_siit_icmp_message then icmp_message_text
+    else if error.status == numbers.status_siit_quoted_packet then quoted_packet_text
+    else if error.status == numbers.status_siit_extension_header_cut_off
+    then packet_text (siit.ExtensionHeaderCutOff error.actual error.required_len error.len)
+    else if error.status == numbers.status_siit_segments_left then packet_text (siit.SegmentsLeft error.actual)
+    else if error.status == numbers.status_siit_icmp_fragment then packet_text siit.IcmpFragment
+    else joining_text error
+
+-- the text for a refused prefix, and for a packet whose header is not translated between IPv4 and IPv6: each status from 56 to 68
+unfoldable pub siit_header_text : EtherparseError → List ℕ
+siit_header_text error =
+    if error.status == numbers.status_prefix_length then prefix_text (prefixes.Len error.actual)
+    else if error.status == numbers.status_prefix_reserved_octet then prefix_text prefixes.ReservedOctet
+    else if error.status == numbers.status_prefix_suffix then prefix_text prefixes.SuffixBits
+    else if error.status == numbers.status_siit_no_header
+    then (if error.actual == 4 then packet_text siit.NoIpv4Header else packet_text siit.NoIpv6Header)
+    else if error.status == numbers.status_siit_header_checksum then translation_text headers.HeaderChecksum
+    else if error.status == numbers.status_siit_fragment then translation_text headers.Fragment
+    else if error.status == numbers.status_siit_extension_header then translation_text (headers.ExtensionHeader error.actual)
+    else if error.status == numbers.status_siit_payload_length then translation_text (headers.PayloadLength error.actual)
+    else if error.status == numbers.status_siit_time_exceeded then translation_text headers.TimeExceeded
+    else if error.status == numbers.status_siit_source then translation_text headers.IllegalSource
+    else if error.status == numbers.status_siit_destination then translation_text headers.IllegalDestination
+    else if error.status == numbers.status_siit_not_embedded then address_text addresses.NotEmbedded
+    else if error.status == numbers.status_siit_not_global then address_text addresses.NotGlobal
+    else siit_message_text error
+
 -- The text of each status above 43. These statuses were added later, and the ranges in `text_of` do not include them.
 unfoldable pub later_text : EtherparseError → List ℕ
 later_text error =
@@ -214,7 +284,7 @@ later_text error =
     else if error.status == numbers.status_segment_size_later_fragment then lower_maximum_segment_size_text segment_size.LaterFragment
     else if error.status == numbers.status_segment_size_no_syn then lower_maximum_segment_size_text segment_size.NoSyn
     else if error.status == numbers.status_segment_size_no_option then lower_maximum_segment_size_text segment_size.NoOption
-    else joining_text error
+    else siit_header_text error
 
 -- the text of an error that exists only in C, or whose status is above 43, or whose numbers no call returns
 abbrev pub own_text : EtherparseError → List ℕ

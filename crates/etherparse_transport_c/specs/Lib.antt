@@ -20,6 +20,8 @@ pub mod Reassemblies
 pub mod ReassemblyTexts
 pub mod ReassemblyWords
 pub mod SegmentSize
+pub mod Siit
+pub mod SiitWords
 pub mod StatusName
 pub mod StatusText
 pub mod Sums

@@ -179,6 +179,86 @@ status_segment_size_no_syn = 54
 abbrev pub status_segment_size_no_option : ℕ
 status_segment_size_no_option = 55
 
+-- the length of a prefix is not allowed
+abbrev pub status_prefix_length : ℕ
+status_prefix_length = 56
+
+-- bits 64 to 71 of a prefix are not 0
+abbrev pub status_prefix_reserved_octet : ℕ
+status_prefix_reserved_octet = 57
+
+-- a bit after a prefix is not 0
+abbrev pub status_prefix_suffix : ℕ
+status_prefix_suffix = 58
+
+-- a packet does not begin with a whole header of the IP version that the call reads
+abbrev pub status_siit_no_header : ℕ
+status_siit_no_header = 59
+
+-- the checksum of the IPv4 header is wrong
+abbrev pub status_siit_header_checksum : ℕ
+status_siit_header_checksum = 60
+
+-- the packet is a fragment
+abbrev pub status_siit_fragment : ℕ
+status_siit_fragment = 61
+
+-- an extension header follows the fragment header
+abbrev pub status_siit_extension_header : ℕ
+status_siit_extension_header = 62
+
+-- the payload length is too great for IPv4
+abbrev pub status_siit_payload_length : ℕ
+status_siit_payload_length = 63
+
+-- the time to live or the hop limit is 0 or 1
+abbrev pub status_siit_time_exceeded : ℕ
+status_siit_time_exceeded = 64
+
+-- the source is not the address of a host
+abbrev pub status_siit_source : ℕ
+status_siit_source = 65
+
+-- the destination is not the address of a host
+abbrev pub status_siit_destination : ℕ
+status_siit_destination = 66
+
+-- an IPv6 address contains no IPv4 address
+abbrev pub status_siit_not_embedded : ℕ
+status_siit_not_embedded = 67
+
+-- an address with the well-known prefix is not global
+abbrev pub status_siit_not_global : ℕ
+status_siit_not_global = 68
+
+-- an ICMP error contains an extension
+abbrev pub status_siit_icmp_extension : ℕ
+status_siit_icmp_extension = 69
+
+-- the pointer of an ICMP parameter problem has no translation
+abbrev pub status_siit_icmp_pointer : ℕ
+status_siit_icmp_pointer = 70
+
+-- a transport header is cut off
+abbrev pub status_siit_transport_header : ℕ
+status_siit_transport_header = 71
+
+-- a UDP packet has no checksum and a wrong length
+abbrev pub status_siit_udp_length : ℕ
+status_siit_udp_length = 72
+
+-- a UDP packet over IPv6 has no checksum
+abbrev pub status_siit_no_udp_checksum : ℕ
+status_siit_no_udp_checksum = 73
+
+-- an ICMP message is not translated
+abbrev pub status_siit_icmp_message : ℕ
+status_siit_icmp_message = 74
+
+-- the packet that an ICMP error quotes can't be translated
+abbrev pub status_siit_quoted_packet : ℕ
+status_siit_quoted_packet = 75
+
 -- the packet is whole, so it is not a fragment
 abbrev pub status_reassembly_no_fragment : ℕ
 status_reassembly_no_fragment = 76
@@ -234,6 +314,18 @@ status_reassembly_header = 88
 -- the lengths of the packets count more bytes than there are
 abbrev pub status_reassembly_lengths : ℕ
 status_reassembly_lengths = 89
+
+-- an extension header is cut off
+abbrev pub status_siit_extension_header_cut_off : ℕ
+status_siit_extension_header_cut_off = 90
+
+-- a routing header has segments left
+abbrev pub status_siit_segments_left : ℕ
+status_siit_segments_left = 91
+
+-- a fragment of an ICMP message is not translated
+abbrev pub status_siit_icmp_fragment : ℕ
+status_siit_icmp_fragment = 92
 
 -- ---- layers whose length can be wrong; 8 and above are reserved for IP headers
 

@@ -1,7 +1,7 @@
 -- The names of statuses, as the C header spells them.
 use Rattle.std.specs.Prelude.{ℕ, ◌==◌, if◌then◌else◌, List, codes}
 use Rattle.etherparse_transport_c.specs.Numbers as numbers
-use Rattle.etherparse_transport_c.specs.ReassemblyWords.{joining_status_name}
+use Rattle.etherparse_transport_c.specs.SiitWords.{siit_status_name}
 
 -- the maximum length of a name, in bytes; names that later versions add are not longer
 abbrev pub max_status_name_len : ℕ
@@ -60,4 +60,4 @@ status_name status =
     else if status == numbers.status_segment_size_later_fragment then codes "ETHERPARSE_STATUS_SEGMENT_SIZE_LATER_FRAGMENT"
     else if status == numbers.status_segment_size_no_syn then codes "ETHERPARSE_STATUS_SEGMENT_SIZE_NO_SYN"
     else if status == numbers.status_segment_size_no_option then codes "ETHERPARSE_STATUS_SEGMENT_SIZE_NO_OPTION"
-    else joining_status_name status
+    else siit_status_name status

@@ -1,7 +1,7 @@
 -- The meanings of statuses, in a few words.
 use Rattle.std.specs.Prelude.{ℕ, ◌==◌, if◌then◌else◌, List, codes}
 use Rattle.etherparse_transport_c.specs.Numbers as numbers
-use Rattle.etherparse_transport_c.specs.ReassemblyWords.{joining_status_text}
+use Rattle.etherparse_transport_c.specs.SiitWords.{siit_status_text}
 
 -- the maximum length of a text, in bytes; texts that later versions add are not longer
 abbrev pub max_status_text_len : ℕ
@@ -65,4 +65,4 @@ status_text status =
     else if status == numbers.status_segment_size_later_fragment then codes "a later fragment has no maximum segment size"
     else if status == numbers.status_segment_size_no_syn then codes "the segment is not a SYN"
     else if status == numbers.status_segment_size_no_option then codes "the segment contains no maximum segment size"
-    else joining_status_text status
+    else siit_status_text status

@@ -15,7 +15,9 @@ use etherparse_transport::err::packet::{
 };
 use etherparse_transport::err::tcp::HeaderError;
 use etherparse_transport::err::{ErrorText, Layer, LenError, ValueTooBigError, ValueType};
-use etherparse_transport::ip::IpError;
+use etherparse_transport::ip::{
+    AddressError, IpError, PacketTranslationError, Prefix64Error, TranslationError,
+};
 use etherparse_transport::{
     IpNumber, LenSource, TcpOptionReadError, TcpOptionWriteError, Untested,
 };
@@ -235,6 +237,97 @@ fn untested_text(number: usize) -> ErrorText
     }
 }
 
+/// Returns the text for a packet whose message or extension header was not translated between IPv4 and IPv6: the text of each status from
+/// 69 to 75 and from 90 to 92.
+#[tactic(auto, unfolding(crate::specs::ErrorText::siit_message_text))]
+fn siit_message_text(error: &EtherparseError) -> ErrorText
+    ensures { reads_as result ≡ specs.siit_message_text error.now }
+{
+    match error.status {
+        status::SIIT_ICMP_EXTENSION => ErrorText::from_parts(&[
+            Words("Translation Error: an ICMP error with an extension, with length field "),
+            Number(error.actual),
+            Words(", is not translated."),
+        ]),
+        status::SIIT_ICMP_POINTER => ErrorText::from_parts(&[
+            Words("Translation Error: the pointer "),
+            Number(error.actual),
+            Words(" has no translation."),
+        ]),
+        status::SIIT_TRANSPORT_HEADER => PacketTranslationError::TransportHeader {
+            required_len: error.required_len,
+            len: error.len,
+        }
+        .text(),
+        status::SIIT_UDP_LENGTH => PacketTranslationError::UdpLength {
+            length: error.actual,
+            len: error.len,
+        }
+        .text(),
+        status::SIIT_NO_UDP_CHECKSUM => PacketTranslationError::NoUdpChecksum.text(),
+        status::SIIT_ICMP_MESSAGE => ErrorText::from_words(
+            "Translation Error: the ICMP message is not translated.",
+        ),
+        status::SIIT_QUOTED_PACKET => ErrorText::from_words(
+            "Translation Error: the packet that an ICMP error quotes can't be translated.",
+        ),
+        status::SIIT_EXTENSION_HEADER_CUT_OFF => ErrorText::from_parts(&[
+            Words("Translation Error: the IPv6 extension header "),
+            Number(error.actual),
+            Words(" has "),
+            Number(error.required_len),
+            Words(" bytes, and there are "),
+            Number(error.len),
+            Words("."),
+        ]),
+        status::SIIT_SEGMENTS_LEFT => PacketTranslationError::SegmentsLeft {
+            pointer: error.actual,
+        }
+        .text(),
+        status::SIIT_ICMP_FRAGMENT => PacketTranslationError::IcmpFragment.text(),
+        _ => joining_text(error),
+    }
+}
+
+/// Returns the text for a packet whose header was not translated between IPv4 and IPv6, and for a refused prefix: the text of each status
+/// from 56 to 68.
+#[tactic(auto, unfolding(crate::specs::ErrorText::siit_header_text))]
+fn siit_header_text(error: &EtherparseError) -> ErrorText
+    ensures { reads_as result ≡ specs.siit_header_text error.now }
+{
+    match error.status {
+        status::PREFIX_LENGTH => ErrorText::from_parts(&[
+            Words("Prefix Error: the length is "),
+            Number(error.actual),
+            Words(" bits, and only 32, 40, 48, 56, 64 and 96 are allowed."),
+        ]),
+        status::PREFIX_RESERVED_OCTET => Prefix64Error::ReservedOctet.text(),
+        status::PREFIX_SUFFIX => Prefix64Error::SuffixBits.text(),
+        status::SIIT_NO_HEADER if error.actual == 4 => {
+            PacketTranslationError::NoIpv4Header.text()
+        }
+        status::SIIT_NO_HEADER => PacketTranslationError::NoIpv6Header.text(),
+        status::SIIT_HEADER_CHECKSUM => TranslationError::HeaderChecksum.text(),
+        status::SIIT_FRAGMENT => TranslationError::Fragment.text(),
+        status::SIIT_EXTENSION_HEADER => ErrorText::from_parts(&[
+            Words("Translation Error: the IPv6 extension header "),
+            Number(error.actual),
+            Words(" is not translated."),
+        ]),
+        status::SIIT_PAYLOAD_LENGTH => ErrorText::from_parts(&[
+            Words("Translation Error: the payload length "),
+            Number(error.actual),
+            Words(" is above 65515."),
+        ]),
+        status::SIIT_TIME_EXCEEDED => TranslationError::TimeExceeded.text(),
+        status::SIIT_SOURCE => TranslationError::IllegalSource.text(),
+        status::SIIT_DESTINATION => TranslationError::IllegalDestination.text(),
+        status::SIIT_NOT_EMBEDDED => AddressError::NotEmbedded.text(),
+        status::SIIT_NOT_GLOBAL => AddressError::NotGlobal.text(),
+        _ => siit_message_text(error),
+    }
+}
+
 /// Returns the text of an error whose status is above 43. These statuses were added later, and the ranges in `text` do not include them.
 #[tactic(auto, unfolding(crate::specs::ErrorText::later_text))]
 fn later_text(error: &EtherparseError) -> ErrorText
@@ -259,7 +352,7 @@ fn later_text(error: &EtherparseError) -> ErrorText
         status::SEGMENT_SIZE_LATER_FRAGMENT => LowerMaximumSegmentSizeError::LaterFragment.text(),
         status::SEGMENT_SIZE_NO_SYN => LowerMaximumSegmentSizeError::NoSyn.text(),
         status::SEGMENT_SIZE_NO_OPTION => LowerMaximumSegmentSizeError::NoOption.text(),
-        _ => joining_text(error),
+        _ => siit_header_text(error),
     }
 }
 

@@ -100,7 +100,7 @@ fn fields_of(fragment: &Fragment<'_>) -> EtherparseFragment
 }
 
 /// Returns the error for a fragment whose contents are not read.
-#[tactic(auto, unfolding(crate::specs::ErrorText::later_text, crate::specs::ReassemblyTexts::joining_text))]
+#[tactic(auto, unfolding(crate::specs::ErrorText::later_text, crate::specs::ErrorText::siit_header_text, crate::specs::ErrorText::siit_message_text, crate::specs::ReassemblyTexts::joining_text))]
 fn of_fragment(error: &FragmentError) -> EtherparseError
     ensures numbers { result ≡ specs.of_fragment error.now }
     ensures text { text_of result ≡ fragment_text error.now }

@@ -35,6 +35,8 @@ mod protocol;
 mod quoted_packet;
 mod reassembled;
 mod segment_size;
+mod siit;
+mod siit_words;
 mod status;
 mod status_name;
 mod status_text;

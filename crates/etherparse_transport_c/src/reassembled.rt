@@ -146,7 +146,7 @@ fn add_packet(reassembly: &mut Reassembly<'_>, packet: &[u8]) -> Result<(), Ethe
 }
 
 /// Returns the error for a fragment that is not added.
-#[tactic(auto, unfolding(crate::specs::ErrorText::later_text, crate::specs::ReassemblyTexts::joining_text))]
+#[tactic(auto, unfolding(crate::specs::ErrorText::later_text, crate::specs::ErrorText::siit_header_text, crate::specs::ErrorText::siit_message_text, crate::specs::ReassemblyTexts::joining_text))]
 fn of_reassembly(error: &ReassemblyError) -> EtherparseError
     ensures numbers { result ≡ specs.of_reassembly error.now }
     ensures text { text_of result ≡ reassembly_text error.now }

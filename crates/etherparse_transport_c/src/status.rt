@@ -158,6 +158,66 @@ pub const SEGMENT_SIZE_NO_SYN: u32 = 54;
 /// The options of the segment contain no maximum segment size.
 pub const SEGMENT_SIZE_NO_OPTION: u32 = 55;
 
+/// The length of a prefix is not 32, 40, 48, 56, 64 or 96 bits.
+pub const PREFIX_LENGTH: u32 = 56;
+
+/// Bits 64 to 71 of a prefix are not 0.
+pub const PREFIX_RESERVED_OCTET: u32 = 57;
+
+/// A bit after a prefix is not 0.
+pub const PREFIX_SUFFIX: u32 = 58;
+
+/// The packet is not translated between IPv4 and IPv6, because it does not begin with a whole header of the IP version that the call reads.
+pub const SIIT_NO_HEADER: u32 = 59;
+
+/// The packet is not translated between IPv4 and IPv6, because the checksum of its IPv4 header is wrong.
+pub const SIIT_HEADER_CHECKSUM: u32 = 60;
+
+/// The packet is not translated from IPv4 to IPv6, because it is a fragment.
+pub const SIIT_FRAGMENT: u32 = 61;
+
+/// The packet is not translated from IPv6 to IPv4, because an extension header follows its fragment header.
+pub const SIIT_EXTENSION_HEADER: u32 = 62;
+
+/// The packet is not translated from IPv6 to IPv4, because its payload length is above 65,515.
+pub const SIIT_PAYLOAD_LENGTH: u32 = 63;
+
+/// The packet is not translated between IPv4 and IPv6, because its time to live or hop limit is 0 or 1.
+pub const SIIT_TIME_EXCEEDED: u32 = 64;
+
+/// The packet is not translated between IPv4 and IPv6, because its source is not the address of a host.
+pub const SIIT_SOURCE: u32 = 65;
+
+/// The packet is not translated between IPv4 and IPv6, because its destination is not the address of a host.
+pub const SIIT_DESTINATION: u32 = 66;
+
+/// The packet is not translated from IPv6 to IPv4, because an address contains no IPv4 address after its prefix.
+pub const SIIT_NOT_EMBEDDED: u32 = 67;
+
+/// The packet is not translated between IPv4 and IPv6, because an IPv4 address is not global, and its prefix is the well-known prefix.
+pub const SIIT_NOT_GLOBAL: u32 = 68;
+
+/// The ICMP error is not translated between IPv4 and IPv6, because it contains an extension.
+pub const SIIT_ICMP_EXTENSION: u32 = 69;
+
+/// The ICMP parameter problem is not translated between IPv4 and IPv6, because its pointer has no translation.
+pub const SIIT_ICMP_POINTER: u32 = 70;
+
+/// The packet is not translated between IPv4 and IPv6, because the packet, or the packet that it quotes, ends within its transport header.
+pub const SIIT_TRANSPORT_HEADER: u32 = 71;
+
+/// The packet is not translated from IPv4 to IPv6, because it has no UDP checksum, and its UDP length is wrong.
+pub const SIIT_UDP_LENGTH: u32 = 72;
+
+/// The packet is not translated from IPv6 to IPv4, because it has no UDP checksum.
+pub const SIIT_NO_UDP_CHECKSUM: u32 = 73;
+
+/// The ICMP message is not translated between IPv4 and IPv6.
+pub const SIIT_ICMP_MESSAGE: u32 = 74;
+
+/// The ICMP error is not translated between IPv4 and IPv6, because the packet that it quotes can't be translated.
+pub const SIIT_QUOTED_PACKET: u32 = 75;
+
 /// The packet is whole, so it is not a fragment.
 pub const REASSEMBLY_NO_FRAGMENT: u32 = 76;
 
@@ -199,3 +259,12 @@ pub const REASSEMBLY_HEADER: u32 = 88;
 
 /// The lengths of the packets count more bytes than there are.
 pub const REASSEMBLY_LENGTHS: u32 = 89;
+
+/// The packet is not translated from IPv6 to IPv4, because an extension header ends after the packet.
+pub const SIIT_EXTENSION_HEADER_CUT_OFF: u32 = 90;
+
+/// The packet is not translated from IPv6 to IPv4, because a routing header has segments left.
+pub const SIIT_SEGMENTS_LEFT: u32 = 91;
+
+/// The packet is not translated from IPv6 to IPv4, because it is a fragment of an ICMPv6 message.
+pub const SIIT_ICMP_FRAGMENT: u32 = 92;

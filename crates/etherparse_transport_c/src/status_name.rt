@@ -2,7 +2,7 @@ ghost use Rattle.std.specs.Prelude.{◌≡◌, ◌≤◌, length};
 ghost use Rattle.etherparse_transport_c.specs.StatusName.{max_status_name_len, status_name};
 ghost use Rattle.etherparse_transport_c.specs.Text.{with_string};
 
-use crate::joining_words::joining_status_name;
+use crate::siit_words::siit_status_name;
 use crate::status;
 use crate::text::{Char, put_string};
 
@@ -62,7 +62,7 @@ fn name(status: u32) -> &'static str
         status::SEGMENT_SIZE_LATER_FRAGMENT => "ETHERPARSE_STATUS_SEGMENT_SIZE_LATER_FRAGMENT",
         status::SEGMENT_SIZE_NO_SYN => "ETHERPARSE_STATUS_SEGMENT_SIZE_NO_SYN",
         status::SEGMENT_SIZE_NO_OPTION => "ETHERPARSE_STATUS_SEGMENT_SIZE_NO_OPTION",
-        _ => joining_status_name(status),
+        _ => siit_status_name(status),
     }
 }
 

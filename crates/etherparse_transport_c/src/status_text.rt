@@ -2,7 +2,7 @@ ghost use Rattle.std.specs.Prelude.{◌≡◌, ◌≤◌, length};
 ghost use Rattle.etherparse_transport_c.specs.StatusText.{max_status_text_len, status_text};
 ghost use Rattle.etherparse_transport_c.specs.Text.{with_string};
 
-use crate::joining_words::joining_status_text;
+use crate::siit_words::siit_status_text;
 use crate::status;
 use crate::text::{Char, put_string};
 
@@ -80,7 +80,7 @@ fn meaning(status: u32) -> &'static str
         status::SEGMENT_SIZE_LATER_FRAGMENT => "a later fragment has no maximum segment size",
         status::SEGMENT_SIZE_NO_SYN => "the segment is not a SYN",
         status::SEGMENT_SIZE_NO_OPTION => "the segment contains no maximum segment size",
-        _ => joining_status_text(status),
+        _ => siit_status_text(status),
     }
 }
 

@@ -66,6 +66,26 @@ pub const STATUS_ICMP_ERROR_SOURCE: u32 = 52;
 pub const STATUS_SEGMENT_SIZE_LATER_FRAGMENT: u32 = 53;
 pub const STATUS_SEGMENT_SIZE_NO_SYN: u32 = 54;
 pub const STATUS_SEGMENT_SIZE_NO_OPTION: u32 = 55;
+pub const STATUS_PREFIX_LENGTH: u32 = 56;
+pub const STATUS_PREFIX_RESERVED_OCTET: u32 = 57;
+pub const STATUS_PREFIX_SUFFIX: u32 = 58;
+pub const STATUS_SIIT_NO_HEADER: u32 = 59;
+pub const STATUS_SIIT_HEADER_CHECKSUM: u32 = 60;
+pub const STATUS_SIIT_FRAGMENT: u32 = 61;
+pub const STATUS_SIIT_EXTENSION_HEADER: u32 = 62;
+pub const STATUS_SIIT_PAYLOAD_LENGTH: u32 = 63;
+pub const STATUS_SIIT_TIME_EXCEEDED: u32 = 64;
+pub const STATUS_SIIT_SOURCE: u32 = 65;
+pub const STATUS_SIIT_DESTINATION: u32 = 66;
+pub const STATUS_SIIT_NOT_EMBEDDED: u32 = 67;
+pub const STATUS_SIIT_NOT_GLOBAL: u32 = 68;
+pub const STATUS_SIIT_ICMP_EXTENSION: u32 = 69;
+pub const STATUS_SIIT_ICMP_POINTER: u32 = 70;
+pub const STATUS_SIIT_TRANSPORT_HEADER: u32 = 71;
+pub const STATUS_SIIT_UDP_LENGTH: u32 = 72;
+pub const STATUS_SIIT_NO_UDP_CHECKSUM: u32 = 73;
+pub const STATUS_SIIT_ICMP_MESSAGE: u32 = 74;
+pub const STATUS_SIIT_QUOTED_PACKET: u32 = 75;
 pub const STATUS_REASSEMBLY_NO_FRAGMENT: u32 = 76;
 pub const STATUS_REASSEMBLY_HEADER_CHAIN_CUT_OFF: u32 = 77;
 pub const STATUS_REASSEMBLY_OTHER_KEY: u32 = 78;
@@ -80,6 +100,9 @@ pub const STATUS_REASSEMBLY_TOO_MANY_FRAGMENTS: u32 = 86;
 pub const STATUS_REASSEMBLY_INCOMPLETE: u32 = 87;
 pub const STATUS_REASSEMBLY_HEADER: u32 = 88;
 pub const STATUS_REASSEMBLY_LENGTHS: u32 = 89;
+pub const STATUS_SIIT_EXTENSION_HEADER_CUT_OFF: u32 = 90;
+pub const STATUS_SIIT_SEGMENTS_LEFT: u32 = 91;
+pub const STATUS_SIIT_ICMP_FRAGMENT: u32 = 92;
 
 // ---- Layers: which length was wrong. 8 and up are kept for the headers of IP.
 
@@ -582,6 +605,16 @@ pub struct IpAddresses {
     pub destination: [u8; 16],
 }
 
+/// A prefix of IPv6 addresses that contain an IPv4 address (RFC 6052, section 2.2).
+#[repr(C)]
+#[derive(Clone, Copy, Debug, Default, PartialEq, Eq, Hash)]
+pub struct Prefix64 {
+    /// The address that begins with the prefix, and whose other bits are 0.
+    pub address: [u8; 16],
+    /// The length of the prefix in bits.
+    pub len: u8,
+}
+
 /// What a translation replaces in an IPv4 packet. A part is replaced if its flag is not 0.
 #[repr(C)]
 #[derive(Clone, Copy, Debug, Default, PartialEq, Eq, Hash)]
@@ -886,6 +919,29 @@ extern "C" {
         packet_len: usize,
         translation: *const Ipv6Translation,
         quoted: *const Ipv6Translation,
+        error: *mut Error,
+    ) -> u32;
+    /// Translates an IPv4 packet to IPv6, and writes the length of the IPv6 packet.
+    pub fn etherparse_ipv4_to_ipv6(
+        packet: *const u8,
+        packet_len: usize,
+        source: *const Prefix64,
+        destination: *const Prefix64,
+        buffer: *mut u8,
+        buffer_len: usize,
+        written: *mut usize,
+        error: *mut Error,
+    ) -> u32;
+    /// Translates an IPv6 packet to IPv4, and writes the length of the IPv4 packet.
+    pub fn etherparse_ipv6_to_ipv4(
+        packet: *const u8,
+        packet_len: usize,
+        source: *const Prefix64,
+        destination: *const Prefix64,
+        identification: u16,
+        buffer: *mut u8,
+        buffer_len: usize,
+        written: *mut usize,
         error: *mut Error,
     ) -> u32;
     /// Writes the text of an error with a zero byte at its end, and returns its length without that byte. Of a text that the buffer is too
