@@ -1,12 +1,13 @@
 //! Copies of the functions in docs/EXAMPLES.md, and their results.
 
-use crate::expect::{bytes_from, bytes_to, expect_equal, expect_ok, expect_some};
+use crate::expect::{bytes_from, bytes_to, expect_bytes, expect_equal, expect_ok, expect_some};
 use etherparse_transport::ChecksumVerdict::{Absent, Right};
 use etherparse_transport::err::ValueTooBigError;
 use etherparse_transport::err::packet::{BuildSliceWriteError, TranslateError};
 use etherparse_transport::ip::{
-    IpAddresses, Ipv4Translation, answer_echo, checksum_verdict, flow, is_reply_to, translate_ipv4,
-    transport_in_ip, transport_slice, write_packet_ipv4,
+    IpAddresses, Ipv4Translation, Prefix64, Prefixes, answer_echo, checksum_verdict, flow,
+    ipv4_to_ipv6, ipv6_to_ipv4, is_reply_to, translate_ipv4, transport_in_ip, transport_slice,
+    write_packet_ipv4,
 };
 use etherparse_transport::{
     Ipv4Header, TcpHeader, TcpHeaderSlice, TcpOptionElement, TcpOptionWriteError, TransportHeader,
@@ -308,4 +309,65 @@ fn the_example_of_the_readme_translation(rt: HostRuntime) {
         len: 0,
     });
     expect_equal(&rt, &translate_outbound(&mut error[..20]), &refused);
+}
+
+/// Translates a packet, and returns its new length. `out` has the prefixes of the host and of the NAT64, and `back` has them exchanged.
+fn translate(packet: &[u8], out: &Prefixes, back: &Prefixes, buffer: &mut [u8]) -> Option<usize> {
+    match packet.first()? >> 4 {
+        4 => ipv4_to_ipv6(packet, out, buffer).ok(),
+        _ => ipv6_to_ipv4(packet, back, 0, buffer).ok(),
+    }
+}
+
+/// UDP from 192.168.1.1 to 192.168.1.2.
+static DATAGRAM: [u8; 31] = [
+    0x45, 0, 0, 31, 0, 7, 0, 0, 64, 17, 0xF7, 0x73, 192, 168, 1, 1, 192, 168, 1, 2, // IPv4
+    0, 21, 4, 210, 0, 11, 0xB3, 0x3A, b'a', b'b', b'c', // UDP
+];
+
+/// The prefix 2001:db8::/96 with another last byte.
+fn prefix_with(rt: &impl Abort, last: u8) -> Prefix64 {
+    let address = [0x20, 1, 0x0D, 0xB8, 0, 0, 0, 0, 0, 0, 0, last, 0, 0, 0, 0];
+    expect_ok(rt, Prefix64::new(address, 96))
+}
+
+/// The verdict on the packet is that its checksum is right.
+fn expect_right(rt: &impl Abort, packet: &[u8]) {
+    let found = expect_ok(rt, transport_in_ip(packet));
+    expect_equal(rt, &expect_ok(rt, checksum_verdict(&found)), &Right);
+}
+
+#[test]
+fn the_example_of_the_readme_between_versions(rt: HostRuntime) {
+    let (source, destination) = (prefix_with(&rt, 1), prefix_with(&rt, 2));
+    let out = Prefixes {
+        source,
+        destination,
+    };
+    let back = Prefixes {
+        source: destination,
+        destination: source,
+    };
+    let mut sent = [0; 51];
+    expect_equal(
+        &rt,
+        &translate(&DATAGRAM, &out, &back, &mut sent),
+        &Some(51),
+    );
+    expect_equal(&rt, &[sent[0], sent[19], sent[35]], &[0x60, 1, 2]);
+    expect_right(&rt, &sent);
+    // The answer goes from the destination to the source, with the same ports.
+    let mut answer = sent;
+    answer[8..24].copy_from_slice(&sent[24..40]);
+    answer[24..40].copy_from_slice(&sent[8..24]);
+    let mut received = [0; 31];
+    expect_equal(
+        &rt,
+        &translate(&answer, &out, &back, &mut received),
+        &Some(31),
+    );
+    expect_bytes(&rt, &received[12..20], &[192, 168, 1, 2, 192, 168, 1, 1]);
+    expect_right(&rt, &received);
+    expect_equal(&rt, &translate(&answer, &back, &out, &mut received), &None);
+    expect_equal(&rt, &translate(&[], &out, &back, &mut received), &None);
 }
