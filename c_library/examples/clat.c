@@ -12,8 +12,8 @@
  *
  *     cc -std=c99 -I include examples/clat.c libetherparse_transport.a -o clat
  *     ./clat clat0 2001:db8:c1a7::/96 64:ff9b::/96 &
- *     ip address add 192.0.0.4/32 dev clat0 && ip link set clat0 mtu 1480 up
- *     ip route add default dev clat0 src 192.0.0.4 && ip route add 2001:db8:c1a7::/96 dev clat0
+ *     ip address add 192.0.0.4/32 dev clat0 && ip link set clat0 up
+ *     ip route add default dev clat0 src 192.0.0.4 mtu 1480 && ip route add 2001:db8:c1a7::/96 dev clat0
  *     sysctl net.ipv6.conf.all.forwarding=1
  *     ping 198.51.100.1
  */

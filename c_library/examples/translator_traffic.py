@@ -5,10 +5,11 @@
 
     translator_traffic.py SPACE          SPACE is the file of the namespace outside, such as /run/netns/outside
     translator_traffic.py SPACE wrong    expects that nothing arrives, since the translator makes each checksum wrong
+    translator_traffic.py SPACE clat     sends IPv4 through clat and a NAT64 instead, between which the packets are IPv6 packets
 
-It runs in the namespace inside. IPV4 and IPV6 list the addresses of each version, which the namespaces must have. What is not as it should
-be raises an error. Otherwise two numbers of bytes are printed, which TCP carried in each direction over IPv4 and over IPv6: as many as fit
-into 15 seconds, and at most 100 MB.
+It runs in the namespace inside. IPV4, IPV6 and CLAT list the addresses, which the namespaces must have. What is not as it should be raises
+an error. Otherwise the number of bytes is printed that TCP carried in each direction, over IPv4 and over IPv6: as many as fit into 15
+seconds, and at most 100 MB, or 20 MB through clat.
 """
 import ctypes
 import errno
@@ -21,7 +22,7 @@ import time
 from typing import NamedTuple
 
 FIRST_PORT, FLOWS, MTU, SMALL_MTU = 40000, 1024, 1500, 1300
-BYTES, SECONDS = 100_000_000, 15
+BYTES, CLAT_BYTES, SECONDS = 100_000_000, 20_000_000, 15
 BLOCK = random.Random(1).getrandbits(8_000_000).to_bytes(1_000_000, "big")
 # Values of Linux, which the module socket lacks.
 CLONE_NEWNET, PMTUDISC_DO, MSG_ERRQUEUE = 0x40000000, 2, 0x2000
@@ -48,6 +49,11 @@ class Version(NamedTuple):
     unreachable_port: tuple  # type and code of this ICMP error
     no_route: int  # the error of a socket that sends to the unreachable address
     header_len: int
+    first_port: int = FIRST_PORT  # the least port outside
+    path_mtu: int = MTU  # of the routes inside
+    reply_mtu: int = MTU  # for packets without "don't fragment", such as an echo reply of Linux
+    router: int = 2  # the hop limit with which a packet ends at the server
+    most: int = BYTES  # that TCP sends
 
 
 # The last IPv6 address inside consists of the first IPv4 address inside and zeros, so the translator must compare the versions of flows.
@@ -61,6 +67,9 @@ IPV6 = Version(
     unreachable="2001:db8:101::1", narrow="2001:db8:102::1", behind="2001:db8:103::2", family=socket.AF_INET6, level=socket.IPPROTO_IPV6,
     hop_limit=socket.IPV6_UNICAST_HOPS, mtu_discover=23, report_errors=25, mtu=24, icmp=socket.IPPROTO_ICMPV6, echo_request=128,
     echo_reply=129, unreachable_port=(1, 4), no_route=errno.ENETUNREACH, header_len=40)
+# A NAT64 translates the IPv6 address for 192.0.0.4 to the address outside. clat, both systems and the NAT64 lower the hop limit. tayga
+# fragments IPv6 packets of more than 1,280 bytes unless "don't fragment" is set, and fragments of ICMP messages are not translated.
+CLAT = IPV4._replace(inside=("192.0.0.4",), first_port=0, path_mtu=1480, reply_mtu=1260, router=5, most=CLAT_BYTES)
 
 
 def expect(expected, found):
@@ -86,7 +95,7 @@ def made(ip, kind, protocol, seconds):
 
 def inside(ip, host, port, kind, protocol=0, seconds=5):
     it = made(ip, kind, protocol, seconds)
-    it.bind((ip.inside[host], port))
+    it.bind((ip.inside[host % len(ip.inside)], port))
     return it
 
 
@@ -102,10 +111,10 @@ def outside(ip, port, kind, protocol=0, seconds=5):
     return it
 
 
-def send(it, end):
+def send(it, most, end):
     """Sends the block again and again, until so many bytes are sent or the time is over."""
     sent = 0
-    while sent < BYTES and time.monotonic() < end:
+    while sent < most and time.monotonic() < end:
         it.sendall(BLOCK)
         sent += len(BLOCK)
     it.shutdown(socket.SHUT_WR)
@@ -129,9 +138,9 @@ def tcp(ip):
         client.connect((ip.server, 80))
         server, (address, port, *_) = listener.accept()
         server.settimeout(2 * SECONDS)
-        expect((ip.outside, True), (address, port >= FIRST_PORT))
+        expect((ip.outside, True), (address, port >= ip.first_port))
         received, end = [], time.monotonic() + SECONDS
-        threads = [threading.Thread(target=send, args=(it, end)) for it in (client, server)]
+        threads = [threading.Thread(target=send, args=(it, ip.most, end)) for it in (client, server)]
         threads += [threading.Thread(target=receive, args=(it, received)) for it in (client, server)]
         for thread in threads:
             thread.start()
@@ -144,7 +153,7 @@ def tcp(ip):
 
 def udp(ip):
     """All hosts inside use one port, and each receives its own answers. Then the port is closed inside, which the host outside is told."""
-    longest = MTU - ip.header_len - 8
+    longest = ip.path_mtu - ip.header_len - 8
     with outside(ip, 53, socket.SOCK_DGRAM) as server:
         clients = [inside(ip, host, 5000, socket.SOCK_DGRAM) for host in range(len(ip.inside))]
         ports = set()
@@ -153,7 +162,7 @@ def udp(ip):
                 payload = BLOCK[number : number + length]
                 client.sendto(payload, (ip.server, 53))
                 found, (address, port, *_) = server.recvfrom(2000)
-                expect((payload, ip.outside, True), (found, address, port >= FIRST_PORT))
+                expect((payload, ip.outside, True), (found, address, port >= ip.first_port))
                 ports.add(port)
                 server.sendto(payload[::-1], (address, port))
                 found, (address, port, *_) = client.recvfrom(2000)
@@ -175,7 +184,7 @@ def echo_request(ip, sequence, payload):
 def echo(ip):
     """All hosts inside use one identifier, and each receives its own replies."""
     clients = [inside(ip, host, 77, socket.SOCK_DGRAM, ip.icmp) for host in range(len(ip.inside))]
-    for sequence, length in enumerate((0, 1, 56, 57, MTU - ip.header_len - 8)):
+    for sequence, length in enumerate((0, 1, 56, 57, ip.reply_mtu - ip.header_len - 8)):
         for number, client in enumerate(clients):
             payload = BLOCK[number : number + length]
             client.sendto(echo_request(ip, sequence, payload), (ip.server, 0))
@@ -222,7 +231,7 @@ def errors(ip):
 def reported(ip, client):
     """The payload of the packet that an ICMP error is about, and who sent the error: Linux writes the address behind 16 other bytes."""
     packet, [(_, _, report)], _, _ = client.recvmsg(2000, 1000, MSG_ERRQUEUE)
-    begin, end = (20, 24) if ip is IPV4 else (24, 40)
+    begin, end = (20, 24) if ip.family == socket.AF_INET else (24, 40)
     return packet, socket.inet_ntop(ip.family, report[begin:end])
 
 
@@ -232,13 +241,13 @@ def probe(ip, client, hop_limit, payload):
 
 
 def udp_probes(ip):
-    """By its hop limit a packet ends at the translator, which is silent, at the router outside, or at the host behind it."""
+    """By its hop limit a packet ends at a translator, which is silent, at the router outside, or at the host behind it."""
     with inside(ip, 1, 6100, socket.SOCK_DGRAM) as client:
         client.connect((ip.behind, 9))
         probe(ip, client, 1, b"to the translator")
         for hop_limit, payload, host, number in (
-            (2, b"to the router", ip.server, errno.EHOSTUNREACH),
-            (3, b"to a closed port", ip.behind, errno.ECONNREFUSED),
+            (ip.router, b"to the router", ip.server, errno.EHOSTUNREACH),
+            (ip.router + 1, b"to a closed port", ip.behind, errno.ECONNREFUSED),
         ):
             probe(ip, client, hop_limit, payload)
             refused(number, lambda: client.recv(2000))
@@ -249,16 +258,16 @@ def echo_probes(ip):
     """An echo request ends at the router, or at the host behind it."""
     with inside(ip, 1, 80, socket.SOCK_DGRAM, ip.icmp) as client:
         client.connect((ip.behind, 0))
-        probe(ip, client, 2, echo_request(ip, 1, b"to the router"))
+        probe(ip, client, ip.router, echo_request(ip, 1, b"to the router"))
         refused(errno.EHOSTUNREACH, lambda: client.recv(2000))
         expect(ip.server, reported(ip, client)[1])
-        probe(ip, client, 3, echo_request(ip, 2, b"to the host"))
+        probe(ip, client, ip.router + 1, echo_request(ip, 2, b"to the host"))
         expect(b"to the host", client.recv(2000)[8:])
 
 
 def tcp_probes(ip):
     """A connection ends at the router, or at the host behind it."""
-    for hop_limit, number in (2, errno.EHOSTUNREACH), (3, errno.ECONNREFUSED):
+    for hop_limit, number in (ip.router, errno.EHOSTUNREACH), (ip.router + 1, errno.ECONNREFUSED):
         with inside(ip, 1, 6100 + hop_limit, socket.SOCK_STREAM) as client:
             client.setsockopt(ip.level, ip.hop_limit, hop_limit)
             refused(number, lambda: client.connect((ip.behind, 9)))
@@ -343,7 +352,16 @@ def everything_arrives():
     many(IPV6)
 
 
-if sys.argv[2:] == ["wrong"]:
+def everything_arrives_through_clat():
+    """Prints how many bytes TCP carried."""
+    for test in udp, echo, errors, udp_probes, echo_probes, tcp_probes:
+        test(CLAT)
+    print(tcp(CLAT))
+
+
+if sys.argv[2:] == ["clat"]:
+    everything_arrives_through_clat()
+elif sys.argv[2:] == ["wrong"]:
     nothing_arrives(IPV4)
     nothing_arrives(IPV6)
 else:
