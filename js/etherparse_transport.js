@@ -1561,7 +1561,7 @@ function prefixOf(prefix) {
     return { address: octets, len: integer(Number(len), 128, "the length of a prefix") };
 }
 
-/** The packet that a call writes behind its packet. It is at most 20 bytes longer, or an ICMP error of at most 1280 bytes. */
+/** The packet that a call writes behind its packet. It is at most 28 bytes longer, or an ICMP error of at most 1280 bytes. */
 function betweenVersions(call, packet, { source, destination }, ...more) {
     const prefixes = [source, destination].map(prefixOf);
     const length = setInput(packet, "packet");
@@ -1580,7 +1580,7 @@ function betweenVersions(call, packet, { source, destination }, ...more) {
  * @param {Uint8Array} packet
  * @param {Prefixes} prefixes
  * @returns {Uint8Array}
- * @throws {EtherparseError} if a prefix or the packet is refused, such as a fragment over IPv4
+ * @throws {EtherparseError} if a prefix or the packet is refused, such as a fragment of an ICMP message
  */
 export function ipv4ToIpv6(packet, prefixes) {
     return betweenVersions("etherparse_ipv4_to_ipv6", packet, prefixes);

@@ -1270,6 +1270,24 @@ static const struct {
     {0, {0, 0}, {0xb3, 0x3a}},    /* an atomic fragment */
 };
 
+/* A first fragment of UDP over IPv4, and its translation. */
+static void fragment_over_ipv4(void)
+{
+    uint8_t packet[31];
+    clear();
+    memcpy(packet, siit_ipv4, 31);
+    packet[6] = 0x20;
+    packet[10] = 0xd7;
+    OK(etherparse_ipv4_to_ipv6(packet, 31, &prefix64, &prefix64, buffer, 59, &written, &error));
+    EXPECT(written == 59 && buffer[5] == 19 && buffer[6] == 44 && memcmp(buffer + 8, siit_ipv6 + 8, 32) == 0);
+    EXPECT(memcmp(buffer + 40, "\21\0\0\1\0\0\0\7", 8) == 0 && memcmp(buffer + 48, siit_ipv6 + 40, 11) == 0 && error_is_untouched());
+    packet[26] = packet[27] = 0;
+    clear();
+    FILLED(etherparse_ipv4_to_ipv6(packet, 31, &prefix64, &prefix64, buffer, 59, &written, &error),
+           ETHERPARSE_STATUS_SIIT_FRAGMENT_CHECKSUM);
+    EXPECT(error_has_text("Translation Error: a fragment of a UDP packet has no checksum.") && holds(none, 0, 77));
+}
+
 /* The fragment header determines the identification. A fragment of ICMPv6 is refused. */
 static void fragments_between_versions(void)
 {
@@ -2059,6 +2077,7 @@ int main(void)
     fragments_read();
     packets_put_together();
     between_versions();
+    fragment_over_ipv4();
     fragments_between_versions();
     prefixes_refused();
     between_versions_refused();

@@ -6,9 +6,9 @@
  * has only IPv6, if the network has a NAT64. An IPv4 packet that the system sends to the device comes back from it as an IPv6 packet, whose
  * source begins with the prefix LOCAL and whose destination begins with the prefix NETWORK. An IPv6 packet comes back as an IPv4 packet.
  *
- * Packets that the library refuses are dropped, such as fragments over IPv4. So is a packet whose time to live would become 0, without an
- * ICMP error. A partial checksum is completed. The program ends at SIGTERM, or when the device is deleted, and then prints how many packets
- * it translated and dropped. As root, with the IPv4 address 192.0.0.4, which no other host has (RFC 7335):
+ * Packets that the library refuses are dropped, such as fragments of ICMP messages. So is a packet whose time to live would become 0,
+ * without an ICMP error. A partial checksum is completed. The program ends at SIGTERM, or when the device is deleted, and then prints how
+ * many packets it translated and dropped. As root, with the IPv4 address 192.0.0.4, which no other host has (RFC 7335):
  *
  *     cc -std=c99 -I include examples/clat.c libetherparse_transport.a -o clat
  *     ./clat clat0 2001:db8:c1a7::/96 64:ff9b::/96 &
@@ -34,8 +34,8 @@
 #include <sys/signalfd.h>
 #include <unistd.h>
 
-/* A translated packet is at most 20 bytes longer. */
-enum { LONGEST_PACKET = 65535, LONGEST_TRANSLATED = LONGEST_PACKET + 20 };
+/* A translated packet is at most 28 bytes longer. */
+enum { LONGEST_PACKET = 65535, LONGEST_TRANSLATED = LONGEST_PACKET + 28 };
 
 static etherparse_prefix64 local, network;
 static unsigned long translated, dropped;

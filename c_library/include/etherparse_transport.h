@@ -210,7 +210,7 @@ enum etherparse_status_number {
     ETHERPARSE_STATUS_PREFIX_SUFFIX = 58,
     ETHERPARSE_STATUS_SIIT_NO_HEADER = 59,
     ETHERPARSE_STATUS_SIIT_HEADER_CHECKSUM = 60,
-    ETHERPARSE_STATUS_SIIT_FRAGMENT = 61,
+    ETHERPARSE_STATUS_SIIT_FRAGMENT_CHECKSUM = 61,
     ETHERPARSE_STATUS_SIIT_EXTENSION_HEADER = 62,
     ETHERPARSE_STATUS_SIIT_PAYLOAD_LENGTH = 63,
     ETHERPARSE_STATUS_SIIT_TIME_EXCEEDED = 64,
@@ -385,8 +385,8 @@ enum etherparse_status_number {
 #define ETHERPARSE_STATUS_SIIT_NO_HEADER 59
 /* The packet is not translated between IPv4 and IPv6, because the checksum of its IPv4 header is wrong: no other field. */
 #define ETHERPARSE_STATUS_SIIT_HEADER_CHECKSUM 60
-/* The packet is not translated from IPv4 to IPv6, because it is a fragment: no other field. */
-#define ETHERPARSE_STATUS_SIIT_FRAGMENT 61
+/* The packet is not translated from IPv4 to IPv6, because it is a fragment of a UDP packet without a checksum: no other field. */
+#define ETHERPARSE_STATUS_SIIT_FRAGMENT_CHECKSUM 61
 /*
  * The packet is not translated from IPv6 to IPv4, because an extension header follows its fragment header: actual is the number of that
  * extension header.
@@ -477,7 +477,7 @@ enum etherparse_status_number {
  * left" in the packet, for the pointer of an ICMPv6 parameter problem.
  */
 #define ETHERPARSE_STATUS_SIIT_SEGMENTS_LEFT 91
-/* The packet is not translated from IPv6 to IPv4, because it is a fragment of an ICMPv6 message: no other field. */
+/* The packet is not translated between IPv4 and IPv6, because it is a fragment of an ICMP message: no other field. */
 #define ETHERPARSE_STATUS_SIIT_ICMP_FRAGMENT 92
 
 /* The layer whose length was wrong. 0 means no layer. The numbers from 8 on are reserved for IP headers. */
@@ -1695,16 +1695,15 @@ typedef struct etherparse_prefix64 {
  * Translates an IPv4 packet to IPv6 (RFC 7915, section 4), or an IPv6 packet to IPv4 (section 5). Writes the translated packet to the front
  * of the buffer, and its length to *written. The rest of the buffer is unchanged. `source` is the prefix of the source, and `destination`
  * the prefix of the destination. `identification` is the identification of the IPv4 packet. A translated packet is at most 20 bytes longer
- * than the packet, or has at most 1,280 bytes if it is an ICMP error. Bytes after the packet are ignored. The buffer and the packet must
- * not overlap.
+ * than the packet, or 28 bytes if it is a fragment, or has at most 1,280 bytes if it is an ICMP error. Bytes after the packet are ignored.
+ * The buffer and the packet must not overlap.
  *
  * UDP, TCP and ICMP echo messages are translated, and ICMP errors with the packet that they quote. A message of another protocol is copied.
  * A receiver accepts the message of the translated packet if it accepts the message of the original packet.
  *
- * Over IPv6 hop-by-hop options, destination options and routing headers without segments left are skipped. A fragment over IPv6 becomes a
- * fragment over IPv4. Its fragment header determines the identification, the fragment offset and "more fragments", and `identification` is
- * not used. A later fragment is copied behind its new header. An atomic fragment is translated as a whole packet. A fragment over IPv4 is
- * refused.
+ * Over IPv6 hop-by-hop options, destination options and routing headers without segments left are skipped. A fragment becomes a fragment.
+ * Over IPv6 its fragment header contains the identification, the fragment offset and "more fragments", and `identification` is not used. A
+ * later fragment is copied behind its new headers. An atomic fragment over IPv6 is translated as a whole packet.
  *
  * In this order:
  *  - The first refused prefix: ETHERPARSE_STATUS_PREFIX_LENGTH, ETHERPARSE_STATUS_PREFIX_RESERVED_OCTET or ETHERPARSE_STATUS_PREFIX_SUFFIX.
@@ -1712,10 +1711,12 @@ typedef struct etherparse_prefix64 {
  *  - Only over IPv6: ETHERPARSE_STATUS_IP_PACKET_CUT_OFF. Then ETHERPARSE_STATUS_SIIT_EXTENSION_HEADER_CUT_OFF or
  *    ETHERPARSE_STATUS_SIIT_SEGMENTS_LEFT for each header that is skipped. Then ETHERPARSE_STATUS_SIIT_EXTENSION_HEADER_CUT_OFF or
  *    ETHERPARSE_STATUS_SIIT_EXTENSION_HEADER for a fragment header.
- *  - The IP header: a status from ETHERPARSE_STATUS_SIIT_HEADER_CHECKSUM to ETHERPARSE_STATUS_SIIT_NOT_GLOBAL,
- *    ETHERPARSE_STATUS_IP_TOTAL_LENGTH or ETHERPARSE_STATUS_TRANSLATE_SOURCE_ROUTE.
- *  - Over IPv4 ETHERPARSE_STATUS_IP_PACKET_CUT_OFF. Over IPv6 ETHERPARSE_STATUS_SIIT_ICMP_FRAGMENT.
- *  - The message: a status from ETHERPARSE_STATUS_SIIT_ICMP_EXTENSION to ETHERPARSE_STATUS_SIIT_QUOTED_PACKET.
+ *  - The IP header: ETHERPARSE_STATUS_SIIT_HEADER_CHECKSUM, a status from ETHERPARSE_STATUS_SIIT_PAYLOAD_LENGTH to
+ *    ETHERPARSE_STATUS_SIIT_NOT_GLOBAL, ETHERPARSE_STATUS_IP_TOTAL_LENGTH or ETHERPARSE_STATUS_TRANSLATE_SOURCE_ROUTE.
+ *  - Only over IPv4: ETHERPARSE_STATUS_IP_PACKET_CUT_OFF.
+ *  - ETHERPARSE_STATUS_SIIT_ICMP_FRAGMENT.
+ *  - The message: a status from ETHERPARSE_STATUS_SIIT_ICMP_EXTENSION to ETHERPARSE_STATUS_SIIT_QUOTED_PACKET, or
+ *    ETHERPARSE_STATUS_SIIT_FRAGMENT_CHECKSUM.
  *  - ETHERPARSE_STATUS_BUFFER_TOO_SMALL.
  *
  * The buffer and *written are then unchanged.
@@ -1890,7 +1891,7 @@ static inline const char *etherparse_name_of_status(etherparse_status status)
     ETHERPARSE_CASE(ETHERPARSE_STATUS_PREFIX_SUFFIX)
     ETHERPARSE_CASE(ETHERPARSE_STATUS_SIIT_NO_HEADER)
     ETHERPARSE_CASE(ETHERPARSE_STATUS_SIIT_HEADER_CHECKSUM)
-    ETHERPARSE_CASE(ETHERPARSE_STATUS_SIIT_FRAGMENT)
+    ETHERPARSE_CASE(ETHERPARSE_STATUS_SIIT_FRAGMENT_CHECKSUM)
     ETHERPARSE_CASE(ETHERPARSE_STATUS_SIIT_EXTENSION_HEADER)
     ETHERPARSE_CASE(ETHERPARSE_STATUS_SIIT_PAYLOAD_LENGTH)
     ETHERPARSE_CASE(ETHERPARSE_STATUS_SIIT_TIME_EXCEEDED)

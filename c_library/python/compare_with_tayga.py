@@ -509,7 +509,6 @@ DIFFERENCES = [
     Difference(6, "(source|destination) 169[.].*", DROPS, "RFC 3927, section 7: no router forwards it, so the program has to drop it"),
     Difference(4, "(source|destination) (100[.]|192[.]0[.]0|192[.]88).*", TRANSLATES, "RFC 6052, section 3.1: they are not global"),
     Difference(6, "(source|destination) (100[.]|192[.]0[.]0|192[.]88).*", TRANSLATES, "RFC 6052, section 3.1: they are not global"),
-    Difference(4, "(first|middle|last) fragment of .*", TRANSLATES, "section 4.1: the library refuses fragments over IPv4"),
     Difference(6, "(source|destination) with byte 15 of 1", DROPS, "RFC 6052, section 2.3: no bit after the IPv4 address is read"),
     Difference(6, "a routing header, segments left 1", TRANSLATES, "section 5.1: such a packet is not translated"),
     Difference(6, "a fragment header behind hop-by-hop options", DROPS, "section 5.1.1: the fragment header is translated"),

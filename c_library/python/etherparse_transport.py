@@ -135,7 +135,7 @@ class Status(_Number):
     PREFIX_SUFFIX = 58
     SIIT_NO_HEADER = 59
     SIIT_HEADER_CHECKSUM = 60
-    SIIT_FRAGMENT = 61
+    SIIT_FRAGMENT_CHECKSUM = 61
     SIIT_EXTENSION_HEADER = 62
     SIIT_PAYLOAD_LENGTH = 63
     SIIT_TIME_EXCEEDED = 64
@@ -1871,7 +1871,7 @@ def _prefix64(prefix: AnyPrefix) -> _Prefix64:
 
 
 def _between_versions(name: str, packet: Bytes, source: AnyPrefix, destination: AnyPrefix, *more: int) -> bytes:
-    """The packet that a call writes. It is at most 20 bytes longer than the packet, or an ICMP error of at most 1280 bytes."""
+    """The packet that a call writes. It is at most 28 bytes longer than the packet, or an ICMP error of at most 1280 bytes."""
     data = _bytes_of(packet)
     prefixes = [ctypes.byref(_prefix64(it)) for it in (source, destination)]
     buffer, written = ctypes.create_string_buffer(len(data) + _ERROR_MAX_LEN), ctypes.c_size_t()
@@ -1885,7 +1885,7 @@ def ipv4_to_ipv6(packet: Bytes, source: AnyPrefix, destination: AnyPrefix) -> by
     UDP, TCP and ICMP echo messages are translated, and ICMP errors with the packet that they quote. A message of another protocol is
     copied. A receiver accepts the message of the translated packet if it accepts the message of the packet.
 
-    Raises `Error` if a prefix or the packet is refused, such as a fragment over IPv4, and `ValueError` if a text is no prefix.
+    Raises `Error` if a prefix or the packet is refused, such as a fragment of an ICMP message, and `ValueError` if a text is no prefix.
     """
     return _between_versions("ipv4_to_ipv6", packet, source, destination)
 
@@ -1893,7 +1893,7 @@ def ipv4_to_ipv6(packet: Bytes, source: AnyPrefix, destination: AnyPrefix) -> by
 def ipv6_to_ipv4(packet: Bytes, source: AnyPrefix, destination: AnyPrefix, *, identification: int = 0) -> bytes:
     """The IPv4 packet for an IPv6 packet (RFC 7915, section 5), as `ipv4_to_ipv6`, with this identification.
 
-    A fragment becomes a fragment with the identification of its fragment header. A fragment of an ICMPv6 message is refused.
+    A fragment becomes a fragment with the identification of its fragment header.
     """
     return _between_versions("ipv6_to_ipv4", packet, source, destination, _integer(identification, 16, "an identification"))
 

@@ -634,6 +634,16 @@ class Calls(unittest.TestCase):
             changed(40, 60)
         self.assertEqual((caught.exception.status, caught.exception.actual), (Status.SIIT_EXTENSION_HEADER, 60))
 
+    def test_a_fragment_over_ipv4_becomes_a_fragment_over_ipv6(self):
+        packet = bytes.fromhex("4500001F000720004011D773C0A80101C0A80102001504D2000BB33A616263")
+        prefix = "2001:db8:64::/96"
+        translated = ept.ipv4_to_ipv6(packet, prefix, prefix)
+        self.assertEqual(translated[:8] + translated[40:], bytes.fromhex("6000000000132C3F" "1100000100000007" "001504D2000B5700616263"))
+        with self.assertRaises(ept.Error) as caught:
+            ept.ipv4_to_ipv6(packet[:26] + bytes(2) + packet[28:], prefix, prefix)
+        self.assertEqual(caught.exception.status, Status.SIIT_FRAGMENT_CHECKSUM)
+        self.assertEqual(str(caught.exception), "Translation Error: a fragment of a UDP packet has no checksum.")
+
     def test_a_partial_checksum_is_completed(self):
         packet = bytearray(PACKET)
         self.assertIs(ept.is_checksum_partial(packet), False)

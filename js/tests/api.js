@@ -197,6 +197,19 @@ export const TESTS = {
         expect([status, message], [Status.SIIT_NO_HEADER, "Translation Error: the bytes do not begin with an IPv6 header."]);
     },
 
+    fragmentsOverIpv4() {
+        const packet = Uint8Array.of(
+            0x45, 0, 0, 31, 0, 7, 0x20, 0, 64, 17, 0xd7, 0x73, 192, 168, 1, 1, 192, 168, 1, 2, 0, 21, 4, 210, 0, 11, 0xb3, 0x3a, 97, 98, 99,
+        );
+        const prefixes = { source: "2001:db8:64::/96", destination: "2001:db8:64::/96" };
+        const translated = library.ipv4ToIpv6(packet, prefixes);
+        expect([...translated.subarray(4, 8)], [0, 19, 44, 63]);
+        expect([...translated.subarray(40)], [17, 0, 0, 1, 0, 0, 0, 7, 0, 21, 4, 210, 0, 11, 0x57, 0, 97, 98, 99]);
+        packet.fill(0, 26, 28);
+        const { status, message } = thrown(() => library.ipv4ToIpv6(packet, prefixes), library.EtherparseError);
+        expect([status, message], [Status.SIIT_FRAGMENT_CHECKSUM, "Translation Error: a fragment of a UDP packet has no checksum."]);
+    },
+
     fragmentsOverIpv6() {
         const address = [0x20, 1, 0x0d, 0xb8, 0, 0x64, 0, 0, 0, 0, 0, 0, 192, 168, 1];
         const message = [0, 21, 4, 210, 0, 24, 0x57, 0, 97, 98, 99, 100, 101, 102, 103, 104];

@@ -239,8 +239,8 @@ pub enum ErrorKind {
     SiitNoHeader,
     /// The packet is not translated between IPv4 and IPv6, because the checksum of its IPv4 header is wrong.
     SiitHeaderChecksum,
-    /// The packet is not translated from IPv4 to IPv6, because it is a fragment.
-    SiitFragment,
+    /// The packet is not translated from IPv4 to IPv6, because it is a fragment of a UDP packet without a checksum.
+    SiitFragmentChecksum,
     /// The packet is not translated from IPv6 to IPv4, because an extension header follows its fragment header.
     SiitExtensionHeader,
     /// The packet is not translated from IPv6 to IPv4, because its payload length is above 65,515.
@@ -323,7 +323,7 @@ pub enum ErrorKind {
     SiitExtensionHeaderCutOff,
     /// The packet is not translated from IPv6 to IPv4, because a routing header has segments left.
     SiitSegmentsLeft,
-    /// The packet is not translated from IPv6 to IPv4, because it is a fragment of an ICMPv6 message.
+    /// The packet is not translated between IPv4 and IPv6, because it is a fragment of an ICMP message.
     SiitIcmpFragment,
     /// A status that this crate does not know.
     Other {
@@ -498,7 +498,7 @@ impl Error {
             sys::STATUS_PREFIX_SUFFIX => ErrorKind::PrefixSuffix,
             sys::STATUS_SIIT_NO_HEADER => ErrorKind::SiitNoHeader,
             sys::STATUS_SIIT_HEADER_CHECKSUM => ErrorKind::SiitHeaderChecksum,
-            sys::STATUS_SIIT_FRAGMENT => ErrorKind::SiitFragment,
+            sys::STATUS_SIIT_FRAGMENT_CHECKSUM => ErrorKind::SiitFragmentChecksum,
             sys::STATUS_SIIT_EXTENSION_HEADER => ErrorKind::SiitExtensionHeader,
             sys::STATUS_SIIT_PAYLOAD_LENGTH => ErrorKind::SiitPayloadLength,
             sys::STATUS_SIIT_TIME_EXCEEDED => ErrorKind::SiitTimeExceeded,

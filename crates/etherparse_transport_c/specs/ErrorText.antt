@@ -86,10 +86,11 @@ abbrev pub quoted_packet_text : List ℕ
 quoted_packet_text = codes "Translation Error: the packet that an ICMP error quotes can't be translated."
 
 -- The text for a header that is not translated between IPv4 and IPv6. A total length below the header length and a source route have the
--- same texts in every call.
+-- same texts in every call. No call returns `Fragment`, since the calls translate fragments.
 abbrev pub siit_header_text_in_c : TranslationError → List ℕ
 siit_header_text_in_c (headers.TotalLength total_len header_len) = ip_text (ip.TotalLength total_len header_len)
 siit_header_text_in_c headers.SourceRoute = translate_text translate.SourceRoute
+siit_header_text_in_c headers.Fragment = packet_text siit.FragmentChecksum
 siit_header_text_in_c error = translation_text error
 
 -- The text for a packet that is not translated between IPv4 and IPv6. A packet that is cut off and a buffer that is too small have the same
@@ -259,7 +260,7 @@ siit_header_text error =
     else if error.status == numbers.status_siit_no_header
     then (if error.actual == 4 then packet_text siit.NoIpv4Header else packet_text siit.NoIpv6Header)
     else if error.status == numbers.status_siit_header_checksum then translation_text headers.HeaderChecksum
-    else if error.status == numbers.status_siit_fragment then translation_text headers.Fragment
+    else if error.status == numbers.status_siit_fragment_checksum then packet_text siit.FragmentChecksum
     else if error.status == numbers.status_siit_extension_header then translation_text (headers.ExtensionHeader error.actual)
     else if error.status == numbers.status_siit_payload_length then translation_text (headers.PayloadLength error.actual)
     else if error.status == numbers.status_siit_time_exceeded then translation_text headers.TimeExceeded

@@ -199,9 +199,9 @@ status_siit_no_header = 59
 abbrev pub status_siit_header_checksum : ℕ
 status_siit_header_checksum = 60
 
--- the packet is a fragment
-abbrev pub status_siit_fragment : ℕ
-status_siit_fragment = 61
+-- a fragment of a UDP packet has no checksum
+abbrev pub status_siit_fragment_checksum : ℕ
+status_siit_fragment_checksum = 61
 
 -- an extension header follows the fragment header
 abbrev pub status_siit_extension_header : ℕ

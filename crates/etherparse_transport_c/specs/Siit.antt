@@ -3,13 +3,14 @@ use Rattle.std.specs.Prelude.{◌≡◌, ℕ, ◌+◌, ◌*◌, List, ◌++◌, 
 use Rattle.std.specs.Option.{option_map}
 use Rattle.ip_part.specs.Ip.{ipv4_header}
 use Rattle.ip_part.specs.declared.ip_error.IpError.TheVariants as ip
+use Rattle.ip_translation.specs.FragmentsToIpv6 as to_ipv6
+use Rattle.ip_translation.specs.Ipv4Packets.{message_of}
 use Rattle.ip_translation.specs.PacketsToIpv4 as to_ipv4
-use Rattle.ip_translation.specs.PacketsToIpv6 as to_ipv6
 use Rattle.ip_translation.specs.Prefixes as prefixes
 use Rattle.ip_translation.specs.declared.address_error.AddressError.{AddressError}
 use Rattle.ip_translation.specs.declared.address_error.AddressError.TheVariants.{NotEmbedded, NotGlobal}
 use Rattle.ip_translation.specs.declared.packet_translation_error.PacketTranslationError.{PacketTranslationError}
-use Rattle.ip_translation.specs.declared.packet_translation_error.PacketTranslationError.TheVariants.{CutOff, ExtensionHeaderCutOff, Header, IcmpExtension, IcmpFragment, IcmpMessage, IcmpPointer, NoIpv4Header, NoIpv6Header, NoQuotedHeader, NoUdpChecksum, QuotedHeader, QuotedIcmp, SegmentsLeft, Space, TransportHeader, UdpLength}
+use Rattle.ip_translation.specs.declared.packet_translation_error.PacketTranslationError.TheVariants.{CutOff, ExtensionHeaderCutOff, FragmentChecksum, Header, IcmpExtension, IcmpFragment, IcmpMessage, IcmpPointer, NoIpv4Header, NoIpv6Header, NoQuotedHeader, NoUdpChecksum, QuotedHeader, QuotedIcmp, SegmentsLeft, Space, TransportHeader, UdpLength}
 use Rattle.ip_translation.specs.declared.prefix64.Prefix64.{Prefix64}
 use Rattle.ip_translation.specs.declared.prefix64_error.Prefix64Error.{Prefix64Error}
 use Rattle.ip_translation.specs.declared.prefix64_error.Prefix64Error.TheVariants.{Len, ReservedOctet, SuffixBits}
@@ -39,11 +40,11 @@ abbrev pub of_address : ℕ → AddressError → EtherparseError
 of_address place NotEmbedded = of_number numbers.status_siit_not_embedded place
 of_address place NotGlobal = of_number numbers.status_siit_not_global place
 
--- the error for a header that is not translated
+-- the error for a header that is not translated; no call returns `Fragment`, since the calls translate fragments
 abbrev pub of_header : TranslationError → EtherparseError
 of_header (TotalLength total_len header_len) = of_ip (ip.TotalLength total_len header_len)
 of_header HeaderChecksum = of_status numbers.status_siit_header_checksum
-of_header Fragment = of_status numbers.status_siit_fragment
+of_header Fragment = of_status numbers.status_siit_fragment_checksum
 of_header SourceRoute = of_status numbers.status_translate_source_route
 of_header (ExtensionHeader number) = of_number numbers.status_siit_extension_header number
 of_header (PayloadLength payload_len) = of_number numbers.status_siit_payload_length payload_len
@@ -78,6 +79,7 @@ of_siit (ExtensionHeaderCutOff number required_len len) =
     record (of_number numbers.status_siit_extension_header_cut_off number) { required_len = required_len; len = len }
 of_siit (SegmentsLeft pointer) = of_number numbers.status_siit_segments_left pointer
 of_siit IcmpFragment = of_status numbers.status_siit_icmp_fragment
+of_siit FragmentChecksum = of_status numbers.status_siit_fragment_checksum
 
 -- ---- prefixes
 
@@ -111,7 +113,7 @@ ipv6_refusal prefixes packet room = option_map of_siit (to_ipv4.packet_refusal p
 
 -- the length of the IPv6 packet for an IPv4 packet
 abbrev pub ipv6_len : Prefixes → List ℕ → ℕ
-ipv6_len prefixes packet = to_ipv6.translated_len (ipv4_header packet) prefixes (to_ipv6.message_of packet)
+ipv6_len prefixes packet = to_ipv6.len_with (ipv4_header packet) prefixes (message_of packet)
 
 -- the length of the IPv4 packet with this identification for an IPv6 packet
 abbrev pub ipv4_len : Prefixes → ℕ → List ℕ → ℕ

@@ -308,7 +308,7 @@ fn siit_header_text(error: &EtherparseError) -> ErrorText
         }
         status::SIIT_NO_HEADER => PacketTranslationError::NoIpv6Header.text(),
         status::SIIT_HEADER_CHECKSUM => TranslationError::HeaderChecksum.text(),
-        status::SIIT_FRAGMENT => TranslationError::Fragment.text(),
+        status::SIIT_FRAGMENT_CHECKSUM => PacketTranslationError::FragmentChecksum.text(),
         status::SIIT_EXTENSION_HEADER => ErrorText::from_parts(&[
             Words("Translation Error: the IPv6 extension header "),
             Number(error.actual),

@@ -2,7 +2,7 @@ ghost use Rattle.std.specs.Prelude.{◌≡◌, IfOk, None, Some, [], length};
 ghost use Rattle.net_base.specs.Refusals.{RefusesExactly};
 ghost use Rattle.ip_translation.specs.ErrorTexts.{address_text, prefix_text};
 ghost use Rattle.ip_translation.specs.PacketsToIpv4 as to_ipv4;
-ghost use Rattle.ip_translation.specs.PacketsToIpv6 as to_ipv6;
+ghost use Rattle.ip_translation.specs.FragmentsToIpv6 as to_ipv6;
 ghost use Rattle.ip_translation.specs.declared.prefixes.Prefixes.{Prefixes};
 ghost use Rattle.etherparse_transport_c.specs.ErrorText.{siit_header_text_in_c, siit_text_in_c, text_of};
 ghost use Rattle.etherparse_transport_c.specs.Siit as specs;
@@ -78,18 +78,23 @@ fn prefixes_of(
 /// The prefix `source` embeds the source, and `destination` embeds the destination. A receiver accepts the message of the translated packet
 /// exactly if it accepts the message of the original packet.
 ///
+/// A fragment becomes a fragment with a fragment header, which contains the identification, the offset and "more fragments" (section 4.1). A
+/// later fragment is copied behind its new headers.
+///
 /// # Errors
 ///
 /// The status is `OK`, or the first of these that applies:
 /// - `PREFIX_LENGTH`, `PREFIX_RESERVED_OCTET` or `PREFIX_SUFFIX` if a prefix is refused (RFC 6052, section 2.2).
 /// - `SIIT_NO_HEADER` if the packet does not begin with a whole IPv4 header.
 /// - `IP_TOTAL_LENGTH` if the total length is below the length of the header.
-/// - `SIIT_HEADER_CHECKSUM`, `SIIT_FRAGMENT`, `TRANSLATE_SOURCE_ROUTE`, `SIIT_TIME_EXCEEDED`, `SIIT_SOURCE`, `SIIT_DESTINATION` or
-///   `SIIT_NOT_GLOBAL` if the header is not translated.
+/// - `SIIT_HEADER_CHECKSUM`, `TRANSLATE_SOURCE_ROUTE`, `SIIT_TIME_EXCEEDED`, `SIIT_SOURCE`, `SIIT_DESTINATION` or `SIIT_NOT_GLOBAL` if the
+///   header is not translated.
 /// - `IP_PACKET_CUT_OFF` if there are fewer bytes than the total length.
+/// - `SIIT_ICMP_FRAGMENT` if a fragment is part of an ICMP message (section 1.2).
 /// - `SIIT_TRANSPORT_HEADER` if the packet ends within its transport header.
 /// - `SIIT_ICMP_MESSAGE`, `SIIT_ICMP_EXTENSION` or `SIIT_ICMP_POINTER` if an ICMP message is not translated.
 /// - `SIIT_QUOTED_PACKET` or `SIIT_TRANSPORT_HEADER` if the packet that an ICMP error quotes can't be translated.
+/// - `SIIT_FRAGMENT_CHECKSUM` if the first fragment of a UDP packet has no checksum (section 4.5).
 /// - `SIIT_UDP_LENGTH` if a UDP packet has no checksum, and a wrong length field.
 /// - `BUFFER_TOO_SMALL` if the buffer is shorter than the translated packet.
 ///
@@ -255,6 +260,7 @@ fn of_siit(error: &PacketTranslationError) -> EtherparseError
             of_number(status::SIIT_SEGMENTS_LEFT, *pointer)
         }
         PacketTranslationError::IcmpFragment => of_status(status::SIIT_ICMP_FRAGMENT),
+        PacketTranslationError::FragmentChecksum => of_status(status::SIIT_FRAGMENT_CHECKSUM),
     }
 }
 
@@ -273,7 +279,8 @@ fn of_header(error: &TranslationError) -> EtherparseError
             header_len: usize::from(*header_len),
         }),
         TranslationError::HeaderChecksum => of_status(status::SIIT_HEADER_CHECKSUM),
-        TranslationError::Fragment => of_status(status::SIIT_FRAGMENT),
+        // No call returns this error, since both translate fragments.
+        TranslationError::Fragment => of_status(status::SIIT_FRAGMENT_CHECKSUM),
         TranslationError::SourceRoute => of_status(status::TRANSLATE_SOURCE_ROUTE),
         TranslationError::ExtensionHeader(number) => {
             of_number(status::SIIT_EXTENSION_HEADER, usize::from(*number))

@@ -18,7 +18,7 @@ pub(crate) fn siit_status_name(status: u32) -> &'static str
         status::PREFIX_SUFFIX => "ETHERPARSE_STATUS_PREFIX_SUFFIX",
         status::SIIT_NO_HEADER => "ETHERPARSE_STATUS_SIIT_NO_HEADER",
         status::SIIT_HEADER_CHECKSUM => "ETHERPARSE_STATUS_SIIT_HEADER_CHECKSUM",
-        status::SIIT_FRAGMENT => "ETHERPARSE_STATUS_SIIT_FRAGMENT",
+        status::SIIT_FRAGMENT_CHECKSUM => "ETHERPARSE_STATUS_SIIT_FRAGMENT_CHECKSUM",
         status::SIIT_EXTENSION_HEADER => "ETHERPARSE_STATUS_SIIT_EXTENSION_HEADER",
         status::SIIT_PAYLOAD_LENGTH => "ETHERPARSE_STATUS_SIIT_PAYLOAD_LENGTH",
         status::SIIT_TIME_EXCEEDED => "ETHERPARSE_STATUS_SIIT_TIME_EXCEEDED",
@@ -53,7 +53,7 @@ pub(crate) fn siit_status_text(status: u32) -> &'static str
         status::SIIT_NO_HEADER => "the packet does not begin with a whole IP header",
         status::SIIT_HEADER_CHECKSUM =>
             "the packet has a wrong header checksum, and is not translated",
-        status::SIIT_FRAGMENT => "the packet is a fragment, and is not translated",
+        status::SIIT_FRAGMENT_CHECKSUM => "a fragment of a UDP packet has no checksum",
         status::SIIT_EXTENSION_HEADER => "an extension header follows the fragment header",
         status::SIIT_PAYLOAD_LENGTH => "the payload length is too great for IPv4",
         status::SIIT_TIME_EXCEEDED => "the time to live or the hop limit is 0 or 1",

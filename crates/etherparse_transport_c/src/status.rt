@@ -173,8 +173,8 @@ pub const SIIT_NO_HEADER: u32 = 59;
 /// The packet is not translated between IPv4 and IPv6, because the checksum of its IPv4 header is wrong.
 pub const SIIT_HEADER_CHECKSUM: u32 = 60;
 
-/// The packet is not translated from IPv4 to IPv6, because it is a fragment.
-pub const SIIT_FRAGMENT: u32 = 61;
+/// The packet is not translated from IPv4 to IPv6, because it is a fragment of a UDP packet without a checksum.
+pub const SIIT_FRAGMENT_CHECKSUM: u32 = 61;
 
 /// The packet is not translated from IPv6 to IPv4, because an extension header follows its fragment header.
 pub const SIIT_EXTENSION_HEADER: u32 = 62;
@@ -266,5 +266,5 @@ pub const SIIT_EXTENSION_HEADER_CUT_OFF: u32 = 90;
 /// The packet is not translated from IPv6 to IPv4, because a routing header has segments left.
 pub const SIIT_SEGMENTS_LEFT: u32 = 91;
 
-/// The packet is not translated from IPv6 to IPv4, because it is a fragment of an ICMPv6 message.
+/// The packet is not translated between IPv4 and IPv6, because it is a fragment of an ICMP message.
 pub const SIIT_ICMP_FRAGMENT: u32 = 92;
