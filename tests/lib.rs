@@ -35,6 +35,8 @@ mod ip_translation;
 mod net_base;
 mod packets;
 #[cfg(test)]
+mod program_files;
+#[cfg(test)]
 mod reassembly;
 mod summaries;
 #[cfg(test)]

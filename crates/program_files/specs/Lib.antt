@@ -1,0 +1,4 @@
+pub mod Facts
+pub mod Inputs
+pub mod NewFiles
+pub mod Progress
