@@ -1,4 +1,5 @@
 """Builds packets, frames and captures, by the words of the RFCs and of the file formats. This code shares nothing with the programs."""
+import os
 import struct
 
 ETHERNET, RAW, LOOPBACK, OPENBSD, COOKED, COOKED2 = 1, 101, 0, 108, 113, 276
@@ -217,3 +218,13 @@ def capture(*arguments):
 
 def pcapng(*arguments):
     return b"".join(pcapng_parts(*arguments))
+
+
+def write_long_capture(path):
+    """Writes a capture of more than 100 MB. Its frames are zeros, which take no room on the disk."""
+    with open(path, "wb") as file:
+        file.write(capture(ETHERNET, []))
+        for _ in range(1600):
+            file.write(struct.pack("<IIII", START, 0, 65536, 65536))
+            file.seek(65536, os.SEEK_CUR)
+        file.truncate()

@@ -1,5 +1,8 @@
 """A program that is tested, and what its tests count."""
+import contextlib
+import os
 import pathlib
+import pty
 import re
 import subprocess
 
@@ -40,6 +43,24 @@ class Program:
             command = ["sh", "-c", 'exec "$0" "$@" 2>&-', self.path, *arguments]
             return subprocess.run(command, input=data, stdout=subprocess.PIPE, timeout=60, **others)
         return subprocess.run([self.path, *arguments], input=data, stdout=subprocess.PIPE, stderr=errors, timeout=60, **others)
+
+    def on_terminal(self, *arguments, both=False, stdin=subprocess.DEVNULL):
+        """The status, standard output, and what is written to a terminal. It is standard error, or `both` outputs."""
+        terminal, its_end = pty.openpty()
+        output = its_end if both else subprocess.PIPE
+        done = subprocess.run([self.path, *arguments], stdin=stdin, stdout=output, stderr=its_end, timeout=60)
+        os.close(its_end)
+        shown = b""
+        # At its end a terminal has an error.
+        with contextlib.suppress(OSError):
+            while piece := os.read(terminal, 4096):
+                shown += piece
+        os.close(terminal)
+        return done.returncode, done.stdout, shown.replace(b"\r\n", b"\n")
+
+    def progress(self):
+        """The progress lines of a long capture, and what erases the last of them."""
+        return [f"{self.crate.name}: {percent} %\r".encode() for percent in range(1, 100)], b" " * 21 + b"\r"
 
 
 class Tally:

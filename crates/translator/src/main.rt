@@ -9,11 +9,13 @@
 //! ```
 #![tactic(auto)]
 
-ghost use Rattle.std.specs.Prelude.{◌≡◌, IfOk, IsOk, string_bytes};
+ghost use Rattle.std.specs.Prelude.{◌≡◌, IfErr, IfOk, IsOk, string_bytes};
 ghost use Rattle.std.specs.IoError.{error_kind};
 ghost use Rattle.std.specs.Option.{option_map};
 ghost use Rattle.clap.specs.Words.{kind_of};
+ghost use Rattle.program_files.specs.Inputs.{IsRequestedBy, IsUnopened};
 ghost use Rattle.translator.specs.ErrorTexts.{IsOpenErrorLine};
+ghost use Rattle.translator.specs.Inputs.{input_name};
 ghost use Rattle.translator.specs.Outputs.{WritesText, WritesTranslation, answer_number, failure_number};
 
 mod arguments;
@@ -24,12 +26,10 @@ mod compression;
 mod counts;
 mod done;
 mod ending;
-mod input;
 mod ipv4_packet;
 mod ipv6_packet;
 mod merging;
 mod network;
-mod new_file;
 mod packet;
 mod reason;
 mod records;
@@ -45,14 +45,18 @@ use capture_copy::Copier;
 use capture_packet::MAX_PACKET_LEN;
 use counts::Counts;
 use ending::{Translated, finished};
-use input::{Input, STANDARD_STREAM};
-use new_file::NewFile;
+use program_files::{
+    Computer, FileSystem, Flushes, Input, NewFile, STANDARD_STREAM, open_input, with_progress,
+};
 use std::alloc::{AllocError, Global};
 use std::io::{BufReader, BufWriter, ErrorKind, IsTerminal, Read, Write};
 use std::process::ExitCode;
 use std::{env, io};
 use streams::{new_buffer, write_whole};
 use table::Table;
+
+/// The name of the program in its progress line.
+const PROGRAM: &str = "translator";
 
 /// The size of the buffers of input and output, in bytes.
 const STREAM_LEN: usize = 1 << 16;
@@ -130,10 +134,12 @@ fn answer(rt: &HostRuntime, error: clap::Error) -> io::Result<u8>
 
 /// Translates the capture to standard output, and returns the exit status.
 fn translate_to_standard_output(rt: &HostRuntime, options: &Options<'_>) -> io::Result<u8> {
-    let input = match Input::open(rt, options.file.unwrap_or(STANDARD_STREAM)) {
+    let system = Computer { rt };
+    let input = match opened(&system, options.file) {
         Ok(input) => input,
         Err(error) => return unopened_input(rt, options, &error),
     };
+    let input = with_progress(rt, &system, input, PROGRAM, false);
     match translate(rt, options, input, rt.stdout())? {
         Ok(status) => Ok(status),
         Err(error) => Ok(write_failure(rt, error)),
@@ -143,19 +149,28 @@ fn translate_to_standard_output(rt: &HostRuntime, options: &Options<'_>) -> io::
 /// Translates the capture to the file with this name, and returns the exit status. The file is created when its first byte is written. So
 /// it is created only if the beginning of the capture was accepted. The file may not be the capture.
 fn translate_to(rt: &HostRuntime, options: &Options<'_>, name: &str) -> io::Result<u8> {
-    let input = match Input::open(rt, options.file.unwrap_or(STANDARD_STREAM)) {
+    let system = Computer { rt };
+    let input = match opened(&system, options.file) {
         Ok(input) => input,
         Err(error) => return unopened_input(rt, options, &error),
     };
-    if input.is_named(rt, name) {
+    let Some(mut output) = NewFile::unless_input(&system, &input, name) else {
         return answer(rt, arguments::output_is_capture(rt.alloc()));
-    }
-    let mut output = NewFile::new(rt, name);
+    };
+    let input = with_progress(rt, &system, input, PROGRAM, false);
     match translate(rt, options, input, &mut output)? {
         Ok(status) => Ok(status),
         Err(error) if output.is_refused() => unopened(&mut rt.stderr(), rt.alloc(), name, &error),
         Err(error) => Ok(write_failure(rt, error)),
     }
+}
+
+/// Opens the capture with this name, or standard input if there is no name.
+fn opened<S: FileSystem>(system: &S, name: Option<&str>) -> io::Result<Input<S::Standard, S::File>>
+    ensures opened { IfOk result (IsRequestedBy (S.is_standard system.now) (S.opens system.now) (input_name name.entry)) }
+    ensures refused { IfErr result (IsUnopened (S.opens system.now) (input_name name.entry)) }
+{
+    open_input(system, name.unwrap_or(STANDARD_STREAM))
 }
 
 /// Writes the error for a capture that can't be opened, and returns the exit status.
@@ -194,10 +209,10 @@ fn open_error_line(alloc: Global, name: &str, error: &io::Error) -> Result<Strin
 /// # Errors
 ///
 /// `OutOfMemory` if no memory is left for the buffers.
-fn translate<W: Write + Drop>(
+fn translate<R: Read + Drop, W: Write + Drop>(
     rt: &HostRuntime,
     options: &Options<'_>,
-    input: Input,
+    input: R,
     output: W,
 ) -> io::Result<io::Result<u8>> {
     let input = BufReader::with_capacity(rt.alloc(), STREAM_LEN, input)?;
@@ -218,21 +233,22 @@ fn translate<W: Write + Drop>(
 ///
 /// The error of writing or flushing the output, or the error of writing to `errors`. It is also an error if no memory is left. The output
 /// is written and flushed before `errors`.
-fn write_translation<R: Read, W: Write, E: Write>(
+fn write_translation<R: Read, W: Flushes, E: Write>(
     alloc: Global,
     table: &Table,
     name: Option<&str>,
     copier: &mut Copier<'_, R, W>,
     errors: &mut E,
 ) -> io::Result<u8>
-    ensures { WritesTranslation table.now (option_map (λ text. text.now) name.entry) (R.remaining copier.old.input)
+    ensures writes { WritesTranslation table.now (option_map (λ text. text.now) name.entry) (R.remaining copier.old.input)
         (R.remaining copier.new.input) (W.contents copier.old.output) (W.contents copier.new.output)
         (E.contents errors.old) (E.contents errors.new) result }
+    ensures flushed { IfOk result (λ status. W.is_flushed copier.new.output) }
 {
     let mut counts = Counts::NONE;
     let ended = translate_capture(copier, table, &mut counts);
     // What was written before an error is part of the output.
-    let flushed = copier.output.flush();
+    let flushed = copier.output.flush_all();
     let translated = Translated {
         ended,
         flushed,

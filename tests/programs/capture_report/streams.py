@@ -1,15 +1,13 @@
 """Tests of input and output: streams that fail, live captures, terminals, and the progress line."""
-import contextlib
 import os
 import pathlib
 import pty
 import select
 import signal
-import struct
 import subprocess
 import tempfile
 
-from ..build import ETHERNET, IPV4, START, capture, frame, ipv4, udp
+from ..build import ETHERNET, IPV4, capture, frame, ipv4, udp, write_long_capture
 from .report import PROGRAM, run
 
 
@@ -87,33 +85,16 @@ def check_interrupts(tally, whole):
         tally.expect("a writer that is ended", (done.stdout, done.returncode), (report, 0))
 
 
-def on_terminal(*arguments, both=False, stdin=subprocess.DEVNULL):
-    """The status, standard output, and what is written to a terminal. It is standard error, or `both` outputs."""
-    terminal, its_end = pty.openpty()
-    done = subprocess.run([PROGRAM.path, *arguments], stdin=stdin, stdout=its_end if both else subprocess.PIPE, stderr=its_end, timeout=60)
-    os.close(its_end)
-    shown = b""
-    # At its end a terminal has an error.
-    with contextlib.suppress(OSError):
-        while piece := os.read(terminal, 4096):
-            shown += piece
-    os.close(terminal)
-    return done.returncode, done.stdout, shown.replace(b"\r\n", b"\n")
+on_terminal = PROGRAM.on_terminal
 
 
 def check_progress(tally):
-    """A file above 100 MB has a progress line on a terminal, which is erased. The frames are zeros, which take no room on the disk."""
-    erased = b" " * 21 + b"\r"
-    progress = [f"capture_report: {percent} %\r".encode() for percent in range(1, 100)]
+    """A file above 100 MB has a progress line on a terminal, which is erased."""
+    progress, erased = PROGRAM.progress()
     whole = b"".join(progress) + erased
     with tempfile.TemporaryDirectory() as room:
         path = pathlib.Path(room) / "long.pcap"
-        with open(path, "wb") as file:
-            file.write(capture(ETHERNET, []))
-            for _ in range(1600):
-                file.write(struct.pack("<IIII", START, 0, 65536, 65536))
-                file.seek(65536, os.SEEK_CUR)
-            file.truncate()
+        write_long_capture(path)
         plain = run(b"", path)
         tally.expect("no terminal has a progress line", (plain.returncode, plain.stderr), (0, b""))
         tally.expect("a progress line", on_terminal(path), (0, plain.stdout, whole))

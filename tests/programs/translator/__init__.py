@@ -8,12 +8,12 @@ line is 'N passed, N failed'; the status is 0 if none failed.
 from ..program import run_checks
 from .others import check_against_tcprewrite, check_against_tshark
 from .run import PROGRAM
-from .streams import check_arguments, check_streams
+from .streams import check_arguments, check_progress, check_streams
 from .translations import check_captures, check_cuts, check_faults, check_long, check_memory
 
 CHECKS = (
-    check_captures, check_cuts, check_faults, check_long, check_arguments, check_streams, check_memory, check_against_tshark,
-    check_against_tcprewrite)
+    check_captures, check_cuts, check_faults, check_long, check_arguments, check_streams, check_progress, check_memory,
+    check_against_tshark, check_against_tcprewrite)
 
 
 def main():

@@ -179,3 +179,28 @@ def check_failed_errors(tally, table, data):
                 done = PROGRAM.with_errors_to(errors, data, *arguments)
                 tally.expect(f"{arguments}, standard error {name}", (done.returncode, done.stdout), (status, b""))
     os.close(ended)
+
+
+def check_progress(tally):
+    """A file above 100 MB has a progress line if standard error is a terminal. It is erased, and then the counts follow."""
+    progress, erased = PROGRAM.progress()
+    whole = b"".join(progress) + erased
+    arguments = TABLES["both sides"].arguments
+    with tempfile.TemporaryDirectory() as room:
+        path = pathlib.Path(room) / "long.pcap"
+        build.write_long_capture(path)
+        new = path.with_name("new.pcap")
+        plain = run(b"", *arguments, "-w", new, path)
+        tally.expect("no terminal has a progress line", (plain.returncode, plain.stderr.startswith(b"translator: 0 IPv4 and ")), (0, True))
+        counts = plain.stderr
+        tally.expect("a progress line with -w FILE", PROGRAM.on_terminal(*arguments, "-w", new, path), (0, b"", whole + counts))
+        status, written, shown = PROGRAM.on_terminal(*arguments, path)
+        tally.expect("a progress line", (status, written == path.read_bytes(), shown), (0, True, whole + counts))
+        with open(path, "rb") as file:
+            shown = PROGRAM.on_terminal(*arguments, "-w", new, stdin=file)
+        tally.expect("no progress line of standard input", shown, (0, b"", counts))
+        for length, is_shown in ((100_000_001, True), (100_000_000, False)):
+            os.truncate(path, length)
+            status, _, shown = PROGRAM.on_terminal(*arguments, "-w", new, path)
+            error = run(b"", *arguments, "-w", new, path).stderr
+            tally.expect(f"a cut file of {length} bytes", (status, shown.endswith(error), shown.startswith(progress[0])), (1, True, is_shown))
