@@ -1,20 +1,25 @@
 -- The texts of an interface are the texts of the block that describes the interface.
 use Rattle.std.proofs.lemmas.Bool.Decides.{nat_tests}
-use Rattle.std.proofs.Common.{◌≡◌, ◌≢◌, ◌≤◌, ◌<◌, ◌∙◌, ℕ, zero, suc, List, [], ◌∷◌, ◌++◌, Err, None, Ok, Option, Result, Some, ap, arith, if◌then◌else◌, length, map, refl, subst, sym, take}
-use Rattle.std.proofs.lemmas.List.{map-append}
-use Rattle.std.specs.Prelude.{◌-◌, nat_lt, slice_range}
+use Rattle.std.proofs.Common.{◌≡◌, ◌≢◌, ◌≤◌, ◌<◌, ◌==◌, ◌||◌, ◌∙◌, ℕ, zero, suc, Bool, true, false, List, [], ◌∷◌, ◌++◌, Err, None, Ok, Option, Result, Some, ap, arith, drop, if◌then◌else◌, length, map, refl, subst, sym, take}
+use Rattle.std.proofs.lemmas.List.{length-map, map-append}
+use Rattle.std.specs.Prelude.{◌-◌, nat_lt, slice_get, slice_range}
 use Rattle.net_base.specs.Bytes.{IsBytes}
-use Rattle.capture_numbers.specs.Blocks.{interface_description_type, section_header_type}
-use Rattle.capture_file.specs.Texts.{max_interfaces_with_texts}
+use Rattle.capture_numbers.specs.Blocks.{enhanced_packet_type, interface_description_len, interface_description_type, obsolete_packet_type, section_header_len, section_header_type, simple_packet_type}
+use Rattle.capture_numbers.specs.Numbers.{number_at}
+use Rattle.capture_numbers.specs.declared.byte_order.ByteOrder.{ByteOrder}
+use Rattle.capture_file.specs.Texts.{interface_added, interface_statistics, interface_statistics_len, interface_statistics_type, max_interfaces_with_texts, no_comments, no_texts, packet_added, packet_options, section_begun, statistics_added, texts_after, with_statistics}
+use Rattle.capture_file.specs.declared.file_texts.FileTexts.{FileTexts}
+use Rattle.capture_file.specs.declared.interface_statistics.InterfaceStatistics.{InterfaceStatistics}
 use Rattle.capture_file.specs.declared.file_texts.InterfaceTexts.{InterfaceTexts}
 use Rattle.capture_file.proofs.PacketsOfBlocksLaws.{FirstBlock, first_block}
 use Rattle.capture_file.proofs.PacketsOfBlocksLemmas.{both_orders, bytes_front, section_number}
 use Rattle.capture_numbers.specs.declared.byte_order.ByteOrder.TheVariants.{BigEndian}
 use Rattle.capture_file.specs.BlockTexts.{noted, texts_with, unless_refused}
 use Rattle.capture_file.specs.CapturePackets.{Begins, FilePacket, ReadsOne, ReadsPackets}
-use Rattle.capture_file.specs.Interfaces.{Description, HasOwnTexts, KeepsOwnTexts, description_of, texts_of}
+use Rattle.capture_file.specs.Interfaces.{Description, HasOwnTexts, KeepsOwnTexts, description_of, texts_of, without_statistics}
 use Rattle.capture_file.specs.Pcapng.{block_header, order_of}
 use Rattle.capture_file.specs.PcapngBodies.{interface_description}
+use Rattle.capture_file.specs.PacketsOfBlocks.{body_of}
 use Rattle.capture_file.specs.PcapngBody.{IsBody, body_refusal}
 use Rattle.capture_file.specs.PcapngSteps.{IsStep, PassesBlocks, ReadsStep, next_by_taken}
 use Rattle.capture_file.specs.Sections.{TakesBody, TakesUnless}
@@ -59,6 +64,92 @@ more_kept : (texts : List InterfaceTexts) (one : InterfaceTexts)
 more_kept texts one =
     grind (arith, nat_tests, more_below max_interfaces_with_texts texts one, more_above max_interfaces_with_texts texts one)
 
+-- new statistics of an interface change no text
+same_texts : (interfaces : List InterfaceTexts) (number : ℕ) (statistics : InterfaceStatistics)
+    → map without_statistics (with_statistics interfaces number statistics (slice_get interfaces number)) ≡ map without_statistics interfaces
+same_texts [] number statistics = refl
+same_texts (texts ∷ interfaces) zero statistics = refl
+same_texts (texts ∷ interfaces) (suc number) statistics =
+    others (slice_get interfaces number) (same_texts interfaces number statistics)
+  where
+    others : (found : Option InterfaceTexts)
+        → map without_statistics (with_statistics interfaces number statistics found) ≡ map without_statistics interfaces
+        → map without_statistics (with_statistics (texts ∷ interfaces) (suc number) statistics found)
+        ≡ map without_statistics (texts ∷ interfaces)
+    others None same = refl
+    others (Some found) same = ap (λ t. without_statistics texts ∷ t) same
+
+statistics_same : (order : ByteOrder) (body : List ℕ) (before : FileTexts)
+    → map without_statistics (statistics_added order body before).interfaces.items ≡ map without_statistics before.interfaces.items
+statistics_same order body before = by_length (nat_lt (length body) interface_statistics_len)
+  where
+    number : ℕ
+    number = number_at order body 0
+
+    statistics : InterfaceStatistics
+    statistics = interface_statistics order (drop interface_statistics_len body)
+
+    changed : List InterfaceTexts
+    changed = with_statistics before.interfaces.items number statistics (slice_get before.interfaces.items number)
+
+    by_length : (short : Bool)
+        → map without_statistics (if short then before else record before { interfaces = record { items = changed } }).interfaces.items
+        ≡ map without_statistics before.interfaces.items
+    by_length true = refl
+    by_length false = same_texts before.interfaces.items number statistics
+
+-- the texts after a section header block are those of no interface
+texts_begun : (order : ByteOrder) (type : ℕ) (body : List ℕ) (before : FileTexts) → type ≡ section_header_type
+    → map without_statistics (texts_after order type body before).interfaces.items ≡ []
+texts_begun order type body before is =
+    subst (λ t. map without_statistics (texts_after order t body before).interfaces.items ≡ []) (sym is) refl
+
+-- one of four texts
+one_of_four : (a b c : Bool) (w x y z : FileTexts) (items : List InterfaceTexts) → map without_statistics w.interfaces.items ≡ items
+    → map without_statistics x.interfaces.items ≡ items → map without_statistics y.interfaces.items ≡ items
+    → map without_statistics z.interfaces.items ≡ items
+    → map without_statistics (if a then w else (if b then x else (if c then y else z))).interfaces.items ≡ items
+one_of_four true b c w x y z items is-w is-x is-y is-z = is-w
+one_of_four false true c w x y z items is-w is-x is-y is-z = is-x
+one_of_four false false true w x y z items is-w is-x is-y is-z = is-y
+one_of_four false false false w x y z items is-w is-x is-y is-z = is-z
+
+-- a block of another type changes no text of an interface
+others_same : (order : ByteOrder) (type : ℕ) (body : List ℕ) (before : FileTexts) → type ≢ section_header_type
+    → type ≢ interface_description_type
+    → map without_statistics (texts_after order type body before).interfaces.items ≡ map without_statistics before.interfaces.items
+others_same order type body before section description =
+    let begun = section_begun order (drop section_header_len body) before in
+    let added = interface_added order (drop interface_description_len body) before in
+    let others : FileTexts = if type == interface_statistics_type then statistics_added order body before
+    else if type == enhanced_packet_type || type == obsolete_packet_type then packet_added order (packet_options order body) before
+    else if type == simple_packet_type then record before { packet_comments = no_comments }
+    else before in
+    let no_section : (type == section_header_type) ≡ false = grind (arith, nat_tests, section) in
+    let no_description : (type == interface_description_type) ≡ false = grind (arith, nat_tests, description) in
+    ap (λ b. map without_statistics
+    (if b then begun else (if type == interface_description_type then added else others)).interfaces.items) no_section
+    ∙ ap (λ b. map without_statistics (if b then added else others).interfaces.items) no_description
+    ∙ one_of_four (type == interface_statistics_type) (type == enhanced_packet_type || type == obsolete_packet_type)
+    (type == simple_packet_type) (statistics_added order body before) (packet_added order (packet_options order body) before)
+    (record before { packet_comments = no_comments }) before (map without_statistics before.interfaces.items)
+    (statistics_same order body before) refl refl refl
+
+-- the texts of interfaces and of another interface without their statistics
+without_more : (items : List InterfaceTexts) (one : InterfaceTexts) → without_statistics one ≡ one
+    → map without_statistics (if nat_lt (length items) max_interfaces_with_texts then items ++ one ∷ [] else items)
+    ≡ (if nat_lt (length (map without_statistics items)) max_interfaces_with_texts
+    then map without_statistics items ++ one ∷ [] else map without_statistics items)
+without_more items one is =
+    by_room (nat_lt (length items) max_interfaces_with_texts)
+    ∙ ap (λ n. if nat_lt n max_interfaces_with_texts then map without_statistics items ++ one ∷ [] else map without_statistics items)
+    (sym (length-map items without_statistics))
+  where
+    by_room : (room : Bool) → map without_statistics (if room then items ++ one ∷ [] else items)
+        ≡ (if room then map without_statistics items ++ one ∷ [] else map without_statistics items)
+    by_room true = map-append without_statistics items (one ∷ []) ∙ ap (λ o. map without_statistics items ++ o ∷ []) is
+    by_room false = refl
+
 -- ---- a block
 
 abbrev Given : Type 0
@@ -73,13 +164,13 @@ unchanged before after section texts own = (
   own.0,
   record {
     interfaces = ap (λ s. s.interfaces.items) section ∙ own.1.interfaces;
-    texts = ap (λ t. t.interfaces.items) texts ∙ own.1.texts;
+    texts = ap (λ t. map without_statistics t.interfaces.items) texts ∙ own.1.texts;
   },
 )
 
--- the interfaces did not change
+-- the interfaces did not change, except for their statistics
 same_interfaces : (before after : PcapngReader) → after.section ≡ before.section
-    → after.texts.interfaces.items ≡ before.texts.interfaces.items → Own before → Own after
+    → map without_statistics after.texts.interfaces.items ≡ map without_statistics before.texts.interfaces.items → Own before → Own after
 same_interfaces before after section texts own = (
   own.0,
   record { interfaces = ap (λ s. s.interfaces.items) section ∙ own.1.interfaces; texts = texts ∙ own.1.texts },
@@ -93,7 +184,7 @@ module _ (before after : PcapngReader) (header : BlockHeader) (body : List ℕ) 
     [],
     record {
       interfaces = section;
-      texts = ap (λ t. t.interfaces.items) texts ∙ grind (arith, nat_tests, type);
+      texts = ap (λ t. map without_statistics t.interfaces.items) texts ∙ texts_begun header.byte_order header.block_type body before.texts type;
     },
   )
 
@@ -113,7 +204,7 @@ module _ (before after : PcapngReader) (header : BlockHeader) (body : List ℕ) 
         record {
           interfaces = section ∙ ap (λ items. items ++ interface ∷ []) are.interfaces
               ∙ ap (λ i. map description_of blocks ++ i ∷ []) is ∙ sym (map-append description_of blocks (one ∷ []));
-          texts = texts_now
+          texts = ap (map without_statistics) texts_now ∙ without_more before.texts.interfaces.items (texts_of one) refl
               ∙ ap (λ t. if nat_lt (length t) max_interfaces_with_texts then t ++ texts_of one ∷ [] else t) are.texts
               ∙ sym (more_kept (map texts_of blocks) (texts_of one))
               ∙ sym (ap kept (map-append texts_of blocks (one ∷ [])));
@@ -124,7 +215,8 @@ module _ (before after : PcapngReader) (header : BlockHeader) (body : List ℕ) 
   others : header.block_type ≢ section_header_type → header.block_type ≢ interface_description_type → after.section ≡ before.section
       → after.texts ≡ texts_with header body before.texts → Own after
   others section description same texts =
-      same_interfaces before after same (ap (λ t. t.interfaces.items) texts ∙ grind (arith, nat_tests, section, description)) own
+      same_interfaces before after same (ap (λ t. map without_statistics t.interfaces.items) texts
+      ∙ others_same header.byte_order header.block_type body before.texts section description) own
 
   -- a block with an accepted body
   accepted : (said : BlockBody) (given : Given) (next : Option NextPacket) → IsBody header before.section.interfaces.items body said
@@ -199,7 +291,8 @@ begins_own room (Pcapng reader) file rest fits begins =
       [],
       record {
         interfaces = first.begins.interfaces;
-        texts = ap (λ t. t.interfaces.items) first.begins.texts ∙ grind (arith, nat_tests, type);
+        texts = ap (λ t. map without_statistics t.interfaces.items) first.begins.texts
+            ∙ texts_begun (block_header BigEndian first.block).byte_order (block_header BigEndian first.block).block_type (body_of first.block) no_texts type;
       },
     )
 

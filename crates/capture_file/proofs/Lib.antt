@@ -2,6 +2,8 @@ pub mod CapturePacketsExist
 pub mod CapturePacketsLaws
 pub mod CapturePacketsLemmas
 mod ClassicExamples
+pub mod CommentsLaws
+pub mod CommentsLemmas
 pub mod InterfaceLaws
 pub mod OpeningLemmas
 pub mod PacketsOfBlocksLaws

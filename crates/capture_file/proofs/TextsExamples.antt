@@ -4,7 +4,7 @@ use Rattle.ip_part.specs.Options.{options_within}
 use Rattle.capture_numbers.specs.LinkTypes.{link_type_with}
 use Rattle.capture_numbers.specs.Numbers.{long_at, number_at, short_at}
 use Rattle.capture_numbers.specs.Options.{option_value}
-use Rattle.capture_file.specs.Texts.{char_start, interface_texts, kept_text, no_texts, texts_after}
+use Rattle.capture_file.specs.Texts.{char_start, comments_in, interface_statistics, interface_texts, kept_comments, kept_text, no_comments, no_statistics, no_texts, texts_after}
 use Rattle.capture_numbers.specs.declared.byte_order.ByteOrder.TheVariants.{BigEndian, LittleEndian}
 use Rattle.capture_file.specs.declared.file_texts.FileTexts.{FileTexts}
 use Rattle.capture_file.specs.declared.kept_text.KeptText.{KeptText}
@@ -56,7 +56,7 @@ unfolding options_within
 comment_of_interface = refl
 
 texts_of_interface : interface_texts LittleEndian interface_options
-    ≡ record { name = whole (codes "eth0"); description = whole []; comment = whole (codes "hello") }
+    ≡ record { name = whole (codes "eth0"); description = whole []; comment = whole (codes "hello"); statistics = no_statistics }
 unfolding options_within
 texts_of_interface = refl
 
@@ -85,14 +85,42 @@ file_texts = record {
   operating_system = whole (codes "Linux");
   application = whole (codes "dump");
   interfaces = record {
-    items = record { name = whole (codes "eth0"); description = whole (codes "LAN"); comment = whole (0xC3 ∷ 0xA9 ∷ []) } ∷ [];
+    items = record {
+      name = whole (codes "eth0");
+      description = whole (codes "LAN");
+      comment = whole (0xC3 ∷ 0xA9 ∷ []);
+      statistics = no_statistics;
+    } ∷ [];
   };
+  packet_comments = no_comments;
   commented_packets = 0;
 }
 
 texts_of_file : texts_after LittleEndian 1 interface (texts_after LittleEndian 0x0A0D0D0A section no_texts) ≡ file_texts
 unfolding interface options_within section
 texts_of_file = refl
+
+-- epb_flags, the comment `a`, an empty comment, opt_endofopt, and a comment after the end (sections 3.5 and 4.3)
+comments_of_packet : comments_in LittleEndian
+    (2 ∷ 0 ∷ 4 ∷ 0 ∷ (replicate 4 0
+    ++ 1 ∷ 0 ∷ 1 ∷ 0 ∷ 97 ∷ 0 ∷ 0 ∷ 0 ∷ 1 ∷ 0 ∷ 0 ∷ 0 ∷ 0 ∷ 0 ∷ 0 ∷ 0 ∷ 1 ∷ 0 ∷ 1 ∷ 0 ∷ 98 ∷ 0 ∷ 0 ∷ 0 ∷ []))
+    ≡ (97 ∷ []) ∷ ([] ∷ [])
+unfolding options_within
+comments_of_packet = refl
+
+-- of five comments four are kept
+fifth_comment : kept_comments ((49 ∷ []) ∷ ((50 ∷ []) ∷ ((51 ∷ []) ∷ ((52 ∷ []) ∷ ((53 ∷ []) ∷ [])))))
+    ≡ record {
+      texts = record { items = whole (49 ∷ []) ∷ (whole (50 ∷ []) ∷ (whole (51 ∷ []) ∷ (whole (52 ∷ []) ∷ []))) };
+      more = 1;
+    }
+fifth_comment = refl
+
+-- an isb_ifrecv of four bytes, which does not count, and an isb_ifdrop of 12 packets (section 4.6)
+dropped_packets : interface_statistics LittleEndian (4 ∷ 0 ∷ 4 ∷ 0 ∷ 9 ∷ 0 ∷ 0 ∷ 0 ∷ 5 ∷ 0 ∷ 8 ∷ 0 ∷ 12 ∷ replicate 7 0)
+    ≡ record { received = None; dropped = Some 12; dropped_by_system = None }
+unfolding options_within
+dropped_packets = refl
 
 -- bytes 127 and 128 are the character U+00E9 (RFC 3629, section 3), which is left out
 cut_at_character : kept_text (replicate 127 97 ++ 0xC3 ∷ 0xA9 ∷ 97 ∷ [])

@@ -3,7 +3,7 @@ use Rattle.std.specs.Prelude.{◌≡◌, ℕ, nat_lt, if◌then◌else◌, List,
 use Rattle.std.specs.Option.{option_map}
 use Rattle.net_base.specs.Bytes.{IsBytes}
 use Rattle.capture_numbers.specs.Blocks.{interface_description_len}
-use Rattle.capture_file.specs.Texts.{interface_texts, kept_text, max_interfaces_with_texts}
+use Rattle.capture_file.specs.Texts.{interface_texts, kept_text, max_interfaces_with_texts, no_statistics}
 use Rattle.capture_numbers.specs.declared.byte_order.ByteOrder.{ByteOrder}
 use Rattle.capture_file.specs.declared.file_texts.InterfaceTexts.{InterfaceTexts}
 use Rattle.capture_file.specs.declared.kept_text.KeptText.{KeptText}
@@ -42,6 +42,10 @@ Description = ByteOrder × List ℕ
 abbrev pub description_of : Description → InterfaceDescription
 description_of block = interface_description block.0 block.1
 
+-- the texts of an interface without its statistics, which come from other blocks
+abbrev pub without_statistics : InterfaceTexts → InterfaceTexts
+without_statistics texts = record texts { statistics = no_statistics }
+
 -- the texts of the interface that a block describes
 abbrev pub texts_of : Description → InterfaceTexts
 texts_of block = interface_texts block.0 (drop interface_description_len block.1)
@@ -50,7 +54,7 @@ texts_of block = interface_texts block.0 (drop interface_description_len block.1
 -- blocks.
 pub record AreDescribed (reader : PcapngReader) (blocks : List Description) : Type 0 where
   pub interfaces : reader.section.interfaces.items ≡ map description_of blocks
-  pub texts : reader.texts.interfaces.items ≡ take max_interfaces_with_texts (map texts_of blocks)
+  pub texts : map without_statistics reader.texts.interfaces.items ≡ take max_interfaces_with_texts (map texts_of blocks)
 
 -- Each interface of the section that is read and the texts with its number come from the same block.
 abbrev pub HasOwnTexts : CaptureReader → Type 0

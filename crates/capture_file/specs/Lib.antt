@@ -5,6 +5,7 @@ pub mod Interfaces
 pub mod Laws
 pub mod Opening
 pub mod PacketTimes
+pub mod PacketTexts
 pub mod Packets
 pub mod PacketsOfBlocks
 pub mod Pcapng

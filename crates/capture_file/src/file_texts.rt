@@ -1,19 +1,23 @@
 ghost use Rattle.std.specs.Prelude.{◌≡◌, drop};
 ghost use Rattle.capture_file.specs.Texts as specs;
 
-use crate::{ByteOrder, KeptText};
+use crate::packet_comments::COMMENT;
+use crate::{ByteOrder, InterfaceStatistics, KeptText, PacketComments};
 use arrayvec::ArrayVec;
 use capture_numbers::block::{
-    ENHANCED_PACKET, INTERFACE_DESCRIPTION, INTERFACE_DESCRIPTION_LEN, SECTION_HEADER,
-    SECTION_HEADER_LEN, TIMED_CAPTURED_AT, TIMED_CAPTURED_LEN_AT,
+    ENHANCED_PACKET, INTERFACE_DESCRIPTION, INTERFACE_DESCRIPTION_LEN, OBSOLETE_PACKET,
+    SECTION_HEADER, SECTION_HEADER_LEN, SIMPLE_PACKET, TIMED_CAPTURED_AT, TIMED_CAPTURED_LEN_AT,
 };
 use capture_numbers::option_value;
 
 /// The maximum number of interfaces whose texts are kept, in each section.
 pub const MAX_INTERFACES_WITH_TEXTS: usize = 32;
 
-/// The code of a comment in any block (draft-ietf-opsawg-pcapng, section 3.5).
-const COMMENT: u16 = 1;
+/// The type of an interface statistics block (draft-ietf-opsawg-pcapng, section 4.6).
+const INTERFACE_STATISTICS: u32 = 5;
+
+/// The length of the body of an interface statistics block without options: the number of the interface, and a time in two halves.
+const INTERFACE_STATISTICS_LEN: usize = 12;
 
 /// The code of the hardware in a section header block (section 4.1).
 const SHB_HARDWARE: u16 = 2;
@@ -30,7 +34,7 @@ const IF_NAME: u16 = 2;
 /// The code of the description in an interface description block.
 const IF_DESCRIPTION: u16 = 3;
 
-/// The texts of an interface description block (section 4.2).
+/// The texts of an interface description block (section 4.2), and the newest statistics of the interface.
 #[derive(Clone, Debug, Default, Drop)]
 pub struct InterfaceTexts {
     /// The name of the interface: the option `if_name`.
@@ -39,6 +43,8 @@ pub struct InterfaceTexts {
     pub description: KeptText,
     /// The first comment of the block.
     pub comment: KeptText,
+    /// The statistics in the last interface statistics block of the interface that was read. They state no number before such a block.
+    pub statistics: InterfaceStatistics,
 }
 
 impl InterfaceTexts {
@@ -51,11 +57,12 @@ impl InterfaceTexts {
             name: text_of(IF_NAME),
             description: text_of(IF_DESCRIPTION),
             comment: text_of(COMMENT),
+            statistics: InterfaceStatistics::default(),
         }
     }
 }
 
-/// The texts of the section that is read, and the number of packets with a comment.
+/// The texts of the section that is read, the comments of the packet that was read last, and the number of packets with a comment.
 #[derive(Clone, Debug, Default, Drop)]
 pub struct FileTexts {
     /// The first comment of the section header block.
@@ -68,6 +75,8 @@ pub struct FileTexts {
     pub application: KeptText,
     /// The texts of the first interfaces of the section, in their order.
     pub interfaces: ArrayVec<InterfaceTexts, MAX_INTERFACES_WITH_TEXTS>,
+    /// The comments of the packet in the last packet block that was read. A packet of a simple packet block has no comment.
+    pub packet_comments: PacketComments,
     /// The number of packets with a comment, in all sections of the file, up to 2^64 - 1.
     pub commented_packets: u64,
 }
@@ -90,7 +99,11 @@ impl FileTexts {
                 order,
                 after(body, INTERFACE_DESCRIPTION_LEN),
             ),
-            ENHANCED_PACKET => self.add_packet(order, body),
+            INTERFACE_STATISTICS => self.add_statistics(order, body),
+            ENHANCED_PACKET | OBSOLETE_PACKET => {
+                self.add_packet(order, packet_options(order, body))
+            }
+            SIMPLE_PACKET => self.packet_comments = PacketComments::new(),
             _ => {}
         }
     }
@@ -117,27 +130,44 @@ impl FileTexts {
         }
     }
 
-    /// Counts the packet of an enhanced packet block with this body, if the block has a comment.
-    fn add_packet(&mut self, order: ByteOrder, body: &[u8])
-        ensures { self.new ≡ specs.packet_added order body.now self.old }
+    /// Replaces the statistics of the interface that an interface statistics block with this body states. Nothing changes if the body is
+    /// too short, or if there are no texts of the interface.
+    fn add_statistics(&mut self, order: ByteOrder, body: &[u8])
+        ensures { self.new ≡ specs.statistics_added order body.now self.old }
     {
-        if has_comment(order, body) {
+        if body.len() < INTERFACE_STATISTICS_LEN {
+            return;
+        }
+        let statistics = InterfaceStatistics::from_options(
+            order,
+            after(body, INTERFACE_STATISTICS_LEN),
+        );
+        if let Some(texts) = self.interfaces.get_mut(order.number_in(body, 0) as usize) {
+            texts.statistics = statistics;
+        }
+    }
+
+    /// Keeps the comments among the options of a packet block, and counts its packet if the block has a comment.
+    fn add_packet(&mut self, order: ByteOrder, options: &[u8])
+        ensures { self.new ≡ specs.packet_added order options.now self.old }
+    {
+        self.packet_comments = PacketComments::from_options(order, options);
+        if !self.packet_comments.texts.is_empty() {
             self.commented_packets = self.commented_packets.saturating_add(1);
         }
     }
 }
 
-/// Whether an enhanced packet block with this body has a comment that is not empty. The options follow the captured bytes, which are padded
-/// to a multiple of four bytes.
-fn has_comment(order: ByteOrder, body: &[u8]) -> bool
-    ensures { result ≡ specs.has_comment order body.now }
+/// The options of an enhanced or obsolete packet block with this body. The options follow the captured bytes, which are padded to a multiple
+/// of four bytes.
+fn packet_options(order: ByteOrder, body: &[u8]) -> &[u8]
+    ensures { result.now ≡ specs.packet_options order body.now }
 {
     if body.len() <= TIMED_CAPTURED_AT {
-        return false;
+        return &[];
     }
     let captured_len = order.number_in(body, TIMED_CAPTURED_LEN_AT) as usize;
-    let options = after(body, TIMED_CAPTURED_AT + (captured_len + 3) / 4 * 4);
-    !text_in(order, options, COMMENT).is_empty()
+    after(body, TIMED_CAPTURED_AT + (captured_len + 3) / 4 * 4)
 }
 
 /// The text in the first option with this code. The text is empty if no option has this code.

@@ -27,6 +27,18 @@ impl KeptText {
         let is_cut = len < text.len();
         KeptText { bytes, is_cut }
     }
+
+    /// Returns a copy of the text. Unlike `clone`, the call can't fail.
+    pub(crate) fn copy(&self) -> KeptText
+        ensures { result ≡ self.now }
+    {
+        let mut bytes = ArrayVec::new();
+        bytes.try_extend_from_slice(self.bytes.as_slice()).unwrap();
+        KeptText {
+            bytes,
+            is_cut: self.is_cut,
+        }
+    }
 }
 
 /// The number of bytes that are kept of a text.

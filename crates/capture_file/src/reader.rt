@@ -8,6 +8,7 @@ mod next_packet;
 mod open_error;
 mod packet_error;
 mod packet_interface;
+mod packet_texts;
 mod pcapng_reader;
 
 pub use capture_reader::{CaptureReader, ClassicReader};
@@ -16,4 +17,5 @@ pub use next_packet::{NextPacket, TooLongPacket};
 pub use open_error::OpenError;
 pub use packet_error::{PacketError, PlacedPacketError};
 pub use packet_interface::PacketInterface;
+pub use packet_texts::PacketTexts;
 pub use pcapng_reader::{MAX_INTERFACES, PcapngReader, Section};

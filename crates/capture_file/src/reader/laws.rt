@@ -4,6 +4,7 @@ ghost use Rattle.std.specs.Prelude.{◌<◌, ◌^◌, ℕ, List, length};
 ghost use Rattle.capture_file.specs.CapturePackets.{AreFirstPackets, ArePacketsBeforeCut, HasPackets};
 ghost use Rattle.capture_file.specs.Interfaces.{KeepsOwnTexts};
 ghost use Rattle.capture_file.specs.Laws.{AreUnique, Exist, RemainAtCut};
+ghost use Rattle.capture_file.specs.PacketTexts.{KeepsOwnComments};
 ghost use Rattle.capture_file.specs.PacketsOfBlocks.{FilesHavePacketsOfBlocks, ReadPacketsOfBlocks};
 ghost use Rattle.capture_file.specs.Places.{OffsetsArePlaces};
 ghost use Rattle.capture_file.specs.Readers.{LeavesOneReader};
@@ -33,6 +34,11 @@ pub fn packets_of_blocks()
 /// from an earlier section. This holds at the beginning of a file and after each packet.
 pub fn own_texts()
     ensures { (room : ℕ) → KeepsOwnTexts room }
+{}
+
+/// After each packet of a pcapng file the reader keeps the comments of exactly the block that contains the packet.
+pub fn own_comments()
+    ensures { KeepsOwnComments }
 {}
 
 /// If a file has fewer than 2^64 bytes, the offset of a reader is the number of bytes before the next record or block.

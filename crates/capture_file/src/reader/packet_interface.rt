@@ -3,7 +3,6 @@ ghost use Rattle.capture_file.specs.Interfaces.{interface_in, interface_of, name
 
 use crate::reader::{CaptureReader, CapturedPacket, PcapngReader};
 use crate::{InterfaceTexts, KeptText};
-use arrayvec::ArrayVec;
 
 /// The interface on which a packet was captured, in a section of a pcapng file that describes several interfaces.
 #[derive(Clone, Debug, Drop)]
@@ -44,19 +43,7 @@ fn name_in(texts: &[InterfaceTexts], number: usize) -> KeptText
     ensures { result ≡ name_in texts.now number }
 {
     match texts.get(number) {
-        Some(texts) => copy_of(&texts.name),
+        Some(texts) => texts.name.copy(),
         None => KeptText::new(&[]),
-    }
-}
-
-/// Returns a copy of a text. Unlike `clone`, the call can't fail.
-fn copy_of(text: &KeptText) -> KeptText
-    ensures { result ≡ text.now }
-{
-    let mut bytes = ArrayVec::new();
-    bytes.try_extend_from_slice(text.bytes.as_slice()).unwrap();
-    KeptText {
-        bytes,
-        is_cut: text.is_cut,
     }
 }
