@@ -42,6 +42,8 @@ mod summaries;
 #[cfg(test)]
 mod tcp_part;
 #[cfg(test)]
+mod timeline;
+#[cfg(test)]
 mod transport_part;
 #[cfg(test)]
 mod udp_part;

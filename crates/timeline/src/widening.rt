@@ -1,0 +1,48 @@
+//! Bins for a later packet.
+
+ghost use Rattle.std.specs.Prelude.{◌≡◌, ◌≤◌, ◌<◌, ◌*◌, ◌^◌, ◌/◌, ℕ, List, length, vec_capacity, IsOk};
+ghost use Rattle.timeline.specs.Intervals.{AreIntervals, IsPowerOfTen};
+ghost use Rattle.timeline.specs.Widening.{CountsAt};
+ghost use Rattle.timeline.specs.declared.event.Event.{Event as PacketEvent};
+
+use crate::merging::{MAX_BINS, coarsen};
+use crate::{Counts, Event};
+use std::alloc::AllocError;
+
+/// Makes the unit ten times as large, as often as needed until at most `MAX_BINS` bins reach this time after the start. The bins contain
+/// the same packets as before. Returns the number of the bin of this time.
+pub fn widen(unit: &mut u128, bins: &mut Vec<Counts>, offset: u128) -> usize
+    requires unit { (0 < unit.old) × (unit.old < 2 ^ 121) }
+    requires len { length bins.old.items ≤ 1280 }
+    ensures unit { (unit.old ≤ unit.new) × (unit.new < 2 ^ 121) }
+    ensures len { length bins.new.items ≤ 1280 }
+    ensures place { (result ≡ offset / unit.new) × (result < 1280) }
+    ensures capacity { vec_capacity bins.new ≡ vec_capacity bins.old }
+    ensures kept { (start : ℕ) (packets : List PacketEvent)
+        → AreIntervals start unit.old bins.old.items packets → AreIntervals start unit.new bins.new.items packets }
+    ensures power { IsPowerOfTen unit.old → IsPowerOfTen unit.new }
+    ensures least { IsPowerOfTen unit.old
+        → (other : ℕ) → IsPowerOfTen other → unit.old ≤ other → offset < 1280 * other → unit.new ≤ other }
+{
+    let mut place = offset / *unit;
+    while place >= MAX_BINS as u128 {
+        coarsen(bins);
+        *unit *= 10;
+        place = offset / *unit;
+    }
+    place as usize
+}
+
+/// Counts a packet in the bin number `place`. There must be room for this bin.
+pub fn count_at(bins: &mut Vec<Counts>, place: usize, event: &Event) -> Result<(), AllocError>
+    requires place { place < 1280 }
+    requires capacity { 1280 ≤ vec_capacity bins.old }
+    ensures ok { CountsAt place event.now bins.old.items bins.new.items }
+    ensures succeeds { IsOk result }
+{
+    if bins.len() <= place {
+        bins.resize(place + 1, Counts::NONE)?;
+    }
+    bins[place].add(event);
+    Ok(())
+}

@@ -1,0 +1,140 @@
+//! Tests of the crate `timeline`.
+
+use crate::expect::{expect_at, expect_equal, expect_ok};
+use std::process::Abort;
+use timeline::{Count, Counts, Event, Fault, MAX_INTERVALS, Timeline, Transport};
+
+/// A UDP packet of 100 bytes at this time.
+fn udp(time: Option<u128>) -> Event {
+    Event {
+        time,
+        len: 100,
+        transport: Transport::Udp,
+        fault: None,
+    }
+}
+
+/// A count of this number of packets and of bytes.
+fn count(packets: u64, bytes: u64) -> Count {
+    Count { packets, bytes }
+}
+
+/// Counts one packet.
+fn add(rt: &impl Abort, timeline: &mut Timeline, event: &Event) {
+    expect_ok(rt, timeline.add(event));
+}
+
+/// The intervals of a timeline.
+fn intervals(rt: &HostRuntime, timeline: &Timeline) -> Vec<Counts> {
+    expect_ok(rt, timeline.intervals(rt.alloc()))
+}
+
+/// Stops the test unless the width and the number of intervals are these after a packet at time 1000 and another packet so much later.
+fn expect_width(rt: &HostRuntime, row: &(u128, u128, usize)) {
+    let mut timeline = Timeline::new(rt.alloc());
+    add(rt, &mut timeline, &udp(Some(1000)));
+    add(rt, &mut timeline, &udp(Some(1000 + row.0)));
+    let shown = intervals(rt, &timeline);
+    expect_at(rt, row, &timeline.width(), &row.1);
+    expect_at(rt, row, &shown.len(), &row.2);
+    if let Some(last) = shown.last() {
+        let packets = if shown.len() == 1 { 2 } else { 1 };
+        expect_at(rt, row, &last.udp.packets, &packets);
+    }
+}
+
+#[test]
+fn the_width_is_the_least_that_fits(rt: HostRuntime) {
+    let rows: [(u128, u128, usize); 14] = [
+        (0, 1, 1),
+        (255, 1, 256),
+        (256, 2, 129),
+        (511, 2, 256),
+        (512, 5, 103),
+        (1_279, 5, 256),
+        (1_280, 10, 129),
+        (2_559, 10, 256),
+        (2_560, 20, 129),
+        (12_799, 50, 256),
+        (12_800, 100, 129),
+        (3_600_000_000_000, 20_000_000_000, 181),
+        (u128::from(u64::MAX) * 1_000_000_000, 100_000_000_000_000_000_000_000_000, 185),
+        (u128::MAX - 1000, 2_000_000_000_000_000_000_000_000_000_000_000_000, 171),
+    ];
+    for row in &rows {
+        expect_width(&rt, row);
+    }
+}
+
+#[test]
+fn bins_keep_their_packets_if_the_unit_grows(rt: HostRuntime) {
+    let mut timeline = Timeline::new(rt.alloc());
+    for time in 0..1_280 {
+        add(&rt, &mut timeline, &udp(Some(time)));
+    }
+    add(&rt, &mut timeline, &udp(Some(12_799)));
+    let shown = intervals(&rt, &timeline);
+    expect_equal(&rt, &timeline.width(), &50);
+    expect_equal(&rt, &shown.len(), &MAX_INTERVALS);
+    for place in 0..26 {
+        let packets = if place < 25 { 50 } else { 30 };
+        expect_at(&rt, &place, &shown[place].udp, &count(packets, packets * 100));
+    }
+    expect_equal(&rt, &shown[26], &Counts::NONE);
+    expect_equal(&rt, &shown[255].udp, &count(1, 100));
+}
+
+#[test]
+fn protocols_and_faults_are_counted(rt: HostRuntime) {
+    let rows: [(Transport, Option<Fault>); 5] = [
+        (Transport::Udp, None),
+        (Transport::Tcp, Some(Fault::Wrong)),
+        (Transport::Icmp, Some(Fault::Refused)),
+        (Transport::Other, Some(Fault::Refused)),
+        (Transport::Other, None),
+    ];
+    let mut timeline = Timeline::new(rt.alloc());
+    for (transport, fault) in rows {
+        let event = Event { time: Some(7), len: 10, transport, fault };
+        add(&rt, &mut timeline, &event);
+    }
+    let shown = intervals(&rt, &timeline);
+    let expected = Counts {
+        udp: count(1, 10),
+        tcp: count(1, 10),
+        icmp: count(1, 10),
+        other: count(2, 20),
+        wrong: count(1, 10),
+        refused: count(2, 20),
+    };
+    expect_equal(&rt, &shown.as_slice(), &[expected].as_slice());
+    expect_equal(&rt, &shown[0].total(), &count(5, 50));
+}
+
+#[test]
+fn older_packets_and_packets_without_a_time_are_apart(rt: HostRuntime) {
+    let mut timeline = Timeline::new(rt.alloc());
+    expect_equal(&rt, &timeline.start(), &None);
+    expect_equal(&rt, &intervals(&rt, &timeline).len(), &0);
+    add(&rt, &mut timeline, &udp(None));
+    expect_equal(&rt, &timeline.start(), &None);
+    for time in [1_000, 999, 1_001, 0] {
+        add(&rt, &mut timeline, &udp(Some(time)));
+    }
+    add(&rt, &mut timeline, &udp(None));
+    expect_equal(&rt, &timeline.start(), &Some(1_000));
+    expect_equal(&rt, &timeline.untimed().udp, &count(2, 200));
+    expect_equal(&rt, &timeline.older().udp, &count(2, 200));
+    let shown = intervals(&rt, &timeline);
+    expect_equal(&rt, &Counts::sum(&shown).udp, &count(2, 200));
+}
+
+#[test]
+fn counts_saturate(rt: HostRuntime) {
+    let mut timeline = Timeline::new(rt.alloc());
+    let event = Event { len: u64::MAX, ..udp(Some(3)) };
+    add(&rt, &mut timeline, &event);
+    add(&rt, &mut timeline, &udp(Some(3)));
+    let shown = intervals(&rt, &timeline);
+    expect_equal(&rt, &shown[0].udp, &count(2, u64::MAX));
+}
