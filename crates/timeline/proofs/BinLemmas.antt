@@ -37,7 +37,8 @@ module _ (start width : ℕ) (intervals : List Counts) (packets : List Event) (p
       → IsLeastWidth IsPowerOfTen max_bins start width (packets ++ packet ∷ [])
   early_width least = record {
     on_scale = least.on_scale;
-    suffice = fits_push start width max_bins packets packet least.suffice (before_later start (start + max_bins * width) packet.time (omega arith) early);
+    suffice = fits_push start width max_bins packets packet least.suffice (before_later start (start + max_bins * width) packet.time
+        (omega arith) early);
     least = λ other is fits. least.least other is (fits_front start other max_bins packets packet fits);
   }
 
@@ -109,7 +110,8 @@ module _ (start old_unit unit place time : ℕ) (bins after : List Counts) (pack
   fewest : (count : ℕ) → Fits start unit count (packets ++ packet ∷ []) → length after ≤ count
   fewest count fits =
       let order = are.fewest count (fits_front start unit count packets packet fits) in
-      let before : time < start + count * unit = subst (IsBefore (start + count * unit)) timed (fits_last start unit count packets packet fits) in
+      let before : time < start + count * unit = subst (IsBefore (start + count * unit)) timed
+      (fits_last start unit count packets packet fits) in
       let product : place * unit < count * unit = omega (arith, low, before) in
       let less : place < count = lt_of_mul-lt-mul_right unit product in
       omega (arith, order, less, counts.len)
@@ -122,7 +124,8 @@ module _ (start old_unit unit place time : ℕ) (bins after : List Counts) (pack
   }
 
 -- the unit after a packet: it is not below the unit before, and is the least that reaches the packet
-module _ (start old_unit unit time : ℕ) (packets : List Event) (packet : Event) (timed : packet.time ≡ Some time) (from_start : start ≤ time)
+module _ (start old_unit unit time : ℕ) (packets : List Event) (packet : Event) (timed : packet.time
+    ≡ Some time) (from_start : start ≤ time)
     (old : IsLeastWidth IsPowerOfTen max_bins start old_unit packets) (grows : old_unit ≤ unit) (power : IsPowerOfTen unit)
     (reached : time < start + 1280 * unit)
     (least : (other : ℕ) → IsPowerOfTen other → old_unit ≤ other → time < start + 1280 * other → unit ≤ other) where
@@ -159,14 +162,16 @@ get_or_any (counts ∷ bins) (suc k) d e within = get_or_any bins k d e (omega (
 
 module _ (place : ℕ) (packet : Event) (bins : List Counts) (item after : Counts) (counts : after ≡ counts_with packet item) where
   -- the bin is there
-  pub counts_there : (all : List Counts) → all ≡ bins → place < length bins → item ≡ get_or all place item → CountsAt place packet bins (set all place after)
+  pub counts_there : (all : List Counts) → all ≡ bins → place < length bins → item ≡ get_or all place item
+      → CountsAt place packet bins (set all place after)
   counts_there all same within is = record {
     len = length-set all place after ∙ ap length same ∙ omega (arith, within);
     here = get_or-set_same all place after no_packets (omega (arith, within, ap length same))
         ∙ counts
         ∙ ap (counts_with packet) (is ∙ get_or_any all place item no_packets (omega (arith, within, ap length same))
         ∙ ap (λ each. get_or each place no_packets) same);
-    elsewhere = λ other different. get_or-set_other all place other after no_packets different ∙ ap (λ each. get_or each other no_packets) same;
+    elsewhere = λ other different. get_or-set_other all place other after no_packets different
+        ∙ ap (λ each. get_or each other no_packets) same;
   }
 
   -- bins are added up to the bin

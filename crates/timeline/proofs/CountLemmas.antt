@@ -83,11 +83,13 @@ module _ (c a b : Event → Bool) (e : (packet : Event) → bit (c packet) ≡ b
       (split_by (λ packet. is_fault Wrong packet.fault)) (split_by (λ packet. is_fault Refused packet.fault))
 
 module _ (a b : Event → Bool) (packets : List Event) (same : All (λ packet. a packet ≡ b packet) packets) where
-  agree_by : (key : Event → Bool) → count_of (λ packet. a packet && key packet) packets ≡ count_of (λ packet. b packet && key packet) packets
+  agree_by : (key : Event → Bool) → count_of (λ packet. a packet && key packet) packets
+      ≡ count_of (λ packet. b packet && key packet) packets
   agree_by key = ap₂ count
       (ap saturated (sum_by_agree (λ packet. bit (a packet && key packet)) (λ packet. bit (b packet && key packet)) packets
       (λ k d within. ap (λ test. bit (test && key (get_or packets k d))) (same k d within))))
-      (ap saturated (sum_by_agree (λ packet. cond (a packet && key packet) packet.len 0) (λ packet. cond (b packet && key packet) packet.len 0)
+      (ap saturated (sum_by_agree (λ packet. cond (a packet && key packet) packet.len 0) (λ packet. cond
+      (b packet && key packet) packet.len 0)
       packets (λ k d within. ap (λ test. cond (test && key (get_or packets k d)) (get_or packets k d).len 0) (same k d within))))
 
   -- two tests that agree at each of the packets count the same packets
@@ -100,16 +102,19 @@ module _ (a b : Event → Bool) (packets : List Event) (same : All (λ packet. a
 sum_by_none : (packets : List Event) → sum_by (λ packet. 0) packets ≡ 0
 sum_by_none [] = refl
 sum_by_none (packet ∷ packets) =
-    let first : sum_by (λ (each : Event). 0) (packet ∷ packets) ≡ 0 + sum_by (λ (each : Event). 0) packets = sum_by-cons (λ each. 0) packet packets in
+    let first : sum_by (λ (each : Event). 0) (packet ∷ packets) ≡ 0 + sum_by (λ (each : Event). 0) packets = sum_by-cons
+    (λ each. 0) packet packets in
     omega (arith, first, sum_by_none packets)
 
 none_pass : (packets : List Event) → counts_of (λ packet. false) packets ≡ no_packets
 none_pass packets =
-    let each : count_of (λ packet. false) packets ≡ none = ap₂ count (ap saturated (sum_by_none packets)) (ap saturated (sum_by_none packets)) in
+    let each : count_of (λ packet. false) packets ≡ none = ap₂ count (ap saturated (sum_by_none packets)) (ap saturated
+    (sum_by_none packets)) in
     counts_same _ _ _ _ _ _ _ _ _ _ _ _ each each each each each each
 
 -- no packet passes the test
-pub counts_none : (test : Event → Bool) (packets : List Event) → All (λ packet. test packet ≡ false) packets → counts_of test packets ≡ no_packets
+pub counts_none : (test : Event → Bool) (packets : List Event) → All (λ packet. test packet ≡ false) packets → counts_of test packets
+    ≡ no_packets
 counts_none test packets fails = counts_agree test (λ packet. false) packets fails ∙ none_pass packets
 
 -- ---- one more packet

@@ -104,7 +104,8 @@ fits_more start width count other_width other_count packets more fits =
 
 pub fits_push : (start width count : ℕ) (packets : List Event) (packet : Event) → Fits start width count packets
     → IsBefore (start + count * width) packet.time → Fits start width count (packets ++ packet ∷ [])
-fits_push start width count packets packet fits before = All-push (λ each. IsBefore (start + count * width) each.time) packets packet fits before
+fits_push start width count packets packet fits before = All-push (λ each. IsBefore
+    (start + count * width) each.time) packets packet fits before
 
 pub fits_front : (start width count : ℕ) (packets : List Event) (packet : Event) → Fits start width count (packets ++ packet ∷ [])
     → Fits start width count packets

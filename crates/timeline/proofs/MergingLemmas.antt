@@ -14,7 +14,8 @@ use Rattle.timeline.specs.declared.counts.Counts.{Counts}
 use Rattle.timeline.specs.declared.event.Event.{Event}
 
 -- take one more, if there is one
-more_within : (xs : List Counts) (n : ℕ) → n < length xs → sum_of (take (n + 1) xs) ≡ counts_sum (sum_of (take n xs)) (get_or xs n no_packets)
+more_within : (xs : List Counts) (n : ℕ) → n < length xs → sum_of (take (n + 1) xs)
+    ≡ counts_sum (sum_of (take n xs)) (get_or xs n no_packets)
 more_within xs n within = fold_more counts_sum no_packets xs n no_packets within
 
 more_past : (xs : List Counts) (n : ℕ) → length xs ≤ n → sum_of (take (n + 1) xs) ≡ sum_of (take n xs)
@@ -205,6 +206,7 @@ module _ (bins : List Counts) (place : ℕ) (less : place < div_ceil (length bin
 
 pub mixed_all : (bins : List Counts) (count : ℕ) → count ≡ div_ceil (length bins) 10 → take count (mixed count bins) ≡ merged 10 bins
 mixed_all bins count is =
-    let len : length (take count (merged 10 bins)) ≡ count = length-take-le count (merged 10 bins) (omega (arith, is, length_of_merged 10 bins)) in
+    let len : length (take count (merged 10 bins)) ≡ count = length-take-le count (merged 10 bins) (omega
+    (arith, is, length_of_merged 10 bins)) in
     take_at (take count (merged 10 bins)) (drop count bins) count len
     ∙ take_all count (merged 10 bins) (omega (arith, is, length_of_merged 10 bins))

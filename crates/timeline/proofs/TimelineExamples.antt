@@ -53,7 +53,14 @@ pairs : merged 2 (of_udp 1 ∷ of_udp 2 ∷ of_udp 4 ∷ []) ≡ of_udp 3 ∷ of
 pairs = refl
 
 -- 300 bins of one second are shown as 150 intervals of two seconds
-two_seconds : shown_width (record { start = Some 0; unit = 1000000000; bins = replicate 300 (of_udp 1); older = no_packets; untimed = no_packets })
+two_seconds : shown_width (record {
+  start = Some 0;
+  unit = 1000000000;
+  bins = replicate 300
+      (of_udp 1);
+  older = no_packets;
+  untimed = no_packets;
+})
     ≡ 2000000000
 two_seconds = refl
 

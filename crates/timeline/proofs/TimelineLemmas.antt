@@ -48,8 +48,11 @@ bins_early : (start : Option ℕ) (unit : ℕ) (bins : List Counts) (packets : L
     → ((begin : ℕ) → start ≡ Some begin → IsBefore begin packet.time) → HasBins start unit bins packets
     → HasBins start unit bins (packets ++ packet ∷ [])
 bins_early None unit bins packets packet early has = has
-bins_early (Some start) unit bins packets packet early has =
-    (early_width start unit bins packets packet (early start refl) has.0, early_intervals start unit bins packets packet (early start refl) has.1)
+bins_early (Some start) unit bins packets packet early has = (
+  early_width start unit bins packets packet (early start refl) has.0,
+  early_intervals start unit bins packets packet
+      (early start refl) has.1,
+)
 
 untimed_not_older : (start time : Option ℕ) → time ≡ None → is_older start time ≡ false
 untimed_not_older None None e = refl
@@ -66,7 +69,8 @@ pub untimed_counted : (timeline : TimelineBins) (packet : Event) → packet.time
 untimed_counted timeline packet none packets is = record {
   start = is.start ∙ (or_untimed (first_time packets) packet.time none) ∙ sym (first_push packets packet);
   bins = bins_early timeline.start timeline.unit timeline.bins packets packet (λ begin e. subst (IsBefore begin) (sym none) tt) is.bins;
-  older = is.older ∙ sym (push_out (λ each. is_older timeline.start each.time) packets packet (untimed_not_older timeline.start packet.time none));
+  older = is.older ∙ sym (push_out (λ each. is_older timeline.start each.time) packets packet
+      (untimed_not_older timeline.start packet.time none));
   untimed = ap (counts_with packet) is.untimed ∙ sym (push_in (λ each. is_untimed each.time) packets packet (ap is_untimed none));
 }
 
@@ -116,14 +120,16 @@ module _ (timeline : TimelineBins) (packet : Event) (start offset place unit : �
   low = subst (λ each. start + each * unit ≤ start + offset) (sym widens.is_place) (omega (arith, place_low offset unit widens.positive))
 
   high : start + offset < start + (place + 1) * unit
-  high = subst (λ each. start + offset < start + (each + 1) * unit) (sym widens.is_place) (omega (arith, place_high offset unit widens.positive))
+  high = subst (λ each. start + offset < start + (each + 1) * unit) (sym widens.is_place) (omega
+      (arith, place_high offset unit widens.positive))
 
   -- the bins of packets of which the first is at `start`
   bins_from : (packets : List Event) → IsLeastWidth IsPowerOfTen max_bins start timeline.unit packets
       → AreIntervals start timeline.unit timeline.bins packets → HasBins (Some start) unit after (packets ++ packet ∷ [])
   bins_from packets least are =
       let reached : start + offset < start + 1280 * unit = omega (arith, high, mul-le-mul_right unit widens.within) in (
-        counted_width start timeline.unit unit (start + offset) packets packet timed (omega arith) least widens.grows (widens.power least.on_scale) reached
+        counted_width start timeline.unit unit (start + offset) packets packet timed (omega arith) least widens.grows
+            (widens.power least.on_scale) reached
             (λ other is order before. widens.least least.on_scale other is order (omega (arith, before))),
         counted_intervals start timeline.unit unit place (start + offset) bins after packets packet timed (omega arith) low high counts
             (widens.kept start packets are),

@@ -121,7 +121,8 @@ module _ (start unit : ℕ) (bins : List Counts) (packets : List Event) (least :
   on_scale step (inr (inr five)) = (least.on_scale.0, inr (inr (omega (arith, least.on_scale.1, ap (λ each. unit * each) five.0))))
 
   shown_suffice : (step : ℕ) → length bins ≤ 256 * step → Fits start (unit * step) max_intervals packets
-  shown_suffice step enough = fits_more start unit (length bins) (unit * step) 256 packets (omega (arith, mul-le-mul_right unit enough)) are.suffice
+  shown_suffice step enough = fits_more start unit (length bins) (unit * step) 256 packets (omega
+      (arith, mul-le-mul_right unit enough)) are.suffice
 
   -- a width of the scale that suffices is 1, 2 or 5 times a power of ten that is not below the unit
   power_below : (power other : ℕ) → IsPowerOfTen power → other ≤ power * 5 → Fits start other max_intervals packets → unit ≤ power
@@ -146,9 +147,15 @@ module _ (start unit : ℕ) (bins : List Counts) (packets : List Event) (least :
       → unit * bins_in_interval (length bins) ≤ other
   scaled_least factor exponent other factors same fits =
       let power : IsPowerOfTen (10 ^ exponent) = (exponent, refl) in
-      let order = power_below (10 ^ exponent) other power (omega (arith, same, mul-le-mul_left (10 ^ exponent) (factor_most factor factors))) fits in
+      let order = power_below (10 ^ exponent) other power (omega (
+        arith,
+        same,
+        mul-le-mul_left (10 ^ exponent)
+            (factor_most factor factors),
+      )) fits in
       let fits_scaled = subst (λ each. Fits start each max_intervals packets) same fits in
-      let least_scaled = at_least (bins_in_interval (length bins)) factor (10 ^ exponent) (is_step (length bins)).kinds factors power order fits_scaled
+      let least_scaled = at_least (bins_in_interval (length bins)) factor (10 ^ exponent) (is_step
+      (length bins)).kinds factors power order fits_scaled
       (nat_lt unit (10 ^ exponent)) refl in
       omega (arith, same, least_scaled)
 
@@ -164,7 +171,8 @@ module _ (start unit : ℕ) (bins : List Counts) (packets : List Event) (least :
     least = shown_least;
   }
 
-  pub shown_are_intervals : AreIntervals start (unit * bins_in_interval (length bins)) (merged (bins_in_interval (length bins)) bins) packets
+  pub shown_are_intervals : AreIntervals start (unit * bins_in_interval (length bins)) (merged (bins_in_interval
+      (length bins)) bins) packets
   shown_are_intervals = merged_are_intervals start unit bins packets are (bins_in_interval (length bins)) (step_positive (length bins))
 
 -- ---- the code
@@ -176,6 +184,7 @@ width_fits unit step bound few = omega (arith, bound, mul-le-mul_left unit few)
 pub too_small : (offset unit : ℕ) → 1280 ≤ offset / unit → 1280 * unit ≤ offset
 too_small offset unit many = omega (arith, mul-le-mul_right unit many, div-mul-le_self offset unit)
 
-pub wide_enough : (offset unit other : ℕ) → IsPowerOfTen unit → IsPowerOfTen other → unit ≤ other → 1280 * unit ≤ offset → offset < 1280 * other
+pub wide_enough : (offset unit other : ℕ) → IsPowerOfTen unit → IsPowerOfTen other → unit ≤ other → 1280 * unit ≤ offset
+    → offset < 1280 * other
     → unit * 10 ≤ other
 wide_enough offset unit other is other_is order small before = power_gap unit other is other_is (omega (arith, small, before))

@@ -2,7 +2,7 @@
 
 ghost use Rattle.std.specs.Prelude.{◌≡◌, ◌≤◌, ◌<◌, ◌*◌, IfOk, length, vec_capacity};
 ghost use Rattle.timeline.specs.Intervals.{merged, merged_at};
-ghost use Rattle.timeline.specs.Timelines.{bins_in_interval};
+ghost use Rattle.timeline.specs.Timelines.{bins_in_interval, max_bins};
 
 use crate::Counts;
 use std::alloc::{AllocError, Global};
@@ -39,7 +39,7 @@ pub fn bins_in_interval(bins: usize) -> usize
 /// `AllocError` if no memory is left, and for no other reason.
 pub fn merged(alloc: Global, intervals: &[Counts], size: usize) -> Result<Vec<Counts>, AllocError>
     requires size { (0 < size) × (size ≤ 10) }
-    requires len { length intervals.now ≤ 1280 }
+    requires len { length intervals.now ≤ max_bins }
     ensures { IfOk result (λ merged_intervals. merged_intervals.items ≡ merged size intervals.now) }
 {
     let mut merged = Vec::new(alloc);
@@ -51,7 +51,7 @@ pub fn merged(alloc: Global, intervals: &[Counts], size: usize) -> Result<Vec<Co
 
 /// Each ten bins become one. The last one can be the sum of fewer.
 pub fn coarsen(bins: &mut Vec<Counts>)
-    requires { length bins.old.items ≤ 1280 }
+    requires { length bins.old.items ≤ max_bins }
     ensures items { bins.new.items ≡ merged 10 bins.old.items }
     ensures capacity { vec_capacity bins.new ≡ vec_capacity bins.old }
 {
@@ -66,7 +66,7 @@ pub fn coarsen(bins: &mut Vec<Counts>)
 #[tactic(auto, using(crate::proofs::MergingLemmas::slice_run))]
 fn merged_at(intervals: &[Counts], size: usize, place: usize) -> Counts
     requires size { (0 < size) × (size ≤ 10) }
-    requires len { length intervals.now ≤ 1280 }
+    requires len { length intervals.now ≤ max_bins }
     requires place { place * size < length intervals.now }
     ensures { result ≡ merged_at size intervals.now place }
 {

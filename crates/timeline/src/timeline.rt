@@ -24,7 +24,7 @@ pub struct Timeline {
 
 impl Model for Timeline {
     ghost use Rattle.std.specs.Prelude.{◌<◌, ◌≤◌, ◌^◌, length};
-    ghost use Rattle.timeline.specs.Timelines.{TimelineBins};
+    ghost use Rattle.timeline.specs.Timelines.{TimelineBins, max_bins};
 
     ghost Value = { TimelineBins };
 
@@ -36,7 +36,7 @@ impl Model for Timeline {
       untimed = timeline.untimed;
     } };
 
-    ghost invariant = { λ timeline. (0 < timeline.unit) × (timeline.unit < 2 ^ 121) × (length timeline.bins.items ≤ 1280) };
+    ghost invariant = { λ timeline. (0 < timeline.unit) × (timeline.unit < 2 ^ 121) × (length timeline.bins.items ≤ max_bins) };
 }
 
 impl Timeline {

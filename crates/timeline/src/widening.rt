@@ -2,6 +2,7 @@
 
 ghost use Rattle.std.specs.Prelude.{◌≡◌, ◌≤◌, ◌<◌, ◌*◌, ◌^◌, ◌/◌, ℕ, List, length, vec_capacity, IsOk};
 ghost use Rattle.timeline.specs.Intervals.{AreIntervals, IsPowerOfTen};
+ghost use Rattle.timeline.specs.Timelines.{max_bins};
 ghost use Rattle.timeline.specs.Widening.{CountsAt};
 ghost use Rattle.timeline.specs.declared.event.Event.{Event as PacketEvent};
 
@@ -13,16 +14,16 @@ use std::alloc::AllocError;
 /// the same packets as before. Returns the number of the bin of this time.
 pub fn widen(unit: &mut u128, bins: &mut Vec<Counts>, offset: u128) -> usize
     requires unit { (0 < unit.old) × (unit.old < 2 ^ 121) }
-    requires len { length bins.old.items ≤ 1280 }
+    requires len { length bins.old.items ≤ max_bins }
     ensures unit { (unit.old ≤ unit.new) × (unit.new < 2 ^ 121) }
-    ensures len { length bins.new.items ≤ 1280 }
-    ensures place { (result ≡ offset / unit.new) × (result < 1280) }
+    ensures len { length bins.new.items ≤ max_bins }
+    ensures place { (result ≡ offset / unit.new) × (result < max_bins) }
     ensures capacity { vec_capacity bins.new ≡ vec_capacity bins.old }
     ensures kept { (start : ℕ) (packets : List PacketEvent)
         → AreIntervals start unit.old bins.old.items packets → AreIntervals start unit.new bins.new.items packets }
     ensures power { IsPowerOfTen unit.old → IsPowerOfTen unit.new }
     ensures least { IsPowerOfTen unit.old
-        → (other : ℕ) → IsPowerOfTen other → unit.old ≤ other → offset < 1280 * other → unit.new ≤ other }
+        → (other : ℕ) → IsPowerOfTen other → unit.old ≤ other → offset < max_bins * other → unit.new ≤ other }
 {
     let mut place = offset / *unit;
     while place >= MAX_BINS as u128 {
@@ -35,8 +36,8 @@ pub fn widen(unit: &mut u128, bins: &mut Vec<Counts>, offset: u128) -> usize
 
 /// Counts a packet in the bin number `place`. There must be room for this bin.
 pub fn count_at(bins: &mut Vec<Counts>, place: usize, event: &Event) -> Result<(), AllocError>
-    requires place { place < 1280 }
-    requires capacity { 1280 ≤ vec_capacity bins.old }
+    requires place { place < max_bins }
+    requires capacity { max_bins ≤ vec_capacity bins.old }
     ensures ok { CountsAt place event.now bins.old.items bins.new.items }
     ensures succeeds { IsOk result }
 {

@@ -8,7 +8,8 @@ pub loop-place-preserved : goal.loop-place-preserved
 loop-place-preserved c =
     let count : c.div_ceil-len.result ≡ div_ceil (length c.args.bins.now.items) 10 =
     c.div_ceil-len.ensures ∙ ap (λ n. div_ceil n 10) (c.len.ensures ∙ c.args.bins.now.ok.0) in
-    let less : c.loop-place.place < div_ceil (length c.args.bins.now.items) 10 = subst (λ n. c.loop-place.place < n) count c.loop-place-test.true in
+    let less : c.loop-place.place < div_ceil (length c.args.bins.now.items) 10 = subst
+    (λ n. c.loop-place.place < n) count c.loop-place-test.true in
     let here : c.merged_at.result ≡ merged_at 10 (mixed c.loop-place.place c.args.bins.now.items) c.loop-place.place =
     c.merged_at.ensures ∙ ap (λ items. merged_at 10 items c.loop-place.place) (c.deref.ensures.value ∙ c.loop-place.invariant.0) in (
       ap₂ (λ items counts. set items c.loop-place.place counts) c.loop-place.invariant.0 here

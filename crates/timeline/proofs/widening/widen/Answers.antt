@@ -17,7 +17,8 @@ loop-place-preserved c =
       place = search rules;
       capacity = search rules;
       kept = λ start packets are. subst (λ items. AreIntervals start (c.loop-place.unit * 10) items packets) (sym c.coarsen.ensures.items)
-          (merged_are_intervals start c.loop-place.unit c.loop-place.bins.items packets (c.loop-place.invariant.kept start packets are) 10 (omega arith));
+          (merged_are_intervals start c.loop-place.unit c.loop-place.bins.items packets
+          (c.loop-place.invariant.kept start packets are) 10 (omega arith));
       power = λ power. power_ten c.loop-place.unit (c.loop-place.invariant.power power);
       least = λ power other is order before. wide_enough c.args.offset c.loop-place.unit other (c.loop-place.invariant.power power) is
           (c.loop-place.invariant.least power other is order before) small before;

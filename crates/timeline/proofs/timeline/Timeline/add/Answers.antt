@@ -8,7 +8,8 @@ returns-in-None-clause-ok c =
 
 pub returns-then-time-start-clause-ok : goal.returns-then-time-start-clause-ok
 returns-then-time-start-clause-ok c =
-    older_code (the_view c.self.inside) c.args.self.now c.args.event.now c.add-then-time-start.new.self c.unwrap_or-start.result c.in-Some.time
+    older_code
+    (the_view c.self.inside) c.args.self.now c.args.event.now c.add-then-time-start.new.self c.unwrap_or-start.result c.in-Some.time
     c.self.view_is
     (start_known c.self.inside.start c.in-Some.time c.unwrap_or-start.result c.unwrap_or-start.ensures c.if-time-start.true)
     c.in-Some.is c.if-time-start.true c.add-then-time-start.ensures

@@ -18,6 +18,7 @@ returns-clause-ok c =
       least = c.widen-place.ensures.least;
     } in
     from_code (the_view c.self.inside) c.args.event.now c.args.start c.args.offset c.widen-place.result c.widen-place.new.unit
-    c.widen-place.new.bins.items c.count_at.new.bins.items c.requires.timed widens c.in_ok-count_at.ensures.ok c.args.self.now c.self.view_is
+    c.widen-place.new.bins.items c.count_at.new.bins.items c.requires.timed widens
+    c.in_ok-count_at.ensures.ok c.args.self.now c.self.view_is
     (subst (λ timeline. (timeline.start ≡ Some c.args.start) ⊎ ((timeline.start ≡ None) × (c.args.offset ≡ 0))) (sym c.self.view_is)
     c.requires.start)

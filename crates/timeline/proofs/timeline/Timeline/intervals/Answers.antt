@@ -14,5 +14,6 @@ returns-clause-shown c =
     let same : merged c.bins_in_interval.result c.deref.result.now ≡ shown_intervals c.args.self.now = ap₂ merged step bins in
     IfOk-weaker c.merged.result _ _
     (λ intervals is packets of.
-    subst (λ shown. AreShown c.args.self.now.start (shown_width c.args.self.now) shown packets) (sym (is ∙ same)) (shown packets c.args.self.now of))
+    subst (λ shown. AreShown c.args.self.now.start (shown_width c.args.self.now) shown packets) (sym (is
+    ∙ same)) (shown packets c.args.self.now of))
     c.merged.ensures
