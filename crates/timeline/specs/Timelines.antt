@@ -12,7 +12,7 @@ abbrev pub max_intervals : ℕ
 max_intervals = 256
 
 abbrev pub max_bins : ℕ
-max_bins = 1280
+max_bins = 5 * max_intervals
 
 -- What a timeline contains. `start` is the time of the first packet with a time. `older` counts the packets that are older than this
 -- packet, and `untimed` counts the packets without a time.
@@ -63,7 +63,7 @@ CountsPacket before packet after = (packets : List Event) → IsTimelineOf packe
 
 -- the number of bins in a shown interval, of this number of bins
 abbrev pub bins_in_interval : ℕ → ℕ
-bins_in_interval bins = if nat_le bins 256 then 1 else if nat_le bins 512 then 2 else 5
+bins_in_interval bins = if nat_le bins max_intervals then 1 else if nat_le bins (2 * max_intervals) then 2 else 5
 
 abbrev pub shown_width : TimelineBins → ℕ
 shown_width timeline = timeline.unit * bins_in_interval (length timeline.bins)
