@@ -5,4 +5,5 @@ pub mod MergingLemmas
 pub mod TimelineExamples
 pub mod TimelineLemmas
 pub mod TotalLemmas
+pub mod UniqueLemmas
 pub mod WidthLemmas

@@ -17,3 +17,8 @@ pub fn totals()
     ensures { (packets : List PacketEvent) (timeline : TimelineBins) → IsTimelineOf packets timeline
         → sum_of (timeline.older ∷ timeline.untimed ∷ shown_intervals timeline) ≡ counts_of (λ packet. true) packets }
 {}
+
+/// The packets and their order determine all counts of a timeline.
+pub fn unique()
+    ensures { (packets : List PacketEvent) (one other : TimelineBins) → IsTimelineOf packets one → IsTimelineOf packets other → one ≡ other }
+{}
