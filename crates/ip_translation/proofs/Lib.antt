@@ -4,6 +4,7 @@ pub mod EchoLemmas
 pub mod EmbeddedLemmas
 pub mod ErrorLemmas
 pub mod ExtensionExamples
+pub mod HeaderBackLemmas
 pub mod IcmpErrorExamples
 pub mod Ipv4HeaderLemmas
 pub mod Ipv4PacketExamples

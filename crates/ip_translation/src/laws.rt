@@ -1,10 +1,15 @@
 //! Laws of the definitions. Each law is the contract of a function, so that it is checked with the calls.
 
-ghost use Rattle.std.specs.Prelude.{◌≡◌, ◌≢◌, ◌≤◌, List, ℕ, length};
+ghost use Rattle.std.specs.Prelude.{◌≡◌, ◌≢◌, ◌≤◌, List, ℕ, length, slice_index};
 ghost use Rattle.net_base.specs.Bytes.{IsBytes};
+ghost use Rattle.net_base.specs.IpNumbers.{icmpv6_number};
 ghost use Rattle.word_sum.specs.Checksum.{all_ones};
+ghost use Rattle.ip_translation.specs.Fragments.{whole};
+ghost use Rattle.ip_translation.specs.HeadersToIpv4 as back;
+ghost use Rattle.ip_translation.specs.HeadersToIpv6.{destination, protocol, source, total_len, translated_header};
+ghost use Rattle.ip_translation.specs.Prefixes.{extracted};
 ghost use Rattle.ip_translation.specs.PacketsToIpv6.{tcp_checksum, udp_checksum};
-ghost use Rattle.ip_translation.specs.ThereAndBack.{tcp_back, udp_back};
+ghost use Rattle.ip_translation.specs.ThereAndBack.{header_back, tcp_back, udp_back};
 
 use crate::Prefixes;
 use net_base::Ipv4HeaderSlice;
@@ -20,4 +25,27 @@ pub fn message_there_and_back(header: &Ipv4HeaderSlice<'_>, prefixes: &Prefixes)
 {
     let _ = prefixes.source.embed(header.source());
     let _ = prefixes.destination.embed(header.destination());
+}
+
+/// Assume a header without options, whose total length counts at least the header, of a protocol that is not ICMPv6. If it is translated to IPv6
+/// and back with the same prefixes, only identification, flags, time to live and checksum are other ones.
+pub fn header_there_and_back(header: &Ipv4HeaderSlice<'_>, prefixes: &Prefixes)
+    // This holds for every header.
+    ensures addresses { (extracted prefixes.now.source (back.source (translated_header prefixes.now header.now)) ≡ source header.now)
+        × (extracted prefixes.now.destination (back.destination (translated_header prefixes.now header.now)) ≡ destination header.now) }
+    ensures back { (identification : ℕ) → length header.now ≡ 20 → slice_index header.now 0 ≡ 0x45 → 20 ≤ total_len header.now →
+        protocol header.now ≢ icmpv6_number →
+        back.translated_header prefixes.now (whole identification) (translated_header prefixes.now header.now)
+        ≡ header_back identification header.now }
+{
+    expect_bytes(header.slice());
+    let _ = prefixes.source.embed(header.source());
+    let _ = prefixes.destination.embed(header.destination());
+}
+
+/// The elements of a slice of bytes are bytes.
+fn expect_bytes(bytes: &[u8])
+    ensures { IsBytes bytes.now }
+{
+    let _ = bytes;
 }
