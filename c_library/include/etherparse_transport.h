@@ -410,7 +410,7 @@ enum etherparse_status_number {
  * actual is 0 for the source, and 1 for the destination.
  */
 #define ETHERPARSE_STATUS_SIIT_NOT_GLOBAL 68
-/* The ICMP error is not translated between IPv4 and IPv6, because it contains an extension: actual is its length field. */
+/* The ICMP error is not translated between IPv4 and IPv6, because its length field (RFC 4884, section 4) is wrong: actual is this field. */
 #define ETHERPARSE_STATUS_SIIT_ICMP_EXTENSION 69
 /* The ICMP parameter problem is not translated between IPv4 and IPv6, because its pointer has no translation: actual is the pointer. */
 #define ETHERPARSE_STATUS_SIIT_ICMP_POINTER 70

@@ -255,7 +255,7 @@ pub enum ErrorKind {
     SiitNotEmbedded,
     /// The packet is not translated between IPv4 and IPv6, because an IPv4 address is not global, and its prefix is the well-known prefix.
     SiitNotGlobal,
-    /// The ICMP error is not translated between IPv4 and IPv6, because it contains an extension.
+    /// The ICMP error is not translated between IPv4 and IPv6, because its length field is wrong (RFC 4884, section 4).
     SiitIcmpExtension,
     /// The ICMP parameter problem is not translated between IPv4 and IPv6, because its pointer has no translation.
     SiitIcmpPointer,

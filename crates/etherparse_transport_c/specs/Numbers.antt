@@ -231,7 +231,7 @@ status_siit_not_embedded = 67
 abbrev pub status_siit_not_global : ℕ
 status_siit_not_global = 68
 
--- an ICMP error contains an extension
+-- the length field of an ICMP error with an extension is wrong
 abbrev pub status_siit_icmp_extension : ℕ
 status_siit_icmp_extension = 69
 

@@ -47,7 +47,7 @@ siit_status_text status =
     else if status == numbers.status_siit_destination then codes "the destination is not the address of a host"
     else if status == numbers.status_siit_not_embedded then codes "an IPv6 address contains no IPv4 address"
     else if status == numbers.status_siit_not_global then codes "the well-known prefix allows only global addresses"
-    else if status == numbers.status_siit_icmp_extension then codes "the ICMP error contains an extension"
+    else if status == numbers.status_siit_icmp_extension then codes "the length field of the ICMP error is wrong"
     else if status == numbers.status_siit_icmp_pointer then codes "the pointer of the ICMP error has no translation"
     else if status == numbers.status_siit_transport_header then codes "the packet ends within its transport header"
     else if status == numbers.status_siit_udp_length then codes "the packet has no UDP checksum and a wrong length"

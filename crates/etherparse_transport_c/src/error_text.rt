@@ -245,9 +245,9 @@ fn siit_message_text(error: &EtherparseError) -> ErrorText
 {
     match error.status {
         status::SIIT_ICMP_EXTENSION => ErrorText::from_parts(&[
-            Words("Translation Error: an ICMP error with an extension, with length field "),
+            Words("Translation Error: the length field "),
             Number(error.actual),
-            Words(", is not translated."),
+            Words(" of an ICMP error with an extension is wrong."),
         ]),
         status::SIIT_ICMP_POINTER => ErrorText::from_parts(&[
             Words("Translation Error: the pointer "),

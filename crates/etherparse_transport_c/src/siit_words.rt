@@ -61,7 +61,7 @@ pub(crate) fn siit_status_text(status: u32) -> &'static str
         status::SIIT_DESTINATION => "the destination is not the address of a host",
         status::SIIT_NOT_EMBEDDED => "an IPv6 address contains no IPv4 address",
         status::SIIT_NOT_GLOBAL => "the well-known prefix allows only global addresses",
-        status::SIIT_ICMP_EXTENSION => "the ICMP error contains an extension",
+        status::SIIT_ICMP_EXTENSION => "the length field of the ICMP error is wrong",
         status::SIIT_ICMP_POINTER => "the pointer of the ICMP error has no translation",
         status::SIIT_TRANSPORT_HEADER => "the packet ends within its transport header",
         status::SIIT_UDP_LENGTH => "the packet has no UDP checksum and a wrong length",

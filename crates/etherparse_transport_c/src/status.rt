@@ -197,7 +197,7 @@ pub const SIIT_NOT_EMBEDDED: u32 = 67;
 /// The packet is not translated between IPv4 and IPv6, because an IPv4 address is not global, and its prefix is the well-known prefix.
 pub const SIIT_NOT_GLOBAL: u32 = 68;
 
-/// The ICMP error is not translated between IPv4 and IPv6, because it contains an extension.
+/// The ICMP error is not translated between IPv4 and IPv6, because its length field is wrong (RFC 4884, section 4).
 pub const SIIT_ICMP_EXTENSION: u32 = 69;
 
 /// The ICMP parameter problem is not translated between IPv4 and IPv6, because its pointer has no translation.
