@@ -142,7 +142,7 @@ static INTERFACES: [(u32, &[u8], &str); 3] = [
 fn expect_interface(rt: &(impl Abort + AllocGlobal), number: u32, name: &[u8], members: &str) {
     let name = KeptText::new(name);
     let mut info = first_info(None, None);
-    info.interface = Some(PacketInterface { number, name });
+    info.texts.interface = Some(PacketInterface { number, name });
     let packet = Packet::in_no_tunnel(Content::Unread, Verdict::untested(Untested::CutOff));
     let mut line = Vec::new(rt.alloc());
     let written = write_packet(&mut line, rt.alloc(), Times::SinceFirst, &info, &packet);
@@ -156,6 +156,43 @@ fn expect_interface(rt: &(impl Abort + AllocGlobal), number: u32, name: &[u8], m
 fn interfaces(rt: HostRuntime) {
     for (number, name, members) in &INTERFACES {
         expect_interface(&rt, *number, name, members);
+    }
+}
+
+/// Comments of a packet, the number of its other comments, and the members of the packet.
+#[rattlefmt::skip]
+static COMMENTS: [(&[&[u8]], u64, &str); 4] = [
+    (&[], 0, ""),
+    (&[b"lost here"], 0, r#","comments":["lost here"]"#),
+    (&[b"a\n\"", b"", b"\xFF"], 0, r#","comments":["a\\x0A\"","","\\xFF"]"#),
+    (&[b"1", b"2", b"3", b"4"], 3, r#","comments":["1","2","3","4"],"more_comments":3"#),
+];
+
+/// Stops the test unless the object of a packet with these comments has these members.
+fn expect_comments(
+    rt: &(impl Abort + AllocGlobal),
+    comments: &[&[u8]],
+    more: u64,
+    members: &str,
+) {
+    let mut info = first_info(None, None);
+    for comment in comments {
+        let text = KeptText::new(comment);
+        expect_some(rt, info.texts.comments.texts.try_push(text).ok());
+    }
+    info.texts.comments.more = more;
+    let packet = Packet::in_no_tunnel(Content::Unread, Verdict::untested(Untested::CutOff));
+    let mut line = Vec::new(rt.alloc());
+    let written = write_packet(&mut line, rt.alloc(), Times::SinceFirst, &info, &packet);
+    expect_ok(rt, written);
+    let before = r#"{"type":"packet","number":1,"time":null,"checksum":"not_looked_at","reason":"cut_off""#;
+    expect_all_written(rt, &line, &[before, members, "}\n"]);
+}
+
+#[test]
+fn comments(rt: HostRuntime) {
+    for (comments, more, members) in &COMMENTS {
+        expect_comments(&rt, comments, *more, members);
     }
 }
 

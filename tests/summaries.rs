@@ -2,6 +2,7 @@
 
 use crate::expect::expect_ok;
 use capture_file::PacketTime;
+use capture_file::reader::PacketTexts;
 use capture_summary::{
     CaptureInfo, Flow, FlowProtocol, FrameLen, PacketInfo, Protocol, RefusalKind, Summary,
     VerdictKind,
@@ -80,7 +81,7 @@ pub fn first_info(time: Option<PacketTime>, len: Option<FrameLen>) -> PacketInfo
     };
     PacketInfo {
         number: 1,
-        interface: None,
+        texts: PacketTexts::new(),
         first: time,
         capture,
     }

@@ -270,7 +270,7 @@ fn expect_interface(
     let mut name = KeptText::new(name);
     name.is_cut = is_cut;
     let mut info = first_info(None, None);
-    info.interface = Some(PacketInterface { number, name });
+    info.texts.interface = Some(PacketInterface { number, name });
     let packet = Packet::in_no_tunnel(Content::Unread, Verdict::untested(Untested::CutOff));
     let mut line = Vec::new(rt.alloc());
     let written = write_packet_line(&mut line, Times::SinceFirst, true, &info, &packet);
@@ -283,6 +283,46 @@ fn expect_interface(
 fn interfaces(rt: HostRuntime) {
     for (number, name, is_cut, wanted) in &INTERFACES {
         expect_interface(&rt, *number, name, *is_cut, wanted);
+    }
+}
+
+/// Comments of a packet, the number of its other comments, whether the line is verbose, and the end of the line.
+#[rattlefmt::skip]
+static COMMENTS: [(&[&[u8]], u64, bool, &str); 6] = [
+    (&[], 0, true, ""),
+    (&[b"lost here"], 0, false, ""),
+    (&[b"lost here"], 0, true, "; comment \"lost here\""),
+    (&[b"", b"a\nb\x1B\xC3\xA9"], 0, true, "; comment \"\"; comment \"a\\x0Ab\\x1B\u{E9}\""),
+    (&[b"1", b"2", b"3", b"4"], 3, true, "; comment \"1\"; comment \"2\"; comment \"3\"; comment \"4\"; more comments 3"),
+    (&[b"1", b"2", b"3", b"4"], 3, false, ""),
+];
+
+/// Stops the test unless the line of a packet with these comments ends like this.
+fn expect_comments(
+    rt: &(impl Abort + AllocGlobal),
+    comments: &[&[u8]],
+    more: u64,
+    verbose: bool,
+    wanted: &str,
+) {
+    let mut info = first_info(None, None);
+    for comment in comments {
+        let text = KeptText::new(comment);
+        expect_some(rt, info.texts.comments.texts.try_push(text).ok());
+    }
+    info.texts.comments.more = more;
+    let packet = Packet::in_no_tunnel(Content::Unread, Verdict::untested(Untested::CutOff));
+    let mut line = Vec::new(rt.alloc());
+    let written = write_packet_line(&mut line, Times::SinceFirst, verbose, &info, &packet);
+    expect_ok(rt, written);
+    let before = "1 - length unknown: checksum not looked at: cut off";
+    expect_all_written(rt, &line, &[before, wanted, "\n"]);
+}
+
+#[test]
+fn comments(rt: HostRuntime) {
+    for (comments, more, verbose, wanted) in &COMMENTS {
+        expect_comments(&rt, comments, *more, *verbose, wanted);
     }
 }
 

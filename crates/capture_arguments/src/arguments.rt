@@ -422,7 +422,7 @@ fn verbose<'a>(alloc: Global) -> Arg<'a>
     flag(
         alloc,
         "verbose",
-        "Also write the time to live or the hop limit of each packet, which JSON always has",
+        "Also write the time to live or the hop limit and the comments of each packet, which JSON always has",
     )
     .short('v')
 }

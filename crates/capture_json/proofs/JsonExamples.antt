@@ -7,6 +7,7 @@ use Rattle.json.specs.Print.{escape_byte}
 use Rattle.serde_json.specs.Written.{compact_text}
 use Rattle.tcp_part.specs.declared.tcp_raw_option_error.TcpRawOptionError.TheVariants.{LengthBeyondEnd}
 use Rattle.tcp_part.specs.declared.tcp_option_element.TcpOptionElement.TheVariants.{Noop}
+use Rattle.capture_file.specs.PacketTexts.{no_packet_texts}
 use Rattle.capture_packet.proofs.PacketExamples.{datagram, packet}
 use Rattle.capture_packet.specs.declared.arp.Arp.TheVariants.{Addresses}
 use Rattle.capture_packet.specs.declared.fragment_fields.Identification.TheVariants.{Ipv4}
@@ -24,7 +25,7 @@ use Rattle.serde_json.specs.Data.{string}
 -- ---- a packet
 
 -- the UDP packet from 192.0.2.1, port 7, to 192.0.2.2, port 9, captured 5.000007 seconds after the beginning of 1970
-udp_object : IsJsonLine SinceFirst 1 None None (Some (time 5 7)) (Some (record { original = 29; captured = 29 })) packet (
+udp_object : IsJsonLine SinceFirst 1 no_packet_texts None (Some (time 5 7)) (Some (record { original = 29; captured = 29 })) packet (
     codes "{\"type\":\"packet\",\"number\":1,\"time\":\"00:00:00.000000\",\"seconds\":5,\"nanoseconds\":7000,\"length\":29,\"captured_length\":29,"
     ++ codes "\"source\":\"192.0.2.1\",\"destination\":\"192.0.2.2\",\"protocol\":17,\"protocol_name\":\"UDP\",\"source_port\":7,\"destination_port\":9,"
     ++ codes "\"udp\":{\"length\":9},\"payload_length\":1,\"time_to_live\":64,\"checksum\":\"right\"}\n"

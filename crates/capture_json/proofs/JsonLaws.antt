@@ -11,7 +11,7 @@ use Rattle.capture_packet.specs.declared.packet.Packet.{Packet}
 use Rattle.capture_packet.specs.declared.transport.Transport.{Transport}
 use Rattle.capture_packet.specs.declared.transport.Transport.TheVariants as transports
 use Rattle.capture_file.specs.declared.packet_time.PacketTime.{PacketTime}
-use Rattle.capture_file.specs.declared.reader.packet_interface.PacketInterface.{PacketInterface}
+use Rattle.capture_file.specs.declared.reader.packet_texts.PacketTexts.{PacketTexts}
 use Rattle.capture_summary.specs.declared.capture_info.FrameLen.{FrameLen}
 use Rattle.capture_words.proofs.TcpTextLaws.{one_of}
 use Rattle.capture_words.specs.declared.times.Times.{Times}
@@ -47,8 +47,8 @@ one_content (contents.NotIp protocol) members others are also = are ∙ sym also
 one_content (contents.Ip addresses protocol proto transport payload_len) members others are also =
     one_of _ _ (one_transport transport) members others are also
 
--- if two packets are equal, and their numbers, interfaces, times and lengths too, their lines are equal
-pub one_json_line : (times : Times) (number : ℕ) (interface : Option PacketInterface) (first time : Option PacketTime)
-    (len : Option FrameLen) (packet : Packet) → HasOneJsonLine times number interface first time len packet
-one_json_line times number interface first time len packet line other is also =
+-- if two packets are equal, and their numbers, texts, times and lengths too, their lines are equal
+pub one_json_line : (times : Times) (number : ℕ) (texts : PacketTexts) (first time : Option PacketTime)
+    (len : Option FrameLen) (packet : Packet) → HasOneJsonLine times number texts first time len packet
+one_json_line times number texts first time len packet line other is also =
     one_of _ json_line (λ members others. one_of _ _ (one_content packet.content) members others) line other is also

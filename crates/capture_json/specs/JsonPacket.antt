@@ -39,7 +39,7 @@ use Rattle.capture_packet.specs.declared.virtual_network.VirtualNetwork.{Virtual
 use Rattle.capture_packet.specs.declared.verdict.Verdict.{Verdict}
 use Rattle.capture_packet.specs.declared.verdict.Verdict.TheVariants as verdicts
 use Rattle.capture_file.specs.declared.packet_time.PacketTime.{PacketTime}
-use Rattle.capture_file.specs.declared.reader.packet_interface.PacketInterface.{PacketInterface}
+use Rattle.capture_file.specs.declared.reader.packet_texts.PacketTexts.{PacketTexts}
 use Rattle.capture_packet.specs.Addresses.{source_text}
 use Rattle.capture_summary.specs.Kinds.{untested_kind, verdict_word}
 use Rattle.capture_summary.specs.declared.capture_info.FrameLen.{FrameLen}
@@ -47,6 +47,7 @@ use Rattle.capture_summary.specs.declared.verdict_kind.VerdictKind.{VerdictKind}
 use Rattle.capture_summary.specs.declared.verdict_kind.VerdictKind.TheVariants as kinds
 use Rattle.capture_json.specs.JsonArp.{arp_members}
 use Rattle.capture_json.specs.JsonIcmp.{further_fields, icmpv4_fields, icmpv6_fields}
+use Rattle.capture_json.specs.JsonComments.{comments_members}
 use Rattle.capture_json.specs.JsonInterface.{packet_interface_members}
 use Rattle.capture_json.specs.JsonOptions.{AreOptionMembers}
 use Rattle.capture_json.specs.JsonTimes.{instant_members}
@@ -335,15 +336,15 @@ abbrev pub type_member : List ℕ → Member
 type_member kind = (codes "type", string kind)
 
 -- These are the members of a packet: its type, its number, its time, its interface, the length of its frame, its tunnels, its content, its
--- ARP packet, the fields of its fragment, its hop limit, and its verdict.
-abbrev pub ArePacketMembers : Times → ℕ → Option PacketInterface → Option PacketTime → Option PacketTime → Option FrameLen → Packet
+-- ARP packet, the fields of its fragment, its hop limit, its verdict, and its comments.
+abbrev pub ArePacketMembers : Times → ℕ → PacketTexts → Option PacketTime → Option PacketTime → Option FrameLen → Packet
     → List Member → Type 0
-ArePacketMembers times number interface first time len packet members =
+ArePacketMembers times number texts first time len packet members =
     (what : List Member) × AreContentMembers packet.content what
     × (members ≡ type_member (codes "packet") ∷ (codes "number", whole_number number) ∷ (time_members times first time
-    ++ (packet_interface_members interface ++ (frame_members len ++ (tunnel_members packet.tunnels.items
+    ++ (packet_interface_members texts.interface ++ (frame_members len ++ (tunnel_members packet.tunnels.items
     ++ (what ++ (arp_members packet.arp ++ (fragment_members packet.fragment
-    ++ (hop_limit_members packet.hop_limit ++ verdict_members packet.verdict)))))))))
+    ++ (hop_limit_members packet.hop_limit ++ (verdict_members packet.verdict ++ comments_members texts.comments))))))))))
 
 -- an object on its own line
 abbrev pub json_line : List Member → List ℕ
@@ -354,13 +355,13 @@ abbrev pub file_members : List ℕ → List Member
 file_members name = type_member (codes "file") ∷ (codes "file", string name) ∷ []
 
 -- this is the line of a packet
-abbrev pub IsJsonLine : Times → ℕ → Option PacketInterface → Option PacketTime → Option PacketTime → Option FrameLen → Packet → List ℕ
+abbrev pub IsJsonLine : Times → ℕ → PacketTexts → Option PacketTime → Option PacketTime → Option FrameLen → Packet → List ℕ
     → Type 0
-IsJsonLine times number interface first time len packet line =
-    (members : List Member) × ArePacketMembers times number interface first time len packet members × (line ≡ json_line members)
+IsJsonLine times number texts first time len packet line =
+    (members : List Member) × ArePacketMembers times number texts first time len packet members × (line ≡ json_line members)
 
--- any two lines of this packet, with this number, this interface, these times and this length, are equal
-abbrev pub HasOneJsonLine : Times → ℕ → Option PacketInterface → Option PacketTime → Option PacketTime → Option FrameLen → Packet → Type 0
-HasOneJsonLine times number interface first time len packet = (line other : List ℕ)
-    → IsJsonLine times number interface first time len packet line → IsJsonLine times number interface first time len packet other
+-- any two lines of this packet, with this number, these texts, these times and this length, are equal
+abbrev pub HasOneJsonLine : Times → ℕ → PacketTexts → Option PacketTime → Option PacketTime → Option FrameLen → Packet → Type 0
+HasOneJsonLine times number texts first time len packet = (line other : List ℕ)
+    → IsJsonLine times number texts first time len packet line → IsJsonLine times number texts first time len packet other
     → line ≡ other

@@ -1,4 +1,5 @@
 pub mod JsonArp
+pub mod JsonComments
 pub mod JsonFacts
 pub mod JsonIcmp
 pub mod JsonInterface

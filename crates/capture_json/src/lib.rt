@@ -10,6 +10,7 @@
 
 mod addresses;
 mod arp;
+mod comments;
 mod endpoints;
 mod facts;
 mod file_name;

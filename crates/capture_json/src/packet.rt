@@ -9,6 +9,7 @@ ghost use Rattle.capture_words.specs.Written.{AppendsOne};
 use crate::Line;
 use crate::addresses::{put_addresses, put_payload_len, put_ports};
 use crate::arp::put_arp;
+use crate::comments::put_comments;
 use crate::fragment::put_fragment;
 use crate::icmp::{put_icmpv4, put_icmpv6};
 use crate::interface::put_interface;
@@ -35,7 +36,8 @@ use udp_part::UdpSlice;
 const TEXT_ROOM: usize = 64;
 
 /// Writes a packet as a JSON object of the type `packet`, on its own line. The object contains the number and the time of the packet, its
-/// interface if its section has several interfaces, and the length of its frame. It also contains its tunnels, addresses, content, ARP packet, fragment fields, hop limit and verdict.
+/// interface if its section has several interfaces, and the length of its frame. It also contains its tunnels, addresses, content, ARP packet,
+/// fragment fields, hop limit, verdict and comments.
 ///
 /// # Errors
 ///
@@ -48,7 +50,7 @@ pub fn write_packet<W: Write>(
     packet: &Packet,
 ) -> Result<(), WriteError>
     ensures { OnOk result (AppendsOne (W.contents output.old) (W.contents output.new)
-        (IsJsonLine times info.now.number info.now.interface info.now.first info.now.capture.time info.now.capture.len packet.now)) }
+        (IsJsonLine times info.now.number info.now.texts info.now.first info.now.capture.time info.now.capture.len packet.now)) }
 {
     let mut line = Line::new(alloc)?;
     line.begin_item()?;
@@ -67,20 +69,21 @@ fn put_packet(
     info: &PacketInfo,
     packet: &Packet,
 ) -> io::Result<()>
-    ensures { OnOk result (PutsOne (ArePacketMembers times info.now.number info.now.interface info.now.first info.now.capture.time info.now.capture.len packet.now)
+    ensures { OnOk result (PutsOne (ArePacketMembers times info.now.number info.now.texts info.now.first info.now.capture.time info.now.capture.len packet.now)
         (tokens_in line.old) (tokens_in line.new)) }
 {
     line.put_text("type", "packet")?;
     line.put_number("number", info.number)?;
     put_time(line, room, times, info.first, info.capture.time)?;
-    put_interface(line, room, &info.interface)?;
+    put_interface(line, room, &info.texts.interface)?;
     put_frame_len(line, info.capture.len)?;
     put_tunnels(line, room, packet.tunnels.as_slice())?;
     put_content(line, room, &packet.content)?;
     put_arp(line, room, packet.arp)?;
     put_fragment(line, packet.fragment)?;
     put_hop_limit(line, packet.hop_limit)?;
-    put_verdict(line, room, &packet.verdict)
+    put_verdict(line, room, &packet.verdict)?;
+    put_comments(line, room, &info.texts.comments)
 }
 
 /// Writes the time of a packet as a text and as numbers. The text is the time as the text format shows it. If the time is unknown, this

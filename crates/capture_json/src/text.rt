@@ -3,7 +3,7 @@
 ghost use Rattle.std.specs.Prelude.{◌≡◌, OnOk, IfOk};
 ghost use Rattle.std.specs.Io.KnownBytes.{Appends};
 ghost use Rattle.json.specs.Print.{print};
-ghost use Rattle.capture_json.specs.Tokens.{line_text, put, tokens_in};
+ghost use Rattle.capture_json.specs.Tokens.{line_text, push, put, tokens_in};
 ghost use Rattle.serde_json.specs.Data.{string};
 ghost use Rattle.capture_json.specs.Words.{underscore_if_space, with_underscores};
 
@@ -45,6 +45,13 @@ pub fn put_written(line: &mut Line, name: &str, text: &[u8]) -> io::Result<()>
     ensures { OnOk result (tokens_in line.new ≡ put name.now (string text.now) (tokens_in line.old)) }
 {
     Ok(line.put_text(name, as_text(text)?)?)
+}
+
+/// Writes an item of an array that is a text in memory.
+pub fn push_written(line: &mut Line, text: &[u8]) -> io::Result<()>
+    ensures { OnOk result (tokens_in line.new ≡ push (string text.now) (tokens_in line.old)) }
+{
+    Ok(line.push_text(as_text(text)?)?)
 }
 
 /// Returns these bytes as a text. It fails only if the bytes are not UTF-8. Each caller passes bytes that come from `write!`, or a word

@@ -2,10 +2,10 @@
 use Rattle.std.specs.Prelude.{◌≡◌, ℕ, ◌+◌, ◌||◌, nat_lt, Bool, false, if◌then◌else◌, List, [], ◌∷◌, ◌++◌, codes, Option, Some, None, Result, Ok}
 use Rattle.std.specs.Option.{option_or}
 use Rattle.capture_file.specs.CapturePackets.{BeginsInput, FilePacket, ReadsOne, kept, too_long}
-use Rattle.capture_file.specs.Interfaces.{interface_of}
+use Rattle.capture_file.specs.PacketTexts.{no_packet_texts, texts_of}
 use Rattle.capture_file.specs.declared.reader.capture_reader.CaptureReader.{CaptureReader}
 use Rattle.capture_file.specs.declared.packet_time.PacketTime.{PacketTime}
-use Rattle.capture_file.specs.declared.reader.packet_interface.PacketInterface.{PacketInterface}
+use Rattle.capture_file.specs.declared.reader.packet_texts.PacketTexts.{PacketTexts}
 use Rattle.capture_words.specs.FactsText.{facts_text}
 use Rattle.capture_packet.specs.Frames.{max_packet_len}
 use Rattle.capture_json.specs.JsonSummary.{json_summary}
@@ -24,15 +24,15 @@ use Rattle.capture_request.specs.declared.capture_error.CaptureError.{CaptureErr
 use Rattle.capture_request.specs.declared.reached.Reached.{Reached}
 use Rattle.capture_request.specs.declared.reached.Reached.TheVariants.{Limit}
 
--- The interface of a packet, given the reader after this packet. The interface of a packet that is longer than the buffer is not known.
-abbrev pub packet_interface : CaptureReader → FilePacket → Option PacketInterface
-packet_interface reader (kept packet frame) = interface_of reader packet.interface
-packet_interface reader (too_long packet) = None
+-- The texts of a packet, given the reader after this packet. The texts of a packet that is longer than the buffer are not known.
+abbrev pub packet_texts : CaptureReader → FilePacket → PacketTexts
+packet_texts reader (kept packet frame) = texts_of reader packet.interface
+packet_texts reader (too_long packet) = no_packet_texts
 
 -- The text of a packet of a capture: its line if it is chosen and has a line, otherwise nothing. `reader` is the reader after the packet.
 abbrev pub IsPacketText : Parts → ℕ → CaptureReader → Option PacketTime → FilePacket → List ℕ → Type 0
 IsPacketText parts number reader first packet text =
-    IsTextOfOne (IsPacketOf parts.choice.udp_tunnels packet) parts number (packet_interface reader packet) first (info_of packet) text
+    IsTextOfOne (IsPacketOf parts.choice.udp_tunnels packet) parts number (packet_texts reader packet) first (info_of packet) text
 
 -- The first known time of the packets so far, these packets included. `first` is the first known time of the packets before these packets.
 abbrev pub first_time : Option PacketTime → List FilePacket → Option PacketTime

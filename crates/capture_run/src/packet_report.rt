@@ -1,5 +1,6 @@
 ghost use Rattle.std.specs.Prelude.{◌≡◌, ◌-◌, ◌^◌, ◌<◌, None, OnOk, false};
 ghost use Rattle.std.specs.Option.{option_or};
+ghost use Rattle.capture_file.specs.PacketTexts.{no_packet_texts};
 ghost use Rattle.capture_request.specs.Limits.{is_full, limited};
 ghost use Rattle.capture_request.specs.Lines.{HasNoLine, IfNoLine, has_line};
 ghost use Rattle.capture_request.specs.Report.{CountsChosen, CountsRead, CountsPacket, IsReadAs, IsTooLong, captured_info, too_long_info};
@@ -10,7 +11,7 @@ ghost use Rattle.capture_request.specs.declared.parts.Lines.TheVariants as Lines
 use crate::packet_place::PacketPlace;
 use crate::{Format, Lines, Parts, WriteError, packet_in_frame, packet_without_room};
 use capture_file::PacketTime;
-use capture_file::reader::{CapturedPacket, TooLongPacket};
+use capture_file::reader::{CapturedPacket, PacketTexts, TooLongPacket};
 use capture_json::write_packet;
 use capture_packet::Packet;
 use capture_summary::{
@@ -87,7 +88,7 @@ impl PacketReport {
             self.old.parts (output.new ≡ output.old) }
         ensures text { OnOk result (AppendsOne (W.contents output.old) (W.contents output.new)
             (IsTextOfOne (IsReadAs self.old.parts.choice.udp_tunnels captured.now.link_type captured.now frame.now)
-            self.old.parts place.number place.interface self.old.first (captured_info captured.now))) }
+            self.old.parts place.number place.texts self.old.first (captured_info captured.now))) }
         ensures counted { OnOk result (CountsPacket self.old.parts.choice
             (IsReadAs self.old.parts.choice.udp_tunnels captured.now.link_type captured.now frame.now)
             (captured_info captured.now) self.old.summary self.new.summary) }
@@ -99,7 +100,7 @@ impl PacketReport {
     }
 
     /// Counts a packet that does not fit in the buffer, if the packet is chosen. Then the call writes the line of the packet, if it has a
-    /// line. The checksum of this packet is not tested, and its interface is not known.
+    /// line. The checksum of this packet is not tested, and its texts are not known.
     pub fn add_too_long<W: Write>(
         &mut self,
         output: &mut W,
@@ -110,17 +111,15 @@ impl PacketReport {
         ensures none { self.old.parts.lines ≡ Lines.None → output.new ≡ output.old }
         ensures silent { IfNoLine (IsTooLong captured.now.required_len) self.old.parts (output.new ≡ output.old) }
         ensures text { OnOk result (AppendsOne (W.contents output.old) (W.contents output.new)
-            (IsTextOfOne (IsTooLong captured.now.required_len) self.old.parts number None self.old.first (too_long_info captured.now))) }
+            (IsTextOfOne (IsTooLong captured.now.required_len) self.old.parts number no_packet_texts self.old.first (too_long_info captured.now))) }
         ensures counted { OnOk result (CountsPacket self.old.parts.choice (IsTooLong captured.now.required_len)
             (too_long_info captured.now) self.old.summary self.new.summary) }
         ensures parts { self.new.parts ≡ self.old.parts }
         ensures first { self.new.first ≡ option_or self.old.first captured.now.time }
     {
         let packet = packet_without_room(captured.required_len);
-        let place = PacketPlace {
-            number,
-            interface: None,
-        };
+        let texts = PacketTexts::new();
+        let place = PacketPlace { number, texts };
         self.add_packet(output, place, &too_long_info(captured), &packet)
     }
 
@@ -135,7 +134,7 @@ impl PacketReport {
         requires room { self.old.summary.packets < 2 ^ 64 - 1 }
         ensures counted { OnOk result (CountsChosen self.old.parts.choice packet.now info.now self.old.summary self.new.summary) }
         ensures text { OnOk result (AppendsOne (W.contents output.old) (W.contents output.new)
-            (IsTextOf self.old.parts place.number place.interface self.old.first info.now packet.now)) }
+            (IsTextOf self.old.parts place.number place.texts self.old.first info.now packet.now)) }
         ensures silent { HasNoLine self.old.parts packet.now → output.new ≡ output.old }
         ensures parts { self.new.parts ≡ self.old.parts }
         ensures first { self.new.first ≡ option_or self.old.first info.now.time }
@@ -148,7 +147,7 @@ impl PacketReport {
         count(&mut self.summary, info, packet)?;
         let placed = PacketInfo {
             number: place.number,
-            interface: place.interface,
+            texts: place.texts,
             first,
             capture: *info,
         };
@@ -163,7 +162,7 @@ impl PacketReport {
         packet: &Packet<'_>,
     ) -> Result<(), WriteError>
         ensures text { OnOk result (AppendsOne (W.contents output.old) (W.contents output.new)
-            (IsTextOfChosen self.now.parts info.now.number info.now.interface info.now.first info.now.capture packet.now)) }
+            (IsTextOfChosen self.now.parts info.now.number info.now.texts info.now.first info.now.capture packet.now)) }
         ensures silent { has_line self.now.parts.lines packet.now.verdict ≡ false → output.new ≡ output.old }
     {
         if !self.parts.lines.include(&packet.verdict) {
@@ -180,7 +179,7 @@ impl PacketReport {
         packet: &Packet<'_>,
     ) -> Result<(), WriteError>
         ensures { OnOk result (AppendsOne (W.contents output.old) (W.contents output.new)
-            (IsLineIn self.now.parts.format self.now.parts.times self.now.parts.verbose info.now.number info.now.interface info.now.first info.now.capture packet.now)) }
+            (IsLineIn self.now.parts.format self.now.parts.times self.now.parts.verbose info.now.number info.now.texts info.now.first info.now.capture packet.now)) }
     {
         let (times, verbose) = (self.parts.times, self.parts.verbose);
         match self.parts.format {

@@ -125,8 +125,8 @@ fn report_next<R: Read, W: Write>(
     match reader.next_packet(input, buffer) {
         Ok(NextPacket::Whole(packet)) => {
             let frame = &buffer[packet.start..packet.start + packet.captured_len];
-            let interface = reader.interface_of(&packet);
-            let place = PacketPlace { number, interface };
+            let texts = reader.texts_of(&packet);
+            let place = PacketPlace { number, texts };
             packets.add(output, place, &packet, frame)?;
             Ok(None)
         }

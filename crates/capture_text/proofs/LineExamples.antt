@@ -6,6 +6,7 @@ use Rattle.ip_part.specs.declared.proto.Proto.TheVariants.{Tcp, Udp}
 use Rattle.transport_part.specs.declared.checksum_verdict.ChecksumVerdict.TheVariants.{Right}
 use Rattle.transport_part.specs.declared.checksum_verdict.Untested.TheVariants.{Fragment, OtherProtocol}
 use Rattle.transport_part.specs.declared.transport_slice.TransportSlice.TheVariants as slices
+use Rattle.capture_file.specs.PacketTexts.{no_packet_texts}
 use Rattle.capture_packet.specs.declared.network_protocol.NetworkProtocol.TheVariants.{EtherType}
 use Rattle.capture_packet.proofs.PacketExamples.{addresses, packet, reference_to}
 use Rattle.capture_packet.specs.Packets.{in_no_tunnel}
@@ -33,13 +34,13 @@ whole : ℕ → FrameLen
 whole len = record { original = len; captured = len }
 
 -- the UDP packet from 192.0.2.1, port 7, to 192.0.2.2, port 9, with its time to live
-udp_line : IsLine SinceFirst true 1 None None (Some (time 5 7)) (Some (whole 29)) packet
+udp_line : IsLine SinceFirst true 1 no_packet_texts None (Some (time 5 7)) (Some (whole 29)) packet
     (codes "1 00:00:00.000000 length 29: 192.0.2.1:7 > 192.0.2.2:9 UDP length 9, payload 1, time to live 64; checksum right\n")
 unfolding char_count digits encode_utf8 padded_integral whole
 udp_line = (codes "192.0.2.1:7 > 192.0.2.2:9 UDP length 9, payload 1", (codes "192.0.2.1:7 > 192.0.2.2:9 UDP length 9", refl, refl), refl)
 
 -- packet 8 of the stored run of `capture_report`
-tcp_line : IsLine SinceFirst false 8 None (Some (time 1600000000 0)) (Some (time 1600000000 700)) (Some (whole 90))
+tcp_line : IsLine SinceFirst false 8 no_packet_texts (Some (time 1600000000 0)) (Some (time 1600000000 700)) (Some (whole 90))
     (in_no_tunnel (Ip addresses (record { 0 = 6 }) (Some Tcp) (Read (slices.Tcp segment)) 32) (Checksum Right))
     (codes "8 00:00:00.000700 length 90: 192.0.2.1:49153 > 192.0.2.2:80 TCP " ++ (header_text ++ codes ", payload 32; checksum right\n"))
 unfolding char_count digits encode_utf8 padded_integral whole
@@ -48,14 +49,14 @@ tcp_line =
     (transport ++ codes ", payload 32", (transport, (header_text, is_header_text, refl), refl), refl)
 
 -- packet 65 of the stored run of `capture_report`
-arp_line : IsLine SinceFirst false 65 None (Some (time 1600000000 0)) (Some (time 1600000000 6400)) (Some (whole 42))
+arp_line : IsLine SinceFirst false 65 no_packet_texts (Some (time 1600000000 0)) (Some (time 1600000000 6400)) (Some (whole 42))
     (record (in_no_tunnel (NotIp (EtherType 0x0806)) (untested OtherProtocol)) { arp = Some (Operation 0 false) })
     (codes "65 00:00:00.006400 length 42: ARP, operation 0\n")
 unfolding char_count digits encode_utf8 padded_integral whole
 arp_line = (codes "ARP", refl, refl)
 
 -- an ARP reply in a frame without a known length
-reply_line : IsLine SinceFirst false 1 None None None None
+reply_line : IsLine SinceFirst false 1 no_packet_texts None None None
     (record (in_no_tunnel (NotIp (EtherType 0x0806)) (untested OtherProtocol)) {
       arp = Some (Addresses 2 (record {
         sender_hardware = 2 ∷ 0 ∷ 0 ∷ 0 ∷ 0 ∷ 0xAB ∷ [];
@@ -69,7 +70,7 @@ unfolding char_count digits encode_utf8 padded_integral
 reply_line = (codes "ARP", refl, refl)
 
 -- packet 33 of the stored run of `capture_report`
-fragment_line : IsLine SinceFirst false 33 None (Some (time 1600000000 0)) (Some (time 1600000000 3200)) (Some (whole 74))
+fragment_line : IsLine SinceFirst false 33 no_packet_texts (Some (time 1600000000 0)) (Some (time 1600000000 3200)) (Some (whole 74))
     (record (in_no_tunnel (Ip addresses (record { 0 = 17 }) (Some Udp) (Ports 49152 53 (reference_to (replicate 40 0))) 40)
     (untested Fragment))
     { fragment = Some (record { identification = OverIpv4 1; offset = 0; more_fragments = true }) })

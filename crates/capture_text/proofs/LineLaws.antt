@@ -10,7 +10,7 @@ use Rattle.capture_packet.specs.declared.packet.Packet.{Packet}
 use Rattle.capture_packet.specs.declared.transport.Transport.{Transport}
 use Rattle.capture_packet.specs.declared.transport.Transport.TheVariants as transports
 use Rattle.capture_file.specs.declared.packet_time.PacketTime.{PacketTime}
-use Rattle.capture_file.specs.declared.reader.packet_interface.PacketInterface.{PacketInterface}
+use Rattle.capture_file.specs.declared.reader.packet_texts.PacketTexts.{PacketTexts}
 use Rattle.capture_summary.specs.declared.capture_info.FrameLen.{FrameLen}
 use Rattle.capture_text.specs.PacketLine.{HasOneLine, IsContentText, IsTcpText, IsTransportText}
 use Rattle.capture_words.specs.declared.times.Times.{Times}
@@ -37,8 +37,8 @@ one_content_text (contents.NotIp protocol) text other is also = is ∙ sym also
 one_content_text (contents.Ip addresses protocol proto transport payload_len) text other is also =
     one_of _ _ (one_transport_text (by_value addresses) protocol.0 proto transport) text other is also
 
--- if two packets are equal, and their numbers, interfaces, times and lengths too, their lines are equal
-pub one_line : (times : Times) (verbose : Bool) (number : ℕ) (interface : Option PacketInterface) (first time : Option PacketTime)
-    (len : Option FrameLen) (packet : Packet) → HasOneLine times verbose number interface first time len packet
-one_line times verbose number interface first time len packet line other is also =
+-- if two packets are equal, and their numbers, texts, times and lengths too, their lines are equal
+pub one_line : (times : Times) (verbose : Bool) (number : ℕ) (texts : PacketTexts) (first time : Option PacketTime)
+    (len : Option FrameLen) (packet : Packet) → HasOneLine times verbose number texts first time len packet
+one_line times verbose number texts first time len packet line other is also =
     one_of _ _ (one_content_text packet.content) line other is also

@@ -1,5 +1,6 @@
 pub mod AddressText
 pub mod ArpText
+pub mod CommentsText
 pub mod InterfaceText
 pub mod PacketLine
 pub mod SummaryText

@@ -25,9 +25,10 @@ use Rattle.capture_packet.specs.declared.tunnel.Tunnel.{Tunnel}
 use Rattle.capture_packet.specs.declared.verdict.Verdict.{Verdict}
 use Rattle.capture_packet.specs.declared.virtual_network.VirtualNetwork.{VirtualNetwork}
 use Rattle.capture_file.specs.declared.packet_time.PacketTime.{PacketTime}
-use Rattle.capture_file.specs.declared.reader.packet_interface.PacketInterface.{PacketInterface}
+use Rattle.capture_file.specs.declared.reader.packet_texts.PacketTexts.{PacketTexts}
 use Rattle.capture_text.specs.ArpText.{arp_text}
 use Rattle.capture_text.specs.AddressText.{addresses_text, endpoints_text}
+use Rattle.capture_text.specs.CommentsText.{comments_part}
 use Rattle.capture_text.specs.InterfaceText.{interface_text}
 use Rattle.capture_words.specs.Icmpv4Text as icmpv4_text
 use Rattle.capture_words.specs.Icmpv6Text as icmpv6_text
@@ -194,20 +195,21 @@ tunnel_text tunnel =
     ++ (virtual_network_text tunnel.network ++ codes " | ")
 
 -- This is the line of a packet: its number, its time, its interface, the length of its frame, its tunnels, its content with an ARP packet,
--- the fields of its fragment, its details if the line is verbose, and its verdict.
-abbrev pub IsLine : Times → Bool → ℕ → Option PacketInterface → Option PacketTime → Option PacketTime → Option FrameLen → Packet → List ℕ
+-- the fields of its fragment, its details if the line is verbose, its verdict, and its comments if the line is verbose.
+abbrev pub IsLine : Times → Bool → ℕ → PacketTexts → Option PacketTime → Option PacketTime → Option FrameLen → Packet → List ℕ
     → Type 0
-IsLine times verbose number interface first time len packet line =
+IsLine times verbose number texts first time len packet line =
     (what : List ℕ) × IsContentText packet.content what
-    × (line ≡ decimal number ++ (codes " " ++ (time_text times first time ++ (interface_text interface ++ (frame_text len
+    × (line ≡ decimal number ++ (codes " " ++ (time_text times first time ++ (interface_text texts.interface ++ (frame_text len
     ++ (flat_map tunnel_text packet.tunnels.items
     ++ (what ++ (arp_text packet.arp ++ (fragment_text packet.fragment
-    ++ (details_text verbose packet ++ (end_text packet.content packet.verdict ++ codes "\n")))))))))))
+    ++ (details_text verbose packet ++ (end_text packet.content packet.verdict
+    ++ (comments_part verbose texts.comments ++ codes "\n"))))))))))))
 
--- The line of a packet depends only on the packet, its number, its interface, its time, the time of the first packet, its frame length,
--- `times` and `verbose`.
-abbrev pub HasOneLine : Times → Bool → ℕ → Option PacketInterface → Option PacketTime → Option PacketTime → Option FrameLen → Packet
+-- The line of a packet depends only on the packet, its number, its texts, its time, the time of the first packet, its frame length, `times`
+-- and `verbose`.
+abbrev pub HasOneLine : Times → Bool → ℕ → PacketTexts → Option PacketTime → Option PacketTime → Option FrameLen → Packet
     → Type 0
-HasOneLine times verbose number interface first time len packet = (line other : List ℕ)
-    → IsLine times verbose number interface first time len packet line → IsLine times verbose number interface first time len packet other
+HasOneLine times verbose number texts first time len packet = (line other : List ℕ)
+    → IsLine times verbose number texts first time len packet line → IsLine times verbose number texts first time len packet other
     → line ≡ other

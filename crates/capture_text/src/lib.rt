@@ -7,6 +7,7 @@
 
 mod addresses;
 mod arp;
+mod comments;
 mod endpoints;
 mod fragment;
 mod interface;

@@ -11,6 +11,7 @@ ghost use Rattle.capture_words.specs.Written.{AppendsOne};
 
 use crate::addresses::{write_addresses, write_endpoints};
 use crate::arp::write_arp;
+use crate::comments::write_comments_part;
 use crate::fragment::write_fragment;
 use crate::interface::write_interface;
 use crate::verdict::{is_other_protocol, write_verdict};
@@ -30,8 +31,8 @@ use transport_part::TransportSlice;
 use udp_part::UdpSlice;
 
 /// Writes the line of a packet: its number, its time, its interface if its section has several interfaces, the length of its frame, its
-/// tunnels, its addresses, its content with an ARP packet, the fields of its fragment, and its verdict. A bar follows each tunnel. A verbose line also shows the hop limit or the time to live of the packet, if its
-/// IP header was captured.
+/// tunnels, its addresses, its content with an ARP packet, the fields of its fragment, and its verdict. A bar follows each tunnel. A verbose
+/// line also shows the hop limit or the time to live of the packet, if its IP header was captured, and the comments of the packet.
 ///
 /// ```text
 /// 1 00:00:00.000000 length 74: 192.0.2.1:49152 > 192.0.2.2:53 UDP length 40, payload 32; checksum right
@@ -48,11 +49,11 @@ pub fn write_packet_line<W: Write>(
     packet: &Packet,
 ) -> io::Result<()>
     ensures { OnOk result (AppendsOne (W.contents output.old) (W.contents output.new)
-        (IsLine times verbose info.now.number info.now.interface info.now.first info.now.capture.time info.now.capture.len packet.now)) }
+        (IsLine times verbose info.now.number info.now.texts info.now.first info.now.capture.time info.now.capture.len packet.now)) }
 {
     write!(output, "{} ", info.number)?;
     write_time(output, times, info.first, info.capture.time)?;
-    write_interface(output, &info.interface)?;
+    write_interface(output, &info.texts.interface)?;
     write_frame_len(output, info.capture.len)?;
     write_tunnels(output, packet.tunnels.as_slice())?;
     write_content(output, &packet.content)?;
@@ -60,6 +61,7 @@ pub fn write_packet_line<W: Write>(
     write_fragment(output, packet.fragment)?;
     write_details(output, verbose, packet)?;
     write_end(output, &packet.content, &packet.verdict)?;
+    write_comments_part(output, verbose, &info.texts.comments)?;
     writeln!(output)
 }
 

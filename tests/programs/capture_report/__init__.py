@@ -13,8 +13,9 @@ from .arguments import (
     check_known_options, check_long_words, check_options_not_utf_8, check_pairs, check_repeated_options, check_unknown_options, check_values,
 )
 from .choices import check_choices
+from .comments import check_comments, check_comments_against_tshark
 from .every_row import check_every_row, every_row
-from .facts import check_facts, check_texts
+from .facts import check_facts, check_statistics, check_texts
 from .faults import check_cuts, check_faults
 from .files import check_files
 from .interfaces import check_interfaces, check_interfaces_against_tshark
@@ -31,7 +32,8 @@ from .writing import check_writing
 
 CHECKS = (
     check_every_kind, check_further_headers, check_tunnels, check_other_links, check_cuts, check_faults, check_writing, check_live,
-    check_progress, check_files, check_sums, check_choices, check_top, check_conversations, check_dates, check_totals, check_facts, check_texts,
+    check_progress, check_files, check_sums, check_choices, check_top, check_conversations, check_dates, check_totals, check_facts, check_statistics,
+    check_texts, check_comments, check_comments_against_tshark,
     check_json, check_every_row, check_hop_limits, check_times_as_numbers, check_payloads, check_names, check_values, check_unknown_options,
     check_fragments, check_arp, check_neighbors, check_known_options, check_repeated_options, check_options_not_utf_8, check_pairs, check_long_words, check_against_tshark,
     check_payloads_against_tshark, check_tunnels_against_tshark, check_interfaces, check_interfaces_against_tshark, check_udp_tunnels,

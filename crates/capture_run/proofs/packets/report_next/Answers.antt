@@ -42,7 +42,7 @@ returns-in_ok-add-in-Ok-Whole-clause-next g c =
 pub returns-in_ok-add-in-Ok-Whole-clause-text : goal.returns-in_ok-add-in-Ok-Whole-clause-text
 unfolding returns-in_ok-add-in-Ok-Whole-clause-next
 returns-in_ok-add-in-Ok-Whole-clause-text g c =
-    let (text, is_text, appends) = rw c.interface_of-interface.ensures at c.in_ok-add-in-Ok-Whole.ensures.text in
+    let (text, is_text, appends) = rw c.texts_of-texts.ensures at c.in_ok-add-in-Ok-Whole.ensures.text in
     λ none. (
       text,
       record { reports = returns-in_ok-add-in-Ok-Whole-clause-next g c; is_first = c.add.ensures.first; is_text = is_text },

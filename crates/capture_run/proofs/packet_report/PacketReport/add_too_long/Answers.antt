@@ -10,7 +10,7 @@ returns-clause-text g c =
       record {
         packet = c.packet_without_room-packet.result;
         is_packet = c.packet_without_room-packet.ensures;
-        is_text = rw c.too_long_info.ensures at one.1;
+        is_text = rw (c.too_long_info.ensures, c.new-texts.ensures) at one.1;
       },
       one.2,
     ))
