@@ -1,18 +1,19 @@
 //! Tests of the crate `capture_json`.
 
-use crate::expect::{expect_all_written, expect_ok, expect_some, expect_written, joined};
+use crate::expect::{append, expect_all_written, expect_ok, expect_some, expect_written, joined};
 use crate::packets::OVER_IPV4;
 use crate::summaries::{first_info, flow_of_ipv4, judge, new_summary, refuse};
 use capture_file::pcapng::TimeResolution;
 use capture_file::reader::PacketInterface;
 use capture_file::{LinkType, PacketTime};
-use capture_json::{write_packet, write_summary};
+use capture_json::{Captures, write_packet, write_summary};
 use capture_packet::{
     Arp, ArpAddresses, Content, FragmentFields, HopLimit, Identification, NetworkKind, NetworkProtocol, Packet,
     Refusal, Transport, Tunnel, Verdict, VirtualNetwork,
 };
 use capture_summary::{
-    Busiest, CaptureInfo, FrameLen, Protocol, RefusalKind, Summary, VerdictKind,
+    Busiest, CaptureInfo, Count, FileCount, FileTable, FrameLen, MAX_FILES, Protocol, RefusalKind,
+    Summary, VerdictKind,
 };
 use capture_file::KeptText;
 use capture_words::Times;
@@ -22,6 +23,7 @@ use etherparse_transport::{
     Untested, ip_number,
 };
 use std::process::Abort;
+use std::random::RandomSource;
 
 /// 2001:db8::1, and a final destination that is not known.
 const OVER_IPV6: IpAddresses = IpAddresses::Ipv6 {
@@ -626,13 +628,68 @@ fn count_three(rt: &impl Abort, summary: &mut Summary) {
     refuse(rt, summary, Protocol::Udp, RefusalKind::UdpLength, info);
 }
 
+/// The object of a summary of three packets, with this table of files.
+fn object_with(rt: &(impl Abort + AllocGlobal + RandomSource), files: &FileTable<'_>) -> Vec<u8> {
+    let mut summary = new_summary(rt);
+    count_three(rt, &mut summary);
+    let busiest = expect_ok(rt, Busiest::of(summary.flows(), rt.alloc(), 10));
+    let mut text = Vec::new(rt.alloc());
+    let captures = Captures { only: &None, files };
+    let written = write_summary(&mut text, rt.alloc(), &captures, &summary, &busiest);
+    expect_ok(rt, written);
+    text
+}
+
 #[test]
 fn the_object_of_a_summary(rt: HostRuntime) {
-    let mut summary = new_summary(&rt);
-    count_three(&rt, &mut summary);
-    let busiest = expect_ok(&rt, Busiest::of(summary.flows(), rt.alloc(), 10));
-    let mut text = Vec::new(rt.alloc());
-    let written = write_summary(&mut text, rt.alloc(), &None, &summary, &busiest);
-    expect_ok(&rt, written);
+    let text = object_with(&rt, &FileTable::new());
     expect_written(&rt, &text, OF_THREE_PACKETS);
+}
+
+/// Three packets of a capture.
+const OF_FILE: FileCount = FileCount {
+    all: Count {
+        packets: 3,
+        bytes: 98,
+    },
+    wrong: 2,
+    refused: 1,
+};
+
+/// Stops the test unless the object of a summary ends with this text, after the members of the object without a table of files.
+fn expect_files(rt: &(impl Abort + AllocGlobal + RandomSource), files: &FileTable<'_>, end: &str) {
+    let text = object_with(rt, files);
+    let others = expect_some(rt, OF_THREE_PACKETS.strip_suffix("}\n"));
+    expect_all_written(rt, &text, &[others, end]);
+}
+
+#[test]
+fn the_table_of_files(rt: HostRuntime) {
+    let mut files = FileTable::new();
+    files.add("a \"b\"\n.pcap", OF_FILE);
+    files.add("\u{FC}", FileCount::NONE);
+    expect_files(
+        &rt,
+        &files,
+        r#","files":[{"file":"a \"b\"\n.pcap","packets":3,"bytes":98,"wrong":2,"refused":1},{"file":"ü","packets":0,"bytes":0,"wrong":0,"refused":0}]}
+"#,
+    );
+}
+
+#[test]
+fn files_without_a_row(rt: HostRuntime) {
+    let mut files = FileTable::new();
+    for _ in 0..MAX_FILES {
+        files.add("a", FileCount::NONE);
+    }
+    let row = r#"{"file":"a","packets":0,"bytes":0,"wrong":0,"refused":0},"#;
+    let mut rows = joined(&rt, &[r#","files":["#.as_bytes()]);
+    for _ in 1..MAX_FILES {
+        append(&rt, &mut rows, row.as_bytes());
+    }
+    append(&rt, &mut rows, b"{\"file\":\"a\",\"packets\":0,\"bytes\":0,\"wrong\":0,\"refused\":0}]");
+    files.add("b", OF_FILE);
+    files.add("c", OF_FILE);
+    append(&rt, &mut rows, b",\"other_files\":{\"files\":2,\"packets\":6,\"bytes\":196,\"wrong\":4,\"refused\":2}}\n");
+    expect_files(&rt, &files, expect_ok(&rt, std::str::from_utf8(&rows)));
 }

@@ -2,6 +2,7 @@
 
 mod choice;
 mod endpoints;
+mod files;
 mod kinds;
 mod protocols;
 mod summary;

@@ -2,6 +2,7 @@
 
 mod conversations;
 mod endpoints;
+mod files;
 mod further_fields;
 mod icmp;
 mod packet_lines;

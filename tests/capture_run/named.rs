@@ -5,7 +5,7 @@ use super::{
     run_over,
 };
 use crate::captures::{ALL, FaultyWriter, changed_capture};
-use crate::expect::{expect_equal, expect_written};
+use crate::expect::{bytes_from, expect_equal, expect_written};
 use capture_run::{ExitStatus, Format, Lines, Open, Outputs, Parts, Sources, WriteError};
 use std::alloc::Global;
 use std::io;
@@ -356,6 +356,54 @@ fn expect_summary(rt: &(impl Abort + AllocGlobal + RandomSource), row: &SummaryR
 fn the_summary_is_of_all_captures(rt: HostRuntime) {
     for row in &SUMMARIES {
         expect_summary(&rt, row);
+    }
+}
+
+/// The names of captures, the requested parts of their report, the status, and the end of the output after the table of endpoints.
+type FilesRow = (&'static [&'static str], Asked, u8, &'static str);
+
+/// A capture that is cut off has a row, and so has a capture without selected packets. A capture that can't be opened, whose beginning is
+/// not accepted, or that is not read has none.
+#[rattlefmt::skip]
+static FILES: [FilesRow; 5] = [
+    (&["right"], Asked::OnlySummary, 0, ONE_ENDPOINT),
+    (&["right", "missing", "wrong", "version", "zero", "cut"], Asked::OnlySummary, 3, OF_FOUR_FILES),
+    (&["\0right", "right"], Asked::OnlySummary, 3, OF_ONE_FILE),
+    (&["right", "wrong", "missing"], Asked::SummaryOfOne, 0, OF_ONE_FILE),
+    (&["right", "wrong", "missing"], Asked::AllObjects, 3, FILE_OBJECTS),
+];
+
+const ONE_ENDPOINT: &str = "192.0.2.2                         1            29\n";
+
+const OF_FOUR_FILES: &str = "
+    packets             bytes       wrong     refused files
+          1                29           0           0 right
+          1                29           1           0 wrong
+          1                29           0           1 zero
+          0                 0           0           0 cut
+";
+
+const OF_ONE_FILE: &str = "
+    packets             bytes       wrong     refused files
+          1                29           0           0 right
+";
+
+const FILE_OBJECTS: &str = r#","packets_of_other_flows":{"packets":0,"bytes":0},"files":[{"file":"right","packets":1,"bytes":29,"wrong":0,"refused":0},{"file":"wrong","packets":1,"bytes":29,"wrong":1,"refused":0}]}
+"#;
+
+/// Stops the test unless the output of a row ends with the text of the row.
+fn expect_files(rt: &(impl Abort + AllocGlobal + RandomSource), row: &FilesRow) {
+    let (names, asked, status, wanted) = *row;
+    let ran = run_named(rt, parts_of(asked), names);
+    expect_equal(rt, &ran.status, &status);
+    let start = ran.output.len().saturating_sub(wanted.len());
+    expect_written(rt, bytes_from(rt, &ran.output, start), wanted);
+}
+
+#[test]
+fn the_summary_has_a_row_for_each_capture(rt: HostRuntime) {
+    for row in &FILES {
+        expect_files(&rt, row);
     }
 }
 

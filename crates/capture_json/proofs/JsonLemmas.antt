@@ -1,6 +1,6 @@
 -- Members and items of packets that are written in order.
 use Rattle.std.proofs.Common.{◌≡◌, ◌<◌, ◌+◌, ◌∙◌, ◌∷◌, [], ℕ, List, ◌++◌, OnOk, Result, ap, get_or, length, map, None, Some, sym, take, true, true≢false}
-use Rattle.std.proofs.lemmas.List.{flat_map_more, map-append, take_more}
+use Rattle.std.proofs.lemmas.List.{flat_map_more, map-append, map_more, take_more}
 use Rattle.std.proofs.lemmas.Result.{on_ok_weaker}
 use Rattle.std.specs.List.{flat_map}
 use Rattle.json.specs.Token.{Token}
@@ -26,6 +26,14 @@ pub one_more_item : (values : List Data) (value : Data) (before between after : 
     → after ≡ push value between → after ≡ with_items (values ++ value ∷ []) before
 one_more_item values value before between after is_first is_second =
     is_second ∙ ap (push value) is_first ∙ sym (items_append values (value ∷ []) before)
+
+-- the items of elements and of another element, each of which is one item
+pub one_more_of : {X : Type 0} (xs : List X) (item : X → Data) (i : ℕ) (d : X) (before between after : List Token) → i < length xs
+    → between ≡ with_items (map item (take i xs)) before → after ≡ push (item (get_or xs i d)) between
+    → after ≡ with_items (map item (take (i + 1) xs)) before
+one_more_of xs item i d before between after below is_first is_second =
+    one_more_item (map item (take i xs)) (item (get_or xs i d)) before between after is_first is_second
+    ∙ sym (ap (λ items. with_items items before) (map_more item xs i d below))
 
 -- the items after more items are written
 more_items : (values more : List Data) (before between after : List Token) → between ≡ with_items values before

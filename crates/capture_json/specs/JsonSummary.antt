@@ -1,5 +1,5 @@
 -- The summary as a JSON object: the facts of the capture, the totals, and the tables with the names of their rows.
-use Rattle.std.specs.Prelude.{ℕ, ◌-◌, ◌^◌, min, List, [], ◌∷◌, ◌++◌, map, codes, length, Option, Some, None}
+use Rattle.std.specs.Prelude.{ℕ, ◌-◌, ◌^◌, ◌==◌, min, if◌then◌else◌, List, [], ◌∷◌, ◌++◌, map, codes, length, Option, Some, None}
 use Rattle.std.specs.Net.Socket.{socket_ip, socket_port}
 use Rattle.std.specs.Net.Text.{ip_text}
 use Rattle.capture_json.specs.Members.{Member, array_of, object_of, whole_number}
@@ -16,10 +16,12 @@ use Rattle.capture_json.specs.JsonPacket.{ip_protocol_members, json_line, type_m
 use Rattle.capture_json.specs.JsonTimes.{duration_members, instant_members}
 use Rattle.capture_summary.specs.Kinds.{flow_proto, flow_protocol_number, link_rows, protocol_rows, refusal_rows, verdict_rows}
 use Rattle.capture_json.specs.Words.{with_underscores}
+use Rattle.capture_summary.specs.Files.{Files}
 use Rattle.capture_summary.specs.Ranking.{busiest_of}
 use Rattle.capture_summary.specs.SummaryTables.{SummaryTables}
 use Rattle.capture_summary.specs.declared.count.Count.{Count}
 use Rattle.capture_summary.specs.declared.endpoint_count.EndpointCount.{EndpointCount}
+use Rattle.capture_summary.specs.declared.file_count.FileCount.{FileCount}
 use Rattle.capture_summary.specs.declared.flow.Flow.{Flow}
 use Rattle.capture_summary.specs.declared.time_span.TimeSpan.{TimeSpan}
 use Rattle.capture_summary.specs.declared.conversation_count.ConversationCount.{ConversationCount}
@@ -114,6 +116,29 @@ endpoint_data row = object_of (endpoint_members row)
 abbrev pub endpoints_member : List EndpointCount → Member
 endpoints_member endpoints = (codes "endpoints", array_of (map endpoint_data endpoints))
 
+-- ---- files
+
+-- the numbers of packets and bytes, of packets with a wrong checksum, and of refused packets
+abbrev pub file_count_members : FileCount → List Member
+file_count_members count =
+    count_members count.all ++ (codes "wrong", whole_number count.wrong) ∷ (codes "refused", whole_number count.refused) ∷ []
+
+-- the row of a capture, as an object: its name, and the numbers of its packets
+abbrev pub file_data : List ℕ × FileCount → Data
+file_data row = object_of ((codes "file", string row.0) ∷ file_count_members row.1)
+
+-- the number of captures without a row, and the numbers of their packets; no members if there is no such capture
+abbrev pub others_members : ℕ → FileCount → List Member
+others_members other_files others =
+    if other_files == 0 then []
+    else (codes "other_files", object_of ((codes "files", whole_number other_files) ∷ file_count_members others)) ∷ []
+
+-- the table of files; no members if the table has no rows
+abbrev pub files_members : Files → List Member
+files_members files =
+    if length files.rows == 0 then []
+    else (codes "files", array_of (map file_data files.rows)) ∷ others_members files.other_files files.others
+
 -- ---- the summary
 
 -- the average number of bytes of a packet, if there are packets
@@ -143,13 +168,17 @@ head_members capture tables = type_member (codes "summary") ∷ (facts_members c
 abbrev pub tables_members : Option CaptureReader → SummaryTables → List Member
 tables_members capture tables = head_members capture tables ++ rows_members tables
 
--- all members of the summary, with these conversations and endpoints
-abbrev pub summary_members : Option CaptureReader → List ConversationCount → List EndpointCount → SummaryTables → List Member
-summary_members capture conversations endpoints tables =
+-- everything after the endpoints: the counts of packets that belong to no row of the conversations, and the table of files
+abbrev pub end_members : Files → Count → Count → List Member
+end_members files without_ports without_room = uncounted_members without_ports without_room ++ files_members files
+
+-- all members of the summary, with these files, conversations and endpoints
+abbrev pub summary_members : Option CaptureReader → Files → List ConversationCount → List EndpointCount → SummaryTables → List Member
+summary_members capture files conversations endpoints tables =
     tables_members capture tables ++ busiest_member conversations ∷ endpoints_member endpoints
-    ∷ uncounted_members tables.flows.without_ports tables.flows.without_room
+    ∷ end_members files tables.flows.without_ports tables.flows.without_room
 
 -- the line of the summary, with at most `top` of the busiest conversations, and at most `top` of the busiest endpoints
-abbrev pub json_summary : Option CaptureReader → ℕ → SummaryTables → List ℕ
-json_summary capture top tables =
-    json_line (summary_members capture (busiest_of top tables.flows.rows) (busiest_endpoints top tables.flows.rows) tables)
+abbrev pub json_summary : Option CaptureReader → Files → ℕ → SummaryTables → List ℕ
+json_summary capture files top tables =
+    json_line (summary_members capture files (busiest_of top tables.flows.rows) (busiest_endpoints top tables.flows.rows) tables)

@@ -10,10 +10,12 @@
 
 mod addresses;
 mod arp;
+mod captures;
 mod comments;
 mod endpoints;
 mod facts;
 mod file_name;
+mod files;
 mod flows;
 mod fragment;
 mod icmp;
@@ -36,6 +38,7 @@ mod totals;
 mod tunnels;
 mod verdict;
 
+pub use captures::Captures;
 pub use file_name::write_file_name;
 use line::Line;
 pub use packet::write_packet;

@@ -6,23 +6,24 @@ ghost use Rattle.json.specs.Print.{print};
 ghost use Rattle.json.specs.Token.{begin_object, end_array};
 ghost use Rattle.capture_json.specs.Tokens.{array_begun, line_text, put, tokens_in, with_members};
 ghost use Rattle.capture_json.specs.JsonPacket.{json_line};
-ghost use Rattle.capture_json.specs.JsonSummary.{counts_data, counts_member, row_member, rows_data, summary_members, tables_members, uncounted_members};
+ghost use Rattle.capture_json.specs.JsonSummary.{counts_data, counts_member, end_members, row_member, rows_data, summary_members, tables_members};
 
-use crate::Line;
 use crate::endpoints::write_endpoints;
 use crate::facts::put_facts;
+use crate::files::put_files;
 use crate::flows::{put_count, put_uncounted, write_rows};
 use crate::text::{as_text, fill_with_underscores, write_line, write_part};
 use crate::totals::put_totals;
+use crate::{Captures, Line};
 use capture_file::reader::CaptureReader;
 use capture_request::WriteError;
-use capture_summary::{Busiest, Count, Summary};
+use capture_summary::{Busiest, Count, FileTable, Summary};
 use std::alloc::Global;
 use std::io;
 use std::io::Write;
 
 /// Writes the summary as a JSON object of the type `summary`, on its own line. The object contains the facts of the capture, the numbers of
-/// packets, bytes and conversations, the times, and each table under its name. If `capture` is `None`, the facts are left out. The
+/// packets, bytes and conversations, the times, and each table under its name. If `captures.only` is `None`, the facts are left out. The
 /// conversations and the endpoints are written row by row, so that the memory does not grow with their number.
 ///
 /// # Errors
@@ -31,18 +32,25 @@ use std::io::Write;
 pub fn write_summary<W: Write>(
     output: &mut W,
     alloc: Global,
-    capture: &Option<CaptureReader>,
+    captures: &Captures<'_, '_>,
     summary: &Summary,
     busiest: &Busiest,
 ) -> Result<(), WriteError>
     ensures { OnOk result (Appends (W.contents output.old) (W.contents output.new)
-        (json_line (summary_members capture.now busiest.now.conversations.items busiest.now.endpoints.items summary.now))) }
+        (json_line (summary_members captures.now.only.now captures.now.files.now
+        busiest.now.conversations.items busiest.now.endpoints.items summary.now))) }
 {
-    write_tables(output, alloc, capture, summary)?;
+    write_tables(output, alloc, captures.only, summary)?;
     write_rows(output, alloc, busiest.conversations.as_slice())?;
     write_endpoints(output, alloc, busiest.endpoints.as_slice())?;
     let flows = summary.flows();
-    write_end(output, alloc, flows.without_ports(), flows.without_room())
+    write_end(
+        output,
+        alloc,
+        captures.files,
+        flows.without_ports(),
+        flows.without_room(),
+    )
 }
 
 /// Writes everything before the first conversation: the type, the facts of the capture, the totals, the tables, and the beginning of the
@@ -68,19 +76,21 @@ fn write_tables<W: Write>(
     }
 }
 
-/// Writes everything after the last endpoint: the end of the array, and the counts of packets that belong to no row.
+/// Writes everything after the last endpoint: the end of the array, the counts of packets that belong to no row, and the table of files.
 fn write_end<W: Write>(
     output: &mut W,
     alloc: Global,
+    files: &FileTable<'_>,
     without_ports: Count,
     without_room: Count,
 ) -> Result<(), WriteError>
     ensures { OnOk result (Appends (W.contents output.old) (W.contents output.new)
-        (line_text (with_members (uncounted_members without_ports without_room) (end_array ∷ [])))) }
+        (line_text (with_members (end_members files.now without_ports without_room) (end_array ∷ [])))) }
 {
     let mut line = Line::new(alloc)?;
     line.end_array()?;
     put_uncounted(&mut line, without_ports, without_room)?;
+    put_files(&mut line, files)?;
     write_line(output, line)
 }
 

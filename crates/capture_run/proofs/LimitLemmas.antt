@@ -6,7 +6,7 @@ use Rattle.capture_run.specs.Runs.{RejectsBeginning}
 use Rattle.capture_file.specs.CapturePackets.{FilePacket}
 use Rattle.capture_packet.specs.declared.packet.Packet.{Packet}
 use Rattle.capture_summary.specs.Kinds.{verdict_kind, verdict_place}
-use Rattle.capture_summary.specs.SummaryTables.{SummaryTables}
+use Rattle.capture_summary.specs.SummaryTables.{SummaryTables, file_started}
 use Rattle.capture_summary.specs.Tables.{counted_at}
 use Rattle.capture_summary.specs.declared.capture_info.CaptureInfo.{CaptureInfo}
 use Rattle.capture_summary.specs.declared.choice.Choice.{Choice}
@@ -55,6 +55,12 @@ limited_by_chosen : (given : Lines) (choice : Choice) (packet : Packet) (info : 
     → CountsChosen choice packet info before after → limited given after ≤ limited given before + 1
 limited_by_chosen given choice packet info before after (inl (chosen, read)) = limited_by_one given packet info before after read
 limited_by_chosen given choice packet info before after (inr (other, same)) = omega (arith, ap (limited given) same)
+
+-- the number is unchanged if another capture begins
+pub limited_started : (given : Lines) (tables : SummaryTables) → limited given (file_started tables) ≡ limited given tables
+limited_started lines.All tables = refl
+limited_started lines.Wrong tables = refl
+limited_started lines.None tables = refl
 
 -- ---- the limit
 

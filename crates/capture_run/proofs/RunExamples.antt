@@ -34,11 +34,13 @@ use Rattle.capture_request.specs.declared.parts.Format.TheVariants as formats
 use Rattle.capture_request.specs.declared.parts.Lines.TheVariants as lines
 use Rattle.capture_request.specs.declared.parts.Parts.{Parts}
 use Rattle.capture_request.specs.declared.reached.Reached.TheVariants.{End}
-use Rattle.capture_run.specs.Captures.{Given, IsRun, Progress, ReportsOpened, at_start}
+use Rattle.capture_run.specs.Captures.{Given, IsRun, Progress, ReportsOpened, at_start, files_after}
 use Rattle.capture_run.specs.PacketsText.{IsPacketText, WritesCapture}
 use Rattle.capture_summary.specs.Choice.{IsChosen, every_packet}
 use Rattle.capture_summary.specs.FlowTable.{table_counted}
 use Rattle.capture_summary.specs.Kinds.{link_kind, link_place, verdict_kind, verdict_place}
+use Rattle.capture_summary.specs.Files.{no_file_packets, no_files}
+use Rattle.capture_text.specs.FilesText.{files_table}
 use Rattle.capture_summary.specs.SummaryTables.{SummaryTables, empty_tables}
 use Rattle.capture_summary.specs.Tables.{counted_at, packet_counted_at}
 use Rattle.capture_file.specs.Texts.{interface_added, no_texts, section_begun}
@@ -207,11 +209,21 @@ ReadsFile name given = given ≡ Some (Some (section ++ interface))
 
 -- the state after the file
 abbrev after_file : Progress
-after_file = record { summary = empty_tables; status = Success; is_empty = false; capture = Some (Pcapng described) }
+after_file = record {
+  summary = empty_tables;
+  status = Success;
+  is_empty = false;
+  capture = Some (Pcapng described);
+  files = no_files;
+}
+
+-- the state after the file, if it has a row with this name
+abbrev after_row : Option (List ℕ) → Progress
+after_row row = record after_file { files = files_after row (Some (Pcapng described)) no_file_packets no_files }
 
 -- the file was reported
-opened : (shown : Option (List ℕ)) → ReportsOpened summary_alone shown (Some (section ++ interface)) at_start after_file [] []
-opened shown =
+opened : (shown row : Option (List ℕ)) → ReportsOpened summary_alone shown row (Some (section ++ interface)) at_start (after_row row) [] []
+opened shown row =
     let (first, first_room) = filled section max_packet_len (omega arith) in
     let (second, second_room) = filled interface max_packet_len (omega arith) in
     record {
@@ -220,6 +232,7 @@ opened shown =
       reader = Some (Pcapng described);
       is_report = writes first second first_room second_room summary_alone;
       capture = refl;
+      files = refl;
       are_lines = refl;
       status = refl;
       empty = (λ is. absurd (cc is), λ both. absurd both.1);
@@ -234,7 +247,69 @@ unfolding options_within digits
 summary_of_file = record {
   after = after_file;
   captures = [];
-  reports = (after_file, [], [], [], [], ([], (Some (Some (section ++ interface)), refl, opened _), refl), (refl, refl, refl), refl, refl);
+  reports = (after_file, [], [], [], [], ([], (Some (Some (section ++ interface)), refl, opened _ _), refl), (refl, refl, refl), refl, refl);
+  whole = refl;
+  is_final = refl;
+}
+
+-- the state after the file is reported a second time; each of both reports has a row
+abbrev after_both : Progress
+after_both = record after_file {
+  capture = None;
+  files = record {
+    rows = (codes "a", no_file_packets) ∷ (codes "b", no_file_packets) ∷ [];
+    other_files = 0;
+    others = no_file_packets;
+  };
+}
+
+opened_again : (shown : Option (List ℕ)) → ReportsOpened summary_alone shown (Some (codes "b")) (Some (section ++ interface))
+    (after_row (Some (codes "a"))) after_both [] []
+opened_again shown =
+    let (first, first_room) = filled section max_packet_len (omega arith) in
+    let (second, second_room) = filled interface max_packet_len (omega arith) in
+    record {
+      ended = Ok End;
+      still_left = Some [];
+      reader = Some (Pcapng described);
+      is_report = writes first second first_room second_room summary_alone;
+      capture = refl;
+      files = refl;
+      are_lines = refl;
+      status = refl;
+      empty = (λ is. absurd (cc is), λ both. absurd both.1);
+      limit = refl;
+      within = λ none. none;
+    }
+
+-- the summary of two files has a row for each of them
+summary_of_two : IsRun ReadsFile summary_alone (codes "a" ∷ codes "b" ∷ []) Success
+    (codes "packets 0, bytes 0\nconversations 0\n" ++ files_table after_both.files) []
+unfolding options_within digits
+summary_of_two = record {
+  after = after_both;
+  captures = [];
+  reports = (
+    after_row (Some (codes "a")),
+    [],
+    [],
+    [],
+    [],
+    ([], (Some (Some (section ++ interface)), refl, opened _ _), refl),
+    (
+      after_both,
+      [],
+      [],
+      [],
+      [],
+      ([], (Some (Some (section ++ interface)), refl, opened_again _), refl),
+      (refl, refl, refl),
+      refl,
+      refl,
+    ),
+    refl,
+    refl,
+  );
   whole = refl;
   is_final = refl;
 }
@@ -294,6 +369,7 @@ counted = record {
   links = counted_at (link_place (link_kind (Some (Err 147)))) empty_tables.links;
   refusals = empty_tables.refusals;
   flows = table_counted None 1 (Some time) empty_tables.flows;
+  file = record { all = record { packets = 1; bytes = 1 }; wrong = 0; refused = 0 };
 }
 
 -- every packet is chosen
@@ -323,6 +399,7 @@ counts_packet = (
           links = refl;
           refusals = refl;
           flows = refl;
+          file = refl;
         };
       },
     );
@@ -415,9 +492,15 @@ is_line = record {
 
 -- the state after the capture
 abbrev after_capture : Progress
-after_capture = record { summary = counted; status = Success; is_empty = false; capture = Some (Classic after_packet) }
+after_capture = record {
+  summary = counted;
+  status = Success;
+  is_empty = false;
+  capture = Some (Classic after_packet);
+  files = no_files;
+}
 
-reported : (shown : Option (List ℕ)) → ReportsOpened lines_alone shown (Some (file_header ++ one_byte)) at_start after_capture (line
+reported : (shown : Option (List ℕ)) → ReportsOpened lines_alone shown None (Some (file_header ++ one_byte)) at_start after_capture (line
     ++ []) []
 reported shown =
     let (rest, room) = filled (170 ∷ []) max_packet_len (omega arith) in
@@ -427,6 +510,7 @@ reported shown =
       reader = Some (Classic after_packet);
       is_report = writes_line rest room lines_alone line refl is_line;
       capture = refl;
+      files = refl;
       are_lines = refl;
       status = refl;
       empty = (λ is. absurd (cc is), λ both. absurd both.1);

@@ -5,9 +5,10 @@ use Rattle.std.proofs.lemmas.List.{length-map, length-take-le, map-append, map_m
 use Rattle.std.specs.Io.KnownBytes.{Appends}
 use Rattle.std.specs.List.{concat}
 use Rattle.capture_request.specs.declared.writing_error.WriteError.{WriteError}
+use Rattle.capture_summary.specs.Files.{no_files}
 use Rattle.capture_summary.specs.SummaryTables.{empty_tables}
 use Rattle.capture_request.proofs.LineLemmas.{writes-more, writes-nothing, writes-weaker}
-use Rattle.capture_run.specs.Captures.{Given, IsRun, Progress, ReportsEach, ReportsHeaded, ReportsNamed, TellsFirst, WritesReport, WritesRun, at_start, captures_of, heading_of, progress_of}
+use Rattle.capture_run.specs.Captures.{Given, IsRun, Progress, ReportsEach, ReportsHeaded, ReportsNamed, TellsFirst, WritesReport, WritesRun, at_start, captures_of, heading_of, progress_of, row_name}
 use Rattle.capture_request.specs.ErrorLines.{line_name}
 use Rattle.capture_request.specs.ExitStatuses.{final_status}
 use Rattle.capture_request.specs.Limits.{is_full, limited}
@@ -75,7 +76,7 @@ pub headed : (Reads : List ℕ → Given → Type 0) (parts : Parts) (count plac
     → is_full parts.limit (limited parts.lines before.summary) ≡ false
     → Appends a b (heading_of parts count place name)
     → IfOk result (λ after. WritesReport b c e f (IsNone after.unwritten)
-    (ReportsNamed Reads parts (line_name count name) name before (progress_of after)))
+    (ReportsNamed Reads parts (line_name count name) (row_name count name) name before (progress_of after)))
     → IfOk result (λ after. WritesReport a c e f (IsNone after.unwritten)
     (ReportsHeaded Reads parts count place name before (progress_of after)))
 headed Reads parts count place name before a b c e f (Err error) more head one = tt
@@ -189,26 +190,26 @@ all_named (name ∷ names) named some = refl
 
 -- the state at the start of a run
 at_first : (start : CaptureReports) → start.summary ≡ empty_tables → start.status ≡ Success → start.is_empty ≡ true → start.capture ≡ None
-    → progress_of start ≡ at_start
-at_first start tables status empty no_capture = cc (tables, status, empty, no_capture)
+    → start.files ≡ no_files → progress_of start ≡ at_start
+at_first start tables status empty no_capture none = cc (tables, status, empty, no_capture, none)
 
 -- the summary was written after all captures, and all lines of errors were written
 pub run_result : {X : Type 0} (Reads : List ℕ → Given → Type 0) (parts : Parts) (names : List X) (named : X → List ℕ)
     (start reports : CaptureReports) (status : ExitStatus) (a b c e f : Option (List ℕ)) → start.parts ≡ parts
-    → start.summary ≡ empty_tables → start.status ≡ Success → start.is_empty ≡ true → start.capture ≡ None → reports.parts ≡ start.parts
-    → reports.unwritten ≡ None
+    → start.summary ≡ empty_tables → start.status ≡ Success → start.is_empty ≡ true → start.capture ≡ None → start.files ≡ no_files
+    → reports.parts ≡ start.parts → reports.unwritten ≡ None
     → WritesReport a b e f (IsNone reports.unwritten)
     (ReportsEach Reads start.parts (length names) 0 (captures_of (map named names)) (progress_of start) (progress_of reports))
-    → Appends b c (if reports.is_empty then [] else end_text reports.parts (length names) reports.capture reports.summary)
+    → Appends b c (if reports.is_empty then [] else end_text reports.parts (length names) reports.capture reports.files reports.summary)
     → status ≡ final_status reports.parts.check reports.status reports.summary
     → WritesRun a c e f (IsRun Reads parts (map named names) status)
-run_result Reads parts names named start reports status a b c e f same tables first empty no_capture kept told each end final =
-    let is_start : progress_of start ≡ at_start = at_first start tables first empty no_capture in
+run_result Reads parts names named start reports status a b c e f same tables first empty no_capture none kept told each end final =
+    let is_start : progress_of start ≡ at_start = at_first start tables first empty no_capture none in
     let all : ReportsEach Reads parts (length (map named names)) 0 (captures_of (map named names)) at_start
     (progress_of reports) each.text each.lines =
     rw (same, is_start, sym (length-map names named)) at each.is_report in
     let whole : each.tells.written ≡ concat each.lines = each.tells.whole (rw told refl) in (
-      each.text ++ (if reports.is_empty then [] else end_text parts (length names) reports.capture reports.summary),
+      each.text ++ (if reports.is_empty then [] else end_text parts (length names) reports.capture reports.files reports.summary),
       each.lines,
       record {
         after = progress_of reports;
@@ -225,7 +226,8 @@ run_result Reads parts names named start reports status a b c e f same tables fi
 pub run_failed : {X : Type 0} (Reads : List ℕ → Given → Type 0) (parts : Parts) (names : List X) (named : X → List ℕ)
     (start : CaptureReports) (e f : Option (List ℕ)) → start.parts ≡ parts
     → start.summary ≡ empty_tables → start.status ≡ Success → start.is_empty ≡ true → start.capture ≡ None
+    → start.files ≡ no_files
     → TellsFirst Reads start.parts (length names) (captures_of (map named names)) (progress_of start) e f
     → TellsFirst Reads parts (length names) (captures_of (map named names)) at_start e f
-run_failed Reads parts names named start e f same tables first empty no_capture tells =
-    rw (same, at_first start tables first empty no_capture) at tells
+run_failed Reads parts names named start e f same tables first empty no_capture none tells =
+    rw (same, at_first start tables first empty no_capture none) at tells

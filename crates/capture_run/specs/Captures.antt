@@ -1,10 +1,12 @@
 -- The report of a run: the packets of each capture, and then the summary of all captures.
-use Rattle.std.specs.Prelude.{◌≡◌, ◌↔◌, ℕ, ◌+◌, ◌==◌, Bool, true, false, IsTrue, if◌then◌else◌, List, [], ◌∷◌, ◌++◌, codes, length, MatchBool, Option, Some, None, Result}
+use Rattle.std.specs.Prelude.{◌≡◌, ◌↔◌, ℕ, ◌+◌, ◌==◌, nat_lt, Bool, true, false, IsTrue, if◌then◌else◌, List, [], ◌∷◌, ◌++◌, codes, length, MatchBool, Option, Some, None, Result}
 use Rattle.std.specs.Io.KnownBytes.{Appends}
 use Rattle.std.specs.List.{concat}
 use Rattle.capture_file.specs.declared.reader.capture_reader.CaptureReader.{CaptureReader}
 use Rattle.capture_json.specs.JsonPacket.{file_members, json_line}
+use Rattle.capture_summary.specs.Files.{Files, no_files, with_file}
 use Rattle.capture_summary.specs.SummaryTables.{SummaryTables, empty_tables}
+use Rattle.capture_summary.specs.declared.file_count.FileCount.{FileCount}
 use Rattle.capture_request.specs.Endings.{status_of}
 use Rattle.capture_request.specs.ErrorLines.{AreEndLines, IsOneLine, IsOpenErrorLine, WritesLines, line_name}
 use Rattle.capture_request.specs.ExitStatuses.{final_status, greater}
@@ -24,20 +26,28 @@ use Rattle.capture_request.specs.declared.reached.Reached.{Reached}
 -- ---- one capture
 
 -- The state of a run between two captures. `summary` contains the counts, and `status` is the greatest exit status. `is_empty` is true if
--- no beginning of a capture was accepted. `capture` is the reader of the only capture whose beginning was accepted.
+-- no beginning of a capture was accepted. `capture` is the reader of the only capture whose beginning was accepted. `files` is the table of
+-- files.
 pub record Progress : Type 0 where
   pub summary : SummaryTables
   pub status : ExitStatus
   pub is_empty : Bool
   pub capture : Option CaptureReader
+  pub files : Files
 
 -- the fields of `CaptureReports` that are the state of a run
 abbrev pub progress_of : CaptureReports → Progress
-progress_of reports = record { summary = reports.summary; status = reports.status; is_empty = reports.is_empty; capture = reports.capture }
+progress_of reports = record {
+  summary = reports.summary;
+  status = reports.status;
+  is_empty = reports.is_empty;
+  capture = reports.capture;
+  files = reports.files;
+}
 
 -- the state before the first capture
 abbrev pub at_start : Progress
-at_start = record { summary = empty_tables; status = Success; is_empty = true; capture = None }
+at_start = record { summary = empty_tables; status = Success; is_empty = true; capture = None; files = no_files }
 
 -- the state after a capture that can't be opened
 abbrev pub unopened : Progress → Progress
@@ -46,6 +56,7 @@ unopened before = record {
   status = greater before.status Failed;
   is_empty = before.is_empty;
   capture = before.capture;
+  files = before.files;
 }
 
 -- The reader of the only capture whose beginning was accepted, or `None` if no beginning or several beginnings were accepted. `before` is
@@ -56,15 +67,23 @@ only_capture is_empty before None = before
 only_capture true before (Some reader) = Some reader
 only_capture false before (Some reader) = None
 
+-- The table of files after a capture with these packets. `name` is the name in its row, or `None` if it has no row. It has no row either if
+-- its beginning was not accepted, so that there is no reader.
+abbrev pub files_after : Option (List ℕ) → Option CaptureReader → FileCount → Files → Files
+files_after None reader count files = files
+files_after (Some name) None count files = files
+files_after (Some name) (Some reader) count files = with_file name count files
+
 -- A capture was reported. `left` contains its bytes, or is `None` if they are unknown. `text` is the text of its packets. `lines` contains
 -- the line of its error, if there is one, with the name `shown`. `reader` is the reader after the packets, or `None` if the beginning of
--- the capture was not accepted.
-pub record ReportsOpened (parts : Parts) (shown : Option (List ℕ)) (left : Option (List ℕ)) (before after : Progress) (text : List ℕ) (lines : List (List ℕ)) : Type 0 where
+-- the capture was not accepted. The row of the capture, with the name `row`, counts exactly its packets in `is_report` that are chosen.
+pub record ReportsOpened (parts : Parts) (shown row : Option (List ℕ)) (left : Option (List ℕ)) (before after : Progress) (text : List ℕ) (lines : List (List ℕ)) : Type 0 where
   pub ended : Result Reached CaptureError
   pub still_left : Option (List ℕ)
   pub reader : Option CaptureReader
   pub is_report : IsCaptureReport parts left still_left ended before.summary after.summary reader text
   pub capture : after.capture ≡ only_capture before.is_empty before.capture reader
+  pub files : after.files ≡ files_after row reader after.summary.file before.files
   pub are_lines : AreEndLines shown ended lines
   pub status : after.status ≡ greater before.status (status_of ended)
   pub empty : IsTrue after.is_empty ↔ (IsTrue before.is_empty × EndsAtHeader ended)
@@ -84,16 +103,16 @@ Gives {R} Misses Opens remaining name (Some left) = (input : R) × Opens name in
 
 -- The capture with this name was opened with the result `given`, and was reported. `text` is the text of its packets. `lines` contains the
 -- line of its error, if there is one. If the capture can't be opened, there is only the line of this error.
-abbrev pub ReportsGiven : Parts → Option (List ℕ) → List ℕ → Given → Progress → Progress → List ℕ → List (List ℕ) → Type 0
-ReportsGiven parts shown name None before after text lines =
+abbrev pub ReportsGiven : Parts → Option (List ℕ) → Option (List ℕ) → List ℕ → Given → Progress → Progress → List ℕ → List (List ℕ) → Type 0
+ReportsGiven parts shown row name None before after text lines =
     (after ≡ unopened before) × (text ≡ []) × IsOneLine (IsOpenErrorLine name) lines
-ReportsGiven parts shown name (Some left) before after text lines = ReportsOpened parts shown left before after text lines
+ReportsGiven parts shown row name (Some left) before after text lines = ReportsOpened parts shown row left before after text lines
 
 -- the capture with this name was opened and reported, or the error of opening it was reported
-abbrev pub ReportsNamed : (List ℕ → Given → Type 0) → Parts → Option (List ℕ) → List ℕ → Progress → Progress → List ℕ → List (List ℕ)
-    → Type 0
-ReportsNamed Reads parts shown name before after text lines =
-    (given : Given) × Reads name given × ReportsGiven parts shown name given before after text lines
+abbrev pub ReportsNamed : (List ℕ → Given → Type 0) → Parts → Option (List ℕ) → Option (List ℕ) → List ℕ → Progress → Progress → List ℕ
+    → List (List ℕ) → Type 0
+ReportsNamed Reads parts shown row name before after text lines =
+    (given : Given) × Reads name given × ReportsGiven parts shown row name given before after text lines
 
 -- ---- all captures
 
@@ -110,13 +129,17 @@ heading_in formats.Json place name = json_line (file_members (without_mark name)
 abbrev pub heading_of : Parts → ℕ → ℕ → List ℕ → List ℕ
 heading_of parts count place name = if has_headings parts.lines count then heading_in parts.format place name else []
 
+-- The name in the row of a capture, or `None` if at most one capture is named. Then the table of files has no rows.
+abbrev pub row_name : ℕ → List ℕ → Option (List ℕ)
+row_name count name = if nat_lt 1 count then Some (without_mark name) else None
+
 -- The capture with this name was reported. `count` is the number of named captures, and `place` is the place of this capture among them.
 -- `text` is its heading and the text of its packets, and `lines` are the lines of its errors. If the requested number was already reached,
 -- the capture is skipped.
 abbrev pub ReportsHeaded : (List ℕ → Given → Type 0) → Parts → ℕ → ℕ → List ℕ → Progress → Progress → List ℕ → List (List ℕ) → Type 0
 ReportsHeaded Reads parts count place name before after text lines =
     MatchBool (is_full parts.limit (limited parts.lines before.summary)) ((after ≡ before) × (text ≡ []) × (lines ≡ []))
-    ((packets : List ℕ) × ReportsNamed Reads parts (line_name count name) name before after packets lines
+    ((packets : List ℕ) × ReportsNamed Reads parts (line_name count name) (row_name count name) name before after packets lines
     × (text ≡ heading_of parts count place name ++ packets))
 
 -- The captures with these names were reported in their order. `count` is the number of all named captures, and `place` is the place of the
@@ -140,7 +163,7 @@ pub record IsRun (Reads : List ℕ → Given → Type 0) (parts : Parts) (names 
   pub after : Progress
   pub captures : List ℕ
   pub reports : ReportsEach Reads parts (length names) 0 (captures_of names) at_start after captures lines
-  pub whole : text ≡ captures ++ (if after.is_empty then [] else end_text parts (length names) after.capture after.summary)
+  pub whole : text ≡ captures ++ (if after.is_empty then [] else end_text parts (length names) after.capture after.files after.summary)
   pub is_final : status ≡ final_status parts.check after.status after.summary
 
 -- ---- the writers of a report and of the lines of its errors

@@ -13,7 +13,9 @@ use Rattle.capture_request.specs.Limits.{EndsWithRequested}
 use Rattle.capture_request.specs.Report.{CountsEach, IsPacketOf, ReadsUntil, ReportsOne, info_of, packet_time}
 use Rattle.capture_run.specs.ReportText.{IsTextOfOne}
 use Rattle.capture_run.specs.Runs.{RejectsBeginning}
-use Rattle.capture_summary.specs.SummaryTables.{SummaryTables, has_fault}
+use Rattle.capture_summary.specs.Files.{Files}
+use Rattle.capture_summary.specs.SummaryTables.{SummaryTables, file_started, has_fault}
+use Rattle.capture_text.specs.FilesText.{files_table}
 use Rattle.capture_text.specs.SummaryText.{summary_text}
 use Rattle.capture_request.specs.declared.parts.Format.{Format}
 use Rattle.capture_request.specs.declared.parts.Format.TheVariants as formats
@@ -67,12 +69,13 @@ pub record WritesPackets (reader last : CaptureReader) (parts : Parts) (first : 
   pub counted : CountsEach parts.choice before packets after
   pub is_text : ReadsTexts parts 1 first reader left read.middle read.before packets text
 
--- the report of a capture with an accepted beginning; times are counted from the first packet of this capture that has a time
+-- The report of a capture with an accepted beginning. Times are counted from the first packet of this capture that has a time. The member
+-- `file` of the counts counts exactly the chosen packets of this capture: it is empty before the first of them.
 pub record WritesCapture (parts : Parts) (left still_left : Option (List ℕ)) (ended : Result Reached CaptureError) (before after : SummaryTables) (last : CaptureReader) (text : List ℕ) : Type 0 where
   pub reader : CaptureReader
   pub after_beginning : Option (List ℕ)
   pub begins : BeginsInput max_packet_len reader left after_beginning
-  pub writes : WritesPackets reader last parts None after_beginning still_left ended before after text
+  pub writes : WritesPackets reader last parts None after_beginning still_left ended (file_started before) after text
 
 -- The report of a capture: the counts after it, the reader after its packets, and its text. If the beginning of the capture is refused or
 -- can't be read, nothing is counted, there is no reader, and the text is empty.
@@ -98,17 +101,18 @@ has_headings lines.None count = false
 abbrev pub empty_line : Lines → ℕ → SummaryTables → List ℕ
 empty_line lines count tables = if has_packet_line lines tables || has_headings lines count then codes "\n" else []
 
--- The summary as text: the empty line, the facts about the capture if only one was read, and the tables. `count` is the number of named
--- captures.
-abbrev pub text_of_summary : Parts → ℕ → Option CaptureReader → SummaryTables → List ℕ
-text_of_summary parts count capture tables =
-    empty_line parts.lines count tables ++ (facts_text capture ++ summary_text parts.top tables)
+-- The summary as text: the empty line, the facts about the capture if only one was read, the tables, and the table of files. `count` is
+-- the number of named captures.
+abbrev pub text_of_summary : Parts → ℕ → Option CaptureReader → Files → SummaryTables → List ℕ
+text_of_summary parts count capture files tables =
+    empty_line parts.lines count tables ++ (facts_text capture ++ (summary_text parts.top tables ++ files_table files))
 
 -- the summary in the requested format: as text, or as a JSON object
-abbrev pub summary_in : Format → Parts → ℕ → Option CaptureReader → SummaryTables → List ℕ
-summary_in formats.Text parts count capture tables = text_of_summary parts count capture tables
-summary_in formats.Json parts count capture tables = json_summary capture parts.top tables
+abbrev pub summary_in : Format → Parts → ℕ → Option CaptureReader → Files → SummaryTables → List ℕ
+summary_in formats.Text parts count capture files tables = text_of_summary parts count capture files tables
+summary_in formats.Json parts count capture files tables = json_summary capture files parts.top tables
 
 -- the end of a report: the summary in the requested format; the text is empty if no summary is requested
-abbrev pub end_text : Parts → ℕ → Option CaptureReader → SummaryTables → List ℕ
-end_text parts count capture tables = if parts.summary then summary_in parts.format parts count capture tables else []
+abbrev pub end_text : Parts → ℕ → Option CaptureReader → Files → SummaryTables → List ℕ
+end_text parts count capture files tables =
+    if parts.summary then summary_in parts.format parts count capture files tables else []

@@ -5,6 +5,7 @@ ghost use Rattle.capture_request.specs.Limits.{is_full, limited};
 ghost use Rattle.capture_request.specs.Lines.{HasNoLine, IfNoLine, has_line};
 ghost use Rattle.capture_request.specs.Report.{CountsChosen, CountsRead, CountsPacket, IsReadAs, IsTooLong, captured_info, too_long_info};
 ghost use Rattle.capture_run.specs.ReportText.{IsLineIn, IsTextOf, IsTextOfChosen, IsTextOfOne};
+ghost use Rattle.capture_summary.specs.SummaryTables.{file_started};
 ghost use Rattle.capture_words.specs.Written.{AppendsOne};
 ghost use Rattle.capture_request.specs.declared.parts.Lines.TheVariants as Lines;
 
@@ -45,11 +46,13 @@ impl PacketReport {
         }
     }
 
-    /// Begins a new capture. Times since the first packet are counted from the first packet of this capture that has a time.
+    /// Begins a new capture. Times since the first packet are counted from the first packet of this capture that has a time. `file` of the
+    /// counts counts only the packets of this capture.
     pub fn start_capture(&mut self)
-        ensures { self.new ≡ record self.old { first = None } }
+        ensures { self.new ≡ record self.old { first = None; summary = file_started self.old.summary } }
     {
         self.first = None;
+        self.summary.start_file();
     }
 
     /// Returns the counts so far.

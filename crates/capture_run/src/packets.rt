@@ -34,12 +34,12 @@ pub(crate) fn report_packets<R: Read, W: Write>(
         → IfOk result (λ ended. IsWithin packets.old.parts.limit (limited packets.old.parts.lines packets.new.summary)) }
     ensures silent { packets.old.parts.lines ≡ Lines.None → output.new ≡ output.old }
 {
-    packets.start_capture();
     *capture = None;
     let mut reader = match read_header(input, buffer) {
         Ok(reader) => reader,
         Err(error) => return Ok(Err(error)),
     };
+    packets.start_capture();
     let ended = report_each_packet(packets, &mut reader, input, buffer, output)?;
     *capture = Some(reader);
     Ok(ended)

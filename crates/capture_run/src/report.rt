@@ -4,7 +4,7 @@ ghost use Rattle.std.specs.Prelude.{◌≡◌, IfErr, IfOk, IsNone, OnErr, OnOk,
 ghost use Rattle.std.specs.Io.KnownBytes.{Appends};
 ghost use Rattle.std.specs.Option.{option_map};
 ghost use Rattle.capture_run.specs.Captures as specs;
-ghost use Rattle.capture_run.specs.Captures.{Gives, IsRun, ReportsEach, ReportsHeaded, ReportsNamed, TellsFirst, WritesReport, WritesRun, at_start, heading_in, heading_of, progress_of, text_heading};
+ghost use Rattle.capture_run.specs.Captures.{Gives, IsRun, ReportsEach, ReportsHeaded, ReportsNamed, TellsFirst, WritesReport, WritesRun, at_start, heading_in, heading_of, progress_of, row_name, text_heading};
 ghost use Rattle.capture_request.specs.ErrorLines.{line_name};
 ghost use Rattle.capture_request.specs.Names.{shown_name};
 
@@ -61,21 +61,21 @@ pub fn run<O: Open, W: Write, E: Write>(
 }
 
 /// Reports the captures with these names. If there is no name, it reports standard input.
-fn report_captures<O: Open, W: Write, E: Write>(
-    sources: &Sources<'_, O>,
-    reports: CaptureReports,
+fn report_captures<'a, O: Open, W: Write, E: Write>(
+    sources: &Sources<'a, O>,
+    reports: CaptureReports<'a>,
     buffer: &mut [u8; MAX_PACKET_LEN],
     outputs: &mut Outputs<W, E>,
-) -> Result<CaptureReports, WriteError>
+) -> Result<CaptureReports<'a>, WriteError>
     ensures report { IfOk result (λ after. WritesReport (W.contents outputs.old.report) (W.contents outputs.new.report)
         (E.contents outputs.old.errors) (E.contents outputs.new.errors) (IsNone after.unwritten)
-        (ReportsEach (Gives (O.misses sources.now.opener.now) (O.opens sources.now.opener.now) O.Input.remaining) reports.parts
-        (length sources.now.names.now) 0 (specs.captures_of (map (λ name. name.now) sources.now.names.now)) (progress_of reports) (progress_of after))) }
-    ensures told { IfOk result (λ after. IsNone after.unwritten → IsNone reports.unwritten) }
-    ensures errors { IfErr result (λ error. TellsFirst (Gives (O.misses sources.now.opener.now) (O.opens sources.now.opener.now) O.Input.remaining) reports.parts
-        (length sources.now.names.now) (specs.captures_of (map (λ name. name.now) sources.now.names.now)) (progress_of reports)
+        (ReportsEach (Gives (O.misses sources.now.opener.now) (O.opens sources.now.opener.now) O.Input.remaining) reports.entry.parts
+        (length sources.now.names.now) 0 (specs.captures_of (map (λ name. name.now) sources.now.names.now)) (progress_of reports.entry) (progress_of after))) }
+    ensures told { IfOk result (λ after. IsNone after.unwritten → IsNone reports.entry.unwritten) }
+    ensures errors { IfErr result (λ error. TellsFirst (Gives (O.misses sources.now.opener.now) (O.opens sources.now.opener.now) O.Input.remaining) reports.entry.parts
+        (length sources.now.names.now) (specs.captures_of (map (λ name. name.now) sources.now.names.now)) (progress_of reports.entry)
         (E.contents outputs.old.errors) (E.contents outputs.new.errors)) }
-    ensures parts { IfOk result (λ after. after.parts ≡ reports.parts) }
+    ensures parts { IfOk result (λ after. after.parts ≡ reports.entry.parts) }
 {
     if sources.names.is_empty() {
         let input = NamedCapture {
@@ -90,21 +90,21 @@ fn report_captures<O: Open, W: Write, E: Write>(
 }
 
 /// Reports each of these captures, in their order.
-fn report_each_capture<O: Open, W: Write, E: Write>(
-    sources: &Sources<'_, O>,
-    reports: CaptureReports,
+fn report_each_capture<'a, O: Open, W: Write, E: Write>(
+    sources: &Sources<'a, O>,
+    reports: CaptureReports<'a>,
     buffer: &mut [u8; MAX_PACKET_LEN],
     outputs: &mut Outputs<W, E>,
-) -> Result<CaptureReports, WriteError>
+) -> Result<CaptureReports<'a>, WriteError>
     ensures report { IfOk result (λ after. WritesReport (W.contents outputs.old.report) (W.contents outputs.new.report)
         (E.contents outputs.old.errors) (E.contents outputs.new.errors) (IsNone after.unwritten)
-        (ReportsEach (Gives (O.misses sources.now.opener.now) (O.opens sources.now.opener.now) O.Input.remaining) reports.parts
-        (length sources.now.names.now) 0 (map (λ name. name.now) sources.now.names.now) (progress_of reports) (progress_of after))) }
-    ensures told { IfOk result (λ after. IsNone after.unwritten → IsNone reports.unwritten) }
-    ensures errors { IfErr result (λ error. TellsFirst (Gives (O.misses sources.now.opener.now) (O.opens sources.now.opener.now) O.Input.remaining) reports.parts
-        (length sources.now.names.now) (map (λ name. name.now) sources.now.names.now) (progress_of reports)
+        (ReportsEach (Gives (O.misses sources.now.opener.now) (O.opens sources.now.opener.now) O.Input.remaining) reports.entry.parts
+        (length sources.now.names.now) 0 (map (λ name. name.now) sources.now.names.now) (progress_of reports.entry) (progress_of after))) }
+    ensures told { IfOk result (λ after. IsNone after.unwritten → IsNone reports.entry.unwritten) }
+    ensures errors { IfErr result (λ error. TellsFirst (Gives (O.misses sources.now.opener.now) (O.opens sources.now.opener.now) O.Input.remaining) reports.entry.parts
+        (length sources.now.names.now) (map (λ name. name.now) sources.now.names.now) (progress_of reports.entry)
         (E.contents outputs.old.errors) (E.contents outputs.new.errors)) }
-    ensures parts { IfOk result (λ after. after.parts ≡ reports.parts) }
+    ensures parts { IfOk result (λ after. after.parts ≡ reports.entry.parts) }
 {
     let mut reports = reports;
     for (place, name) in sources.names.iter().enumerate() {
@@ -120,20 +120,20 @@ fn report_each_capture<O: Open, W: Write, E: Write>(
 
 /// Reports a capture. A heading precedes its packets if several captures are named and packets may have lines. The capture is skipped if
 /// the requested number was already reached.
-fn report_headed<O: Open, W: Write, E: Write>(
-    capture: &NamedCapture<'_>,
+fn report_headed<'a, O: Open, W: Write, E: Write>(
+    capture: &NamedCapture<'a>,
     opener: &O,
-    reports: CaptureReports,
+    reports: CaptureReports<'a>,
     buffer: &mut [u8; MAX_PACKET_LEN],
     outputs: &mut Outputs<W, E>,
-) -> Result<CaptureReports, WriteError>
+) -> Result<CaptureReports<'a>, WriteError>
     ensures report { IfOk result (λ after. WritesReport (W.contents outputs.old.report) (W.contents outputs.new.report)
         (E.contents outputs.old.errors) (E.contents outputs.new.errors) (IsNone after.unwritten)
-        (ReportsHeaded (Gives (O.misses opener.now) (O.opens opener.now) O.Input.remaining) reports.parts capture.now.count capture.now.place
-        capture.now.name.now (progress_of reports) (progress_of after))) }
-    ensures told { IfOk result (λ after. IsNone after.unwritten → IsNone reports.unwritten) }
+        (ReportsHeaded (Gives (O.misses opener.now) (O.opens opener.now) O.Input.remaining) reports.entry.parts capture.now.count capture.now.place
+        capture.now.name.now (progress_of reports.entry) (progress_of after))) }
+    ensures told { IfOk result (λ after. IsNone after.unwritten → IsNone reports.entry.unwritten) }
     ensures errors { OnErr result (outputs.new.errors ≡ outputs.old.errors) }
-    ensures parts { IfOk result (λ after. after.parts ≡ reports.parts) }
+    ensures parts { IfOk result (λ after. after.parts ≡ reports.entry.parts) }
 {
     if reports.is_full() {
         return Ok(reports);
@@ -153,21 +153,32 @@ fn line_name<'a>(count: usize, name: &'a str) -> Option<&'a str>
     Some(name)
 }
 
+/// Returns the name in the row of the capture. The result is `None` if at most one capture is named.
+fn row_name<'a>(count: usize, name: &'a str) -> Option<&'a str>
+    ensures { option_map (λ text. text.now) result ≡ row_name count name.now }
+{
+    if count > 1 {
+        return Some(without_mark(name));
+    }
+    None
+}
+
 /// Reports a capture without its heading, and writes the line of its error if there is an error.
-fn report_capture<O: Open, W: Write, E: Write>(
-    capture: &NamedCapture<'_>,
+fn report_capture<'a, O: Open, W: Write, E: Write>(
+    capture: &NamedCapture<'a>,
     opener: &O,
-    reports: CaptureReports,
+    reports: CaptureReports<'a>,
     buffer: &mut [u8; MAX_PACKET_LEN],
     outputs: &mut Outputs<W, E>,
-) -> Result<CaptureReports, WriteError>
+) -> Result<CaptureReports<'a>, WriteError>
     ensures report { IfOk result (λ after. WritesReport (W.contents outputs.old.report) (W.contents outputs.new.report)
         (E.contents outputs.old.errors) (E.contents outputs.new.errors) (IsNone after.unwritten)
-        (ReportsNamed (Gives (O.misses opener.now) (O.opens opener.now) O.Input.remaining) reports.parts
-        (line_name capture.now.count capture.now.name.now) capture.now.name.now (progress_of reports) (progress_of after))) }
-    ensures told { IfOk result (λ after. IsNone after.unwritten → IsNone reports.unwritten) }
+        (ReportsNamed (Gives (O.misses opener.now) (O.opens opener.now) O.Input.remaining) reports.entry.parts
+        (line_name capture.now.count capture.now.name.now) (row_name capture.now.count capture.now.name.now) capture.now.name.now
+        (progress_of reports.entry) (progress_of after))) }
+    ensures told { IfOk result (λ after. IsNone after.unwritten → IsNone reports.entry.unwritten) }
     ensures errors { OnErr result (outputs.new.errors ≡ outputs.old.errors) }
-    ensures parts { IfOk result (λ after. after.parts ≡ reports.parts) }
+    ensures parts { IfOk result (λ after. after.parts ≡ reports.entry.parts) }
 {
     let (name, alloc) = (capture.name, outputs.alloc);
     let mut input = match opener.open(name) {
@@ -177,7 +188,8 @@ fn report_capture<O: Open, W: Write, E: Write>(
             return Ok(reports.add_unopened().after_line(written));
         }
     };
-    let (reports, ended) = reports.add(&mut input, buffer, alloc, &mut outputs.report)?;
+    let row = row_name(capture.count, name);
+    let (reports, ended) = reports.add(row, &mut input, buffer, alloc, &mut outputs.report)?;
     let shown = line_name(capture.count, name);
     let written = write_end(&mut outputs.errors, alloc, shown, &ended);
     Ok(reports.after_line(written))

@@ -18,14 +18,16 @@ use Rattle.capture_summary.specs.FlowOf.{IsFlowOf}
 use Rattle.capture_summary.specs.Networks.{IsIpv4In, ReadsNetwork}
 use Rattle.capture_summary.specs.Ranking.{by_packets}
 use Rattle.capture_summary.specs.Rates.{average_len, rates_of}
+use Rattle.capture_summary.specs.Files.{Files, file_counted, no_file_packets, with_file}
 use Rattle.capture_summary.specs.SummaryTables.{CountsOne, SummaryTables, empty_tables}
+use Rattle.capture_summary.specs.declared.file_count.FileCount.{FileCount}
 use Rattle.capture_summary.specs.Tables.{no_packets}
 use Rattle.capture_summary.specs.declared.capture_info.CaptureInfo.{CaptureInfo}
 use Rattle.capture_summary.specs.declared.count.Count.{Count}
 use Rattle.capture_summary.specs.declared.flow.Flow.{Flow}
 use Rattle.capture_summary.specs.declared.flow.FlowProtocol.TheVariants.{Udp}
 use Rattle.capture_summary.specs.declared.network.Network.{Network}
-use Rattle.capture_summary.specs.declared.verdict_kind.VerdictKind.TheVariants.{Right}
+use Rattle.capture_summary.specs.declared.verdict_kind.VerdictKind.TheVariants.{Refused, Right, Wrong}
 
 -- ---- flows
 
@@ -92,6 +94,7 @@ one_packet = record {
     without_ports = no_packets;
     without_room = no_packets;
   };
+  file = record { all = count 1 1000; wrong = 0; refused = 0 };
 }
 
 counts_one : CountsOne empty_tables protocols.Udp Right None (Some request) info one_packet
@@ -104,7 +107,28 @@ counts_one = record {
   links = refl;
   refusals = refl;
   flows = refl;
+  file = refl;
 }
+
+-- ---- files
+
+-- three packets of 98 bytes: one with a wrong checksum, one that is refused, and one that is right
+abbrev three : FileCount
+three = file_counted Right 28 (file_counted Refused 30 (file_counted Wrong 40 no_file_packets))
+
+count_of_three : three ≡ record { all = count 3 98; wrong = 1; refused = 1 }
+count_of_three = refl
+
+-- a table of empty captures
+abbrev empty_files : ℕ → Files
+empty_files rows = record { rows = replicate rows (codes "a.pcap", no_file_packets); other_files = 0; others = no_file_packets }
+
+-- the 64th capture has a row, and the 65th has none
+row_64 : with_file (codes "a.pcap") no_file_packets (empty_files 63) ≡ empty_files 64
+row_64 = refl
+
+no_row_65 : with_file (codes "b.pcap") three (empty_files 64) ≡ record (empty_files 64) { other_files = 1; others = three }
+no_row_65 = refl
 
 -- ---- rankings and rates
 

@@ -1,7 +1,7 @@
 //! Counts of the packets of captures.
 //!
-//! A `Summary` counts each packet by its protocol, its verdict, its link type and its flow. The crates `capture_text` and `capture_json`
-//! write its tables.
+//! A `Summary` counts each packet by its protocol, its verdict, its link type and its flow. A `FileTable` has a row for each of several
+//! captures. The crates `capture_text` and `capture_json` write the tables.
 #![tactic(auto)]
 
 mod busiest;
@@ -11,6 +11,8 @@ mod conversation_count;
 mod count;
 mod endpoint_count;
 mod endpoints;
+mod file_count;
+mod file_table;
 mod flow;
 mod flows;
 #[doc(hidden)]
@@ -35,6 +37,8 @@ pub use choice::{Choice, ChosenProtocol, Hosts, MAX_CHOSEN, PortRange, Ports, Pr
 pub use conversation_count::ConversationCount;
 pub use count::Count;
 pub use endpoint_count::EndpointCount;
+pub use file_count::FileCount;
+pub use file_table::{FileRow, FileTable, MAX_FILES};
 pub use flow::{Flow, FlowProtocol};
 pub use flows::{Flows, MAX_CONVERSATIONS};
 pub use link_kind::LinkKind;

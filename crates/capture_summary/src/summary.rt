@@ -1,5 +1,5 @@
 ghost use Rattle.std.specs.Prelude.{◌≡◌, ◌↔◌, ◌<◌, ◌-◌, ◌^◌, ◌+◌, map, slice_index, slice_index_or, IsSome, OnOk, OnErr};
-ghost use Rattle.capture_summary.specs.SummaryTables.{CountsOne, IsBalanced, empty_tables, has_fault};
+ghost use Rattle.capture_summary.specs.SummaryTables.{CountsOne, IsBalanced, empty_tables, file_started, has_fault};
 ghost use Rattle.capture_summary.specs.Kinds.{link_place, link_rows, protocol_rows, refusal_place, refusal_rows, verdict_place, verdict_rows};
 ghost use Rattle.capture_summary.specs.Protocols.{protocol_place};
 ghost use Rattle.capture_summary.specs.Ranking.{IsRankingOf, by_packets, has_more_packets};
@@ -8,8 +8,8 @@ ghost use Rattle.capture_summary.specs.Tables.{no_packets};
 ghost use Rattle.capture_summary.specs.declared.verdict_kind.VerdictKind.TheVariants.{Refused};
 
 use crate::{
-    CaptureInfo, Count, Flow, Flows, LinkKind, Protocol, RefusalKind, TimeSpan, VerdictKind,
-    protocol_rows,
+    CaptureInfo, Count, FileCount, Flow, Flows, LinkKind, Protocol, RefusalKind, TimeSpan,
+    VerdictKind, protocol_rows,
 };
 use arrayvec::ArrayVec;
 use std::alloc::{AllocError, Global};
@@ -19,7 +19,7 @@ use std::marker::Model;
 /// The counts of the packets of captures.
 ///
 /// Each packet is counted once by its protocol, once by its verdict, once by its link type, and once by its flow. A refused packet is also
-/// counted by the kind of its refusal.
+/// counted by the kind of its refusal. The packets of the capture that is being read are also counted on their own.
 #[derive(Drop)]
 pub struct Summary {
     bytes: u64,
@@ -29,6 +29,7 @@ pub struct Summary {
     links: [u64; LinkKind::COUNT],
     refusals: [u64; RefusalKind::COUNT],
     flows: Flows,
+    file: FileCount,
 }
 
 impl Model for Summary {
@@ -46,6 +47,7 @@ impl Model for Summary {
       links = summary.links;
       refusals = summary.refusals;
       flows = summary.flows;
+      file = summary.file;
     } };
 
     ghost invariant = { λ summary. IsBalanced record {
@@ -57,6 +59,7 @@ impl Model for Summary {
       links = summary.links;
       refusals = summary.refusals;
       flows = summary.flows;
+      file = summary.file;
     } };
 }
 
@@ -74,7 +77,15 @@ impl Summary {
             links: [0; LinkKind::COUNT],
             refusals: [0; RefusalKind::COUNT],
             flows: Flows::new(alloc, state),
+            file: FileCount::NONE,
         }
+    }
+
+    /// Begins another capture: `file` counts only the packets after this call.
+    pub fn start_file(&mut self)
+        ensures { self.new ≡ file_started self.old }
+    {
+        self.file = FileCount::NONE;
     }
 
     /// Counts a packet of these kinds. `flow` is its flow, or `None` if it has no ports or an unknown final destination. `info` is what the
@@ -104,6 +115,7 @@ impl Summary {
         self.span = TimeSpan::with_time(self.span, info.time);
         self.protocols[protocol.place()].add(len);
         self.verdicts[verdict.place()] += 1;
+        self.file.add(verdict, len);
         self.links[LinkKind::of(info.link_type).place()] += 1;
         if let Some(refusal) = refusal {
             self.refusals[refusal.place()] += 1;
@@ -124,6 +136,13 @@ impl Summary {
         ensures { result ≡ self.now.bytes }
     {
         self.bytes
+    }
+
+    /// The packets that were counted since the last call of `start_file`.
+    pub fn file(&self) -> FileCount
+        ensures { result ≡ self.now.file }
+    {
+        self.file
     }
 
     /// The average number of bytes of a counted packet, rounded down, or `None` if no packet is counted.

@@ -18,6 +18,7 @@ use Rattle.capture_packet.specs.declared.transport.Transport.TheVariants.{Ports,
 use Rattle.capture_packet.specs.declared.verdict.Verdict.TheVariants.{Checksum}
 use Rattle.capture_summary.proofs.SummaryExamples.{count, request}
 use Rattle.capture_summary.specs.SummaryTables.{SummaryTables}
+use Rattle.capture_text.specs.FilesText.{files_head, others_row}
 use Rattle.capture_summary.specs.Tables.{no_packets}
 use Rattle.capture_summary.specs.declared.capture_info.FrameLen.{FrameLen}
 use Rattle.capture_words.proofs.TimeExamples.{time}
@@ -99,6 +100,7 @@ five_packets = record {
     without_ports = count 3 268;
     without_room = no_packets;
   };
+  file = record { all = count 2 268; wrong = 1; refused = 1 };
 }
 
 -- the text of a test of `capture_text`, without the lines about times
@@ -129,3 +131,13 @@ times_of_one : times_cells (count 1 60) (Some (record { earliest = time 16000000
     ≡ codes " " ++ (absolute_text (time 1600000000 5) ++ codes " 00:00:00.000000")
 unfolding char_count digits encode_utf8 padded padded_integral take_chars
 times_of_one = refl
+
+-- the head of the table of files, and the row of three captures that have no row of their own
+head_of_files : files_head ≡ codes "\n    packets             bytes       wrong     refused files\n"
+unfolding char_count digits encode_utf8 padded padded_integral take_chars
+head_of_files = refl
+
+row_of_others : others_row 3 (record { all = count 4 120; wrong = 2; refused = 1 })
+    ≡ codes "          4               120           2           1 other captures: 3\n"
+unfolding char_count digits encode_utf8 padded padded_integral take_chars
+row_of_others = refl

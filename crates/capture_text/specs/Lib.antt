@@ -1,6 +1,7 @@
 pub mod AddressText
 pub mod ArpText
 pub mod CommentsText
+pub mod FilesText
 pub mod InterfaceText
 pub mod PacketLine
 pub mod SummaryText

@@ -9,6 +9,7 @@ mod addresses;
 mod arp;
 mod comments;
 mod endpoints;
+mod files;
 mod fragment;
 mod interface;
 #[doc(hidden)]
@@ -19,5 +20,6 @@ mod totals;
 mod verdict;
 
 pub use endpoints::write_endpoints;
+pub use files::write_files;
 pub use packet_line::write_packet_line;
 pub use tables::{write_conversations, write_summary};

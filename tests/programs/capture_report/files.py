@@ -84,6 +84,7 @@ def check_files(tally):
             tally.expect(f"{name} in JSON", [file for file in files if file], ["right.pcap", shown if error else name])
         check_filters(tally, run_in, right, its_lines[1], kept)
         check_headings(tally, run_in)
+        check_rows(tally, run_in, kept)
         check_count(tally, run_in, its_lines[0].splitlines(), its_lines[1].splitlines())
         check_wrong_count(tally, run_in)
     terminal, its_end = pty.openpty()
@@ -129,6 +130,47 @@ def check_filters(tally, run_in, right, its_lines, kept):
         tally.expect("a named pipe with the name of a filter", (process.stdout.read().decode(), process.wait(20)), (its_lines, 0))
 
 
+def row_of(run_in, name, *arguments):
+    """The row of a capture in the table of files, as in JSON. Its numbers are those of the summary of only this capture."""
+    alone = json.loads(lines_of(run_in("--json", "--summary", *arguments, name).stdout)[-1])
+    return {"file": name, "packets": alone["packets"], "bytes": alone["bytes"], **{kind: alone["checksums"][kind] for kind in ("wrong", "refused")}}
+
+
+def files_table(rows, *others):
+    """The table of files as text, from its rows as in JSON."""
+    lines = [("packets", "bytes", "wrong", "refused", "files"), *(tuple(row.values())[1:] + (row["file"],) for row in rows), *others]
+    return "\n" + "".join(f"{packets:>11} {size:>17} {wrong:>11} {refused:>11} {name}\n" for packets, size, wrong, refused, name in lines)
+
+
+def check_rows(tally, run_in, kept):
+    """Each of several captures has a row, which counts what its own summary counts. Those after the first 64 are counted together."""
+    names = ["all.pcap", "cut.pcap", "text", "right.pcap", "none.pcap", "all_cut.pcap", "all.pcap"]
+    for arguments in ((), ("--wrong",), ("--port", "53"), ("--protocol", "tcp"), ("--tunnels",)):
+        rows = [row_of(run_in, name, *(argument for argument in arguments if argument != "--wrong")) for name in names if name not in ("text", "none.pcap")]
+        done = run_in(*arguments, *names)
+        tally.expect(f"rows of files with {arguments}", done.stdout.decode().endswith(files_table(rows)), True)
+        summary = json.loads(lines_of(run_in("--json", *arguments, *names).stdout)[-1])
+        tally.expect(f"rows of files in JSON with {arguments}", (summary["files"], "other_files" in summary), (rows, False))
+        tally.expect(f"sum of rows with {arguments}", [sum(row[kind] for row in rows) for kind in ("packets", "bytes", "wrong", "refused")],
+                     [summary["packets"], summary["bytes"], summary["checksums"]["wrong"], summary["checksums"]["refused"]])
+    for names in ((), ("right.pcap",), ("-",)):
+        done = run_in("--json", *names, data=(pathlib.Path(run_in.room) / "right.pcap").read_bytes())
+        tally.expect(f"no rows of {names}", "files" in json.loads(lines_of(done.stdout)[-1]), False)
+    rows = [row_of(run_in, "right.pcap")]
+    for arguments, read in ((("-c", "2"), 1), (("-c", "3"), 2)):
+        found = json.loads(lines_of(run_in("--json", *arguments, "right.pcap", "right.pcap").stdout)[-1])["files"]
+        tally.expect(f"rows with {arguments}", [row["packets"] for row in found], [2, 1][:read])
+    others = {kind: 3 * rows[0][kind] for kind in ("packets", "bytes", "wrong", "refused")}
+    done = run_in("--summary", *["right.pcap"] * 67)
+    tally.expect("rows of 67 files", done.stdout.decode().endswith(files_table(rows * 64, (*others.values(), "other captures: 3"))), True)
+    summary = json.loads(lines_of(run_in("--summary", "--json", *["right.pcap"] * 67).stdout)[-1])
+    tally.expect("rows of 67 files in JSON", (summary["files"], summary["other_files"]), (rows * 64, {"files": 3, **others}))
+    kept("a\n\x9b\u00fc.pcap", (pathlib.Path(run_in.room) / "right.pcap").read_bytes())
+    done = run_in("--summary", "a\n\x9b\u00fc.pcap", "right.pcap")
+    shown = "a\\x0A\\x9B\u00fc.pcap"
+    tally.expect("the name in a row", done.stdout.decode().endswith(files_table([{**rows[0], "file": shown}, *rows])), True)
+
+
 def check_headings(tally, run_in):
     """An empty line separates the headings from the summary, also if only one capture can be read and no packet has a line."""
     summary = without_facts(run_in("--summary", "right.pcap"))
@@ -138,7 +180,7 @@ def check_headings(tally, run_in):
             wanted = "\n\n".join(f"==> {name} <==" for name in names) + "\n\n"
             tally.expect(f"{arguments} of {names}", (done.returncode, done.stdout.decode().startswith(f"{wanted}file type classic, ")), (3, True))
     done = run_in("--wrong", "right.pcap", "none.pcap")
-    tally.expect("the summary of one of two captures", without_facts(done).endswith(f"==> none.pcap <==\n\n{summary}"), True)
+    tally.expect("the summary of one of two captures", without_facts(done).split(f"==> none.pcap <==\n\n{summary}")[1:], [files_table([row_of(run_in, "right.pcap")])])
     done = run_in("--wrong", "right.pcap")
     tally.expect("no empty line without headings", done.stdout.decode().startswith("file type classic, "), True)
 

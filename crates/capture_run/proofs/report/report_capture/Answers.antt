@@ -20,7 +20,7 @@ returns-in-Err-clause-report g c =
 pub returns-clause-report : goal.returns-clause-report
 returns-clause-report g c =
     let added = c.in_ok-reports in
-    let (reader, capture, (text, is_report, wrote)) = added.ensures.report in
+    let (reader, capture, files, (text, is_report, wrote)) = added.ensures.report in
     let (lines, are_lines, tells) = rw c.line_name-shown.ensures at c.write_end-written.ensures in
     record {
       text = text;
@@ -34,6 +34,7 @@ returns-clause-report g c =
           reader = reader;
           is_report = is_report;
           capture = capture;
+          files = rw c.row_name-row.ensures at files;
           are_lines = are_lines;
           status = added.ensures.status;
           empty = added.ensures.empty;

@@ -8,7 +8,7 @@ pub returns-in-None-clause-report : goal.returns-in-None-clause-report
 returns-in-None-clause-report g c =
     run_result _ c.args.parts c.args.sources.now.names.now (λ name. name.now) c.new-reports.result c.in_ok-reports.reports _ _ _ _ _ _
     c.new-reports.ensures.parts c.new-reports.ensures.summary c.new-reports.ensures.status c.new-reports.ensures.empty
-    c.new-reports.ensures.capture
+    c.new-reports.ensures.capture c.new-reports.ensures.files
     c.in_ok-reports.ensures.parts (sym c.into_unwritten.ensures ∙ c.in-None.is) c.in_ok-reports.ensures.report c.in_ok-status.ensures.text
     c.in_ok-status.ensures.status
 
@@ -17,7 +17,7 @@ pub returns-in-Some-clause-errors : goal.returns-in-Some-clause-errors
 returns-in-Some-clause-errors g c =
     run_failed _ c.args.parts c.args.sources.now.names.now (λ name. name.now) c.new-reports.result _ _
     c.new-reports.ensures.parts c.new-reports.ensures.summary c.new-reports.ensures.status c.new-reports.ensures.empty
-    c.new-reports.ensures.capture
+    c.new-reports.ensures.capture c.new-reports.ensures.files
     (tells_all _ _ _ _ _ _ _ _ _ _ _ c.in_ok-reports.ensures.report)
 
 -- the summary was not written
@@ -26,5 +26,5 @@ returns-in_err-status-clause-errors g c =
     at_error _
     (run_failed _ c.args.parts c.args.sources.now.names.now (λ name. name.now) c.new-reports.result _ _
     c.new-reports.ensures.parts c.new-reports.ensures.summary c.new-reports.ensures.status c.new-reports.ensures.empty
-    c.new-reports.ensures.capture
+    c.new-reports.ensures.capture c.new-reports.ensures.files
     (tells_all _ _ _ _ _ _ _ _ _ _ _ c.in_ok-reports.ensures.report))

@@ -5,6 +5,7 @@ pub returns-clause-report : goal.returns-clause-report
 returns-clause-report g c = (
   c.report_packets.new.capture,
   c.only_capture.ensures,
+  rw c.file.ensures at c.files_after.ensures,
   rw c.into_summary.ensures (rw (c.new-packets.ensures.parts, c.new-packets.ensures.summary) at c.in_ok-ended.ensures.report),
 )
 

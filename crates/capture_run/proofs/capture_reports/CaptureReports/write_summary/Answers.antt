@@ -6,4 +6,4 @@ returns-in-Text g c = λ conversations endpoints. rw c.in-Text.is (rw (conversat
 
 -- the summary as JSON
 pub returns-in-Json : goal.returns-in-Json
-returns-in-Json g c = λ conversations endpoints. rw c.in-Json.is (rw (conversations, endpoints) at c.write_summary.ensures)
+returns-in-Json g c = λ conversations endpoints. rw c.in-Json.is (rw (conversations, endpoints) at c.write_json_summary.ensures)

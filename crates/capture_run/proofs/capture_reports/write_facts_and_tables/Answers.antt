@@ -1,6 +1,0 @@
-use Rattle.capture_words.proofs.WrittenLemmas.{written_then}
-use Rattle.capture_run.proofs.capture_reports.write_facts_and_tables.Goals as goal
-
--- the tables follow the facts of the capture
-pub returns : goal.returns
-returns g c = written_then _ _ _ _ _ _ c.in_ok-write_facts.ensures c.write_summary.ensures
