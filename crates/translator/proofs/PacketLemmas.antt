@@ -7,7 +7,7 @@ use Rattle.std.proofs.lemmas.Slice.Eq.{slice_eq-Decides}
 use Rattle.std.specs.Prelude.{◌==◌, ◌&&◌, is_none, not, if◌then◌else◌}
 use Rattle.std.specs.Cmp.Lexicographic.{pointwise}
 use Rattle.std.specs.List.{slice_range}
-use Rattle.std.specs.Option.{option_eq}
+use Rattle.std.specs.Option.{option_eq, option_map}
 use borrow.Rule.Slice.PartMut.{Post-is, put_mid}
 use Rattle.capture_numbers.specs.declared.byte_order.ByteOrder.{ByteOrder}
 use Rattle.capture_numbers.specs.declared.link_type.LinkType.{LinkType}
@@ -180,16 +180,23 @@ ipv6_begins packet accepted is = record { whole = grind (arith, nat_tests); is_v
 other_version : (number expected : ℕ) (is : Bool) → (number == expected) ≡ is → (number ≡ expected → ⊥) → (number == expected) ≡ false
 other_version number expected is computes other = grind (arith, nat_tests)
 
--- an accepted packet that does not begin with a header of the version is not read
+-- an accepted packet that does not begin with a header of the version has another version
+pub other_than_ipv4 : (packet : List ℕ) → lax_refusal packet ≡ None → (BeginsWithIpv4Header packet → ⊥) → (version packet == 4) ≡ false
+other_than_ipv4 packet accepted none =
+    other_version (version packet) 4 _ refl (λ is. none (ipv4_begins packet (header_accepted packet accepted) is))
+
+pub other_than_ipv6 : (packet : List ℕ) → lax_refusal packet ≡ None → (BeginsWithIpv6Header packet → ⊥) → (version packet == 6) ≡ false
+other_than_ipv6 packet accepted none =
+    other_version (version packet) 6 _ refl (λ is. none (ipv6_begins packet (header_accepted packet accepted) is))
+
+-- so it is not read
 pub no_ipv4 : (packet : List ℕ) → lax_refusal packet ≡ None → (BeginsWithIpv4Header packet → ⊥) → is_read 4 packet ≡ false
 no_ipv4 packet accepted none =
-    ap (λ refusal. is_none refusal && version packet == 4) accepted
-    ∙ other_version (version packet) 4 _ refl (λ is. none (ipv4_begins packet (header_accepted packet accepted) is))
+    ap (λ refusal. is_none refusal && version packet == 4) accepted ∙ other_than_ipv4 packet accepted none
 
 pub no_ipv6 : (packet : List ℕ) → lax_refusal packet ≡ None → (BeginsWithIpv6Header packet → ⊥) → is_read 6 packet ≡ false
 no_ipv6 packet accepted none =
-    ap (λ refusal. is_none refusal && version packet == 6) accepted
-    ∙ other_version (version packet) 6 _ refl (λ is. none (ipv6_begins packet (header_accepted packet accepted) is))
+    ap (λ refusal. is_none refusal && version packet == 6) accepted ∙ other_than_ipv6 packet accepted none
 
 -- ---- rules in their order
 
@@ -198,17 +205,32 @@ last_rule : {E : Type 0} → (rule : Option E) → first_of (rule ∷ []) ≡ ru
 last_rule None = refl
 last_rule (Some error) = refl
 
+-- the rules for a packet whose headers have these outcomes
+unknown_rules : (expected : ℕ) (packet : List ℕ) (quoting : Option Reason) (refusal : Option IpError) (is : Bool)
+    → lax_refusal packet ≡ refusal → (version packet == expected) ≡ is
+    → unknown_reason expected packet quoting
+    ≡ first_of (option_map reasons.IpHeaders refusal ∷ refused_if (not is) reasons.OtherVersion ∷ quoting ∷ [])
+unknown_rules expected packet quoting refusal is refusal_is is_version =
+    ap (λ refusal. first_of (option_map reasons.IpHeaders refusal ∷ refused_if (not (version packet == expected)) reasons.OtherVersion
+    ∷ quoting ∷ [])) refusal_is
+    ∙ ap (λ is. first_of (option_map reasons.IpHeaders refusal ∷ refused_if (not is) reasons.OtherVersion ∷ quoting ∷ [])) is_version
+
 -- a packet with refused headers is unknown for this reason
-pub unknown_rejected : (expected : ℕ) (packet : List ℕ) (quoting : Option Reason) → is_read expected packet ≡ false
-    → unknown_reason expected packet quoting ≡ Some reasons.IpHeaders
-unknown_rejected expected packet quoting rejected =
-    ap (λ read. first_of (refused_if (not read) reasons.IpHeaders ∷ quoting ∷ [])) rejected
+pub unknown_rejected : (expected : ℕ) (packet : List ℕ) (quoting : Option Reason) (error : IpError) → lax_refusal packet ≡ Some error
+    → unknown_reason expected packet quoting ≡ Some (reasons.IpHeaders error)
+unknown_rejected expected packet quoting error rejected = unknown_rules expected packet quoting (Some error) _ rejected refl
+
+-- a packet with accepted headers of another version is unknown for this reason
+pub unknown_other : (expected : ℕ) (packet : List ℕ) (quoting : Option Reason) → lax_refusal packet ≡ None
+    → (version packet == expected) ≡ false → unknown_reason expected packet quoting ≡ Some reasons.OtherVersion
+unknown_other expected packet quoting accepted other = unknown_rules expected packet quoting None false accepted other
 
 -- a packet with accepted headers is unknown only by the rules after them
-pub unknown_read : (expected : ℕ) (packet : List ℕ) (quoting : Option Reason) → is_read expected packet ≡ true
+pub unknown_read : (expected : ℕ) (packet : List ℕ) (quoting : Option Reason) → lax_refusal packet ≡ None → version packet ≡ expected
     → unknown_reason expected packet quoting ≡ quoting
-unknown_read expected packet quoting read =
-    ap (λ read. first_of (refused_if (not read) reasons.IpHeaders ∷ quoting ∷ [])) read ∙ last_rule quoting
+unknown_read expected packet quoting accepted is =
+    unknown_rules expected packet quoting None true accepted (ap (λ number. number == expected) is ∙ grind (arith, nat_tests))
+    ∙ last_rule quoting
 
 -- the rules for a quoted packet
 pub quoted_rules : (expected : ℕ) (quoted : List ℕ) (are_same read same : Bool) → is_read expected quoted ≡ read → are_same ≡ same
@@ -377,20 +399,27 @@ other_translates table packet after (Err reason) other translates = (
   translates.1,
 )
 
--- a packet of version 6 that does not begin with an IPv6 header is refused
-unread : (packet : List ℕ) (refusal : Option IpError) (expected : ℕ) → lax_refusal packet ≡ refusal → version packet ≡ 6
-    → (BeginsWithIpv6Header packet → ⊥) → is_read expected packet ≡ false
-unread packet None expected accepted is none = absurd (none (ipv6_begins packet (header_accepted packet accepted) is))
-unread packet (Some error) expected rejected is none = not_read expected packet error rejected
-
--- a packet that is not read has no other reason
-rejected_of : (expected : ℕ) (packet : List ℕ) (quoting : Option Reason) (nothing : Bool) (refusal : Option TranslateError)
-    → is_read expected packet ≡ false → reason_by (unknown_reason expected packet quoting) nothing refusal ≡ Some reasons.IpHeaders
-rejected_of expected packet quoting nothing refusal rejected =
-    ap (λ unknown. reason_by unknown nothing refusal) (unknown_rejected expected packet quoting rejected)
-
 is_number : (number expected : ℕ) → (number == expected) ≡ true → number ≡ expected
 is_number number expected is = grind (arith, nat_tests)
+
+-- a packet of version 6 that does not begin with an IPv6 header is refused
+abbrev IsRefused : List ℕ → Type 0
+IsRefused packet = (error : IpError) × (lax_refusal packet ≡ Some error)
+
+refused_by : (packet : List ℕ) (refusal : Option IpError) → lax_refusal packet ≡ refusal → version packet ≡ 6
+    → (BeginsWithIpv6Header packet → ⊥) → IsRefused packet
+refused_by packet None accepted is none = absurd (none (ipv6_begins packet (header_accepted packet accepted) is))
+refused_by packet (Some error) rejected is none = (error, rejected)
+
+refused_six : (packet : List ℕ) → (version packet == 6) ≡ true → (BeginsWithIpv6Header packet → ⊥) → IsRefused packet
+refused_six packet is none = refused_by packet _ refl (is_number (version packet) 6 is) none
+
+-- a packet that is refused has no other reason
+rejected_of : (expected : ℕ) (packet : List ℕ) (quoting : Option Reason) (nothing : Bool) (refusal : Option TranslateError)
+    → (rejected : IsRefused packet)
+    → reason_by (unknown_reason expected packet quoting) nothing refusal ≡ Some (reasons.IpHeaders rejected.0)
+rejected_of expected packet quoting nothing refusal rejected =
+    ap (λ unknown. reason_by unknown nothing refusal) (unknown_rejected expected packet quoting rejected.0 rejected.1)
 
 some_is_none : {A : Type 0} → (value : A) → Some value ≡ None → ⊥
 some_is_none value clash = cc
@@ -399,15 +428,15 @@ by_version : (table : Table) (packet after : List ℕ) (result : Result Bool Rea
     → (BeginsWithIpv6Header packet → ⊥) → TranslatesIpv4 table packet after result → TranslatesIp table packet after result
 by_version table packet after result false other none translates = other_translates table packet after result other translates
 by_version table packet after (Ok true) true is none translates =
-    absurd (some_is_none reasons.IpHeaders
-    (sym (rejected_of 4 packet _ _ _ (unread packet _ 4 refl (is_number (version packet) 6 is) none)) ∙ translates.0))
+    absurd (some_is_none (reasons.IpHeaders (refused_six packet is none).0)
+    (sym (rejected_of 4 packet _ _ _ (refused_six packet is none)) ∙ translates.0))
 by_version table packet after (Ok false) true is none translates =
-    absurd (some_is_none reasons.IpHeaders
-    (sym (rejected_of 4 packet _ _ _ (unread packet _ 4 refl (is_number (version packet) 6 is) none)) ∙ translates.0))
+    absurd (some_is_none (reasons.IpHeaders (refused_six packet is none).0)
+    (sym (rejected_of 4 packet _ _ _ (refused_six packet is none)) ∙ translates.0))
 by_version table packet after (Err reason) true is none translates = (
   ap (λ six. if six then ipv6_reason table packet else ipv4_reason table packet) is
-      ∙ rejected_of 6 packet _ _ _ (unread packet _ 6 refl (is_number (version packet) 6 is) none)
-      ∙ sym (rejected_of 4 packet _ _ _ (unread packet _ 4 refl (is_number (version packet) 6 is) none)) ∙ translates.0,
+      ∙ rejected_of 6 packet _ _ _ (refused_six packet is none) ∙ sym (rejected_of 4 packet _ _ _ (refused_six packet is none))
+      ∙ translates.0,
   translates.1,
 )
 
@@ -424,11 +453,11 @@ four_translates : (table : Table) (packet after : List ℕ) (result : Result Boo
 four_translates table packet after (Ok applies) false other none translates =
     (applies, ap (λ is_ipv6. done_with is_ipv6 applies) (sym other), other_translates table packet after (Ok applies) other translates)
 four_translates table packet after (Ok true) true is none translates =
-    absurd (some_is_none reasons.IpHeaders
-    (sym (rejected_of 4 packet _ _ _ (unread packet _ 4 refl (is_number (version packet) 6 is) none)) ∙ translates.0))
+    absurd (some_is_none (reasons.IpHeaders (refused_six packet is none).0)
+    (sym (rejected_of 4 packet _ _ _ (refused_six packet is none)) ∙ translates.0))
 four_translates table packet after (Ok false) true is none translates =
-    absurd (some_is_none reasons.IpHeaders
-    (sym (rejected_of 4 packet _ _ _ (unread packet _ 4 refl (is_number (version packet) 6 is) none)) ∙ translates.0))
+    absurd (some_is_none (reasons.IpHeaders (refused_six packet is none).0)
+    (sym (rejected_of 4 packet _ _ _ (refused_six packet is none)) ∙ translates.0))
 four_translates table packet after (Err reason) is at none translates = by_version table packet after (Err reason) is at none translates
 
 -- the law for a packet that does not begin with an IPv6 header

@@ -1,5 +1,5 @@
 -- The end of a run: what is written to standard error, and the exit status.
-use Rattle.std.specs.Prelude.{◌≡◌, ℕ, ◌+◌, ◌++◌, IfErr, IfOk, IsOk, OnOk, List, [], codes, if◌then◌else◌, replicate, Option, Result, Ok, Err}
+use Rattle.std.specs.Prelude.{◌≡◌, ℕ, ◌+◌, ◌++◌, IfErr, IfOk, IsOk, OnOk, List, [], codes, if◌then◌else◌, replicate, Option, None, Result, Ok, Err}
 use Rattle.std.specs.Io.KnownBytes.{Appends, IsAtEnd, Keeps}
 use Rattle.std.specs.declared.io.Error.{Error}
 use Rattle.std.specs.declared.io.ErrorKind.{ErrorKind}
@@ -98,11 +98,19 @@ pub record WritesText (before after : Option (List ℕ)) (IsWhole : Type 0) (IsT
 
 -- the counts before the first packet
 abbrev pub no_counts : Counts
-no_counts = record { translated_ipv4 = 0; translated_ipv6 = 0; unaffected_ipv4 = 0; unaffected_ipv6 = 0; by_reason = replicate 11 0 }
+no_counts = record {
+  translated_ipv4 = 0;
+  translated_ipv6 = 0;
+  unaffected_ipv4 = 0;
+  unaffected_ipv6 = 0;
+  by_reason = replicate 12 0;
+  by_protocol = replicate 256 0;
+  first_refusal = None;
+}
 
 -- The packets of a capture with this name were translated by a table, up to the end of the capture or an error. Then the output was
--- flushed. The beginning
--- of the text for standard error was written, and the whole text if the result is not an error. The result is the exit status, or an error.
+-- flushed. The beginning of the text for standard error was written, and the whole text if the result is not an error. The result is the
+-- exit status, or an error.
 -- If writing the capture failed, the result is the error of that write, and nothing is stated about the output.
 pub record WritesTranslation (table : Table) (name left still_left held now_held told now_told : Option (List ℕ)) (result : Result ℕ Error)
     : Type 0 where

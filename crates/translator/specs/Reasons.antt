@@ -18,10 +18,10 @@ use Rattle.translator.specs.declared.table.Table.{Table}
 
 -- the reason that corresponds to an error of the library
 abbrev pub of_error : TranslateError → Reason
-of_error (errors.Ip error) = reasons.IpHeaders
-of_error errors.OtherVersion = reasons.IpHeaders
+of_error (errors.Ip error) = reasons.IpHeaders error
+of_error errors.OtherVersion = reasons.OtherVersion
 of_error errors.SourceRoute = reasons.SourceRoute
-of_error (errors.Protocol number) = reasons.Protocol
+of_error (errors.Protocol protocol) = reasons.Protocol protocol
 of_error (errors.HeaderCutOff required_len len) = reasons.TransportHeader
 of_error errors.IcmpMessage = reasons.IcmpMessage
 of_error errors.QuotedPacket = reasons.QuotedPacket
@@ -44,11 +44,12 @@ quoted_reason expected quoted are_same = first_of (
     ∷ refused_if (not are_same) reasons.QuotedAddresses
     ∷ [])
 
--- the reason why it is not known what to replace in a packet: its headers are refused or have the other IP version, or the packet that it
--- quotes is the reason
+-- the reason why it is not known what to replace in a packet: its headers are refused with this error of the library, or have the other IP
+-- version, or the packet that it quotes is the reason
 abbrev pub unknown_reason : ℕ → List ℕ → Option Reason → Option Reason
 unknown_reason expected packet quoting = first_of (
-    refused_if (not (is_read expected packet)) reasons.IpHeaders
+    option_map reasons.IpHeaders (lax_refusal packet)
+    ∷ refused_if (not (version packet == expected)) reasons.OtherVersion
     ∷ quoting
     ∷ [])
 

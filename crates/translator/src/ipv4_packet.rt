@@ -32,11 +32,12 @@ fn translation(packet: &[u8], table: &Table) -> Result<Ipv4Translation, Reason>
     ensures given { IfOk result (λ new. new ≡ ipv4_given table.now packet.now) }
     ensures refused { RefusesExactly result (ipv4_unknown_reason table.now packet.now) }
 {
-    let Ok(found) = transport_in_ip_lax(packet) else {
-        return Err(Reason::IpHeaders);
+    let found = match transport_in_ip_lax(packet) {
+        Ok(found) => found,
+        Err(error) => return Err(Reason::IpHeaders(error)),
     };
     let Some(header) = Ipv4HeaderSlice::from_slice(packet) else {
-        return Err(Reason::IpHeaders);
+        return Err(Reason::OtherVersion);
     };
     let new = table.ipv4_translation(&header.to_header(), ports_in(&found));
     match quoted_in(&found) {

@@ -9,10 +9,10 @@ from ..program import run_checks
 from .others import check_against_tcprewrite, check_against_tshark
 from .run import PROGRAM
 from .streams import check_arguments, check_progress, check_streams
-from .translations import check_captures, check_cuts, check_faults, check_long, check_memory
+from .translations import check_captures, check_cuts, check_faults, check_long, check_memory, check_reasons
 
 CHECKS = (
-    check_captures, check_cuts, check_faults, check_long, check_arguments, check_streams, check_progress, check_memory,
+    check_captures, check_cuts, check_faults, check_reasons, check_long, check_arguments, check_streams, check_progress, check_memory,
     check_against_tshark, check_against_tcprewrite)
 
 

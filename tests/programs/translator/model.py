@@ -16,6 +16,9 @@ SKIPPED = (HOP_BY_HOP_OPTIONS, ROUTING, FRAGMENT, DESTINATION_OPTIONS)
 # Protocols and extension headers whose packets are not translated, since they cover or contain addresses.
 COVERED = {4: (33, 51, 58, 112, 136, 139), 6: (0, 1, 33, 43, 44, 51, 60, 89, 103, 112, 135, 136, 139, 140)}
 
+# The extension headers that only IPv6 has.
+ONLY_IPV6 = (0, 43, 44, 60, 135, 140)
+
 
 class Table:
     """The replacements of the arguments of a run."""
@@ -95,7 +98,7 @@ class Packet:
     def __init__(self, data):
         self.data, self.version = data, data[0] >> 4 if data else 0
         if len(data) < {4: 20, 6: 40}.get(self.version, len(data) + 1):
-            raise Refused("the IP headers are rejected or cut off")
+            raise Refused("the IP headers are refused or cut off")
         self.start = (data[0] & 15) * 4 if self.version == 4 else 40
         if self.version == 4:
             self.read_ipv4()
@@ -106,7 +109,7 @@ class Packet:
     def read_ipv4(self):
         header_len, total = self.start, struct.unpack(">H", self.data[2:4])[0]
         if header_len < 20 or header_len > len(self.data) or 0 < total < header_len:
-            raise Refused("the IP headers are rejected or cut off")
+            raise Refused("the IP headers are refused or cut off")
         self.has_source_route = has_source_route(self.data[20:header_len])
         self.protocol, self.addresses = self.data[9], (self.data[12:16], self.data[16:20])
         self.is_later, self.is_part = number_at(self.data, 6) & 0x1FFF > 0, number_at(self.data, 6) & 0x3FFF > 0
@@ -121,7 +124,7 @@ class Packet:
             rest = self.data[self.start:self.end]
             header = rest[:8 if self.protocol == FRAGMENT or len(rest) < 8 else 8 + 8 * rest[1]]
             if len(rest) < 8 or len(header) < 8 or self.protocol != FRAGMENT and len(header) < 8 + 8 * rest[1]:
-                raise Refused("the IP headers are rejected or cut off")
+                raise Refused("the IP headers are refused or cut off")
             if adds_address(self.protocol, header):
                 return
             if self.protocol == FRAGMENT:
@@ -161,7 +164,8 @@ class Packet:
         if self.has_source_route:
             raise Refused("a source route")
         if not self.has_ports() and (new[2:] != (None, None) or self.protocol in COVERED[self.version]):
-            raise Refused("another protocol, or IPv6 extension headers")
+            words = "the IPv6 extension header" if self.protocol in ONLY_IPV6 else "the protocol"
+            raise Refused(f"{words} {self.protocol}")
 
     def refuse_message(self):
         """Raises where its message can't be translated."""

@@ -16,7 +16,8 @@ def counts_of(text):
             counts["IPv4 translated"], counts["IPv6 translated"] = int(words[0]), int(words[3])
             counts["IPv4 without"], counts["IPv6 without"] = int(words[7]), int(words[10])
         elif words[1:3] == ["not", "translated:"]:
-            counts[" ".join(words[3:])] = int(words[0])
+            # `check_reasons` tests the error of the first packet with refused headers.
+            counts[" ".join(words[3:]).partition(", first error: ")[0]] = int(words[0])
     return +counts
 
 

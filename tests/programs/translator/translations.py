@@ -26,6 +26,35 @@ def check_captures(tally):
             tally.expect(f"{name}, {title}: checksums", verdicts(done.stdout), verdicts(data))
 
 
+def check_reasons(tally):
+    """The line of a packet that stays names the protocol or the extension header, or contains the error of the library. Of several packets
+    with refused IP headers, it contains the error of the first one."""
+    short, other, cut = b"\x45" + bytes(12), b"\x50" + bytes(19), build.ipv4(17, b"", words=4)
+    refused = "the IP headers are refused or cut off, first error: IP Error: "
+    rows = [
+        ([build.ipv4(33, bytes(16))], ["1 not translated: the protocol 33"]),
+        ([build.ipv4(47, bytes(16))], []),
+        ([build.ipv4(51, bytes(24)), build.ipv4(112, bytes(16)), build.ipv4(51, bytes(24))],
+         ["2 not translated: the protocol 51", "1 not translated: the protocol 112"]),
+        ([build.ipv4(60, bytes(16))], []),
+        ([build.ipv6(89, bytes(16))], ["1 not translated: the protocol 89"]),
+        ([build.ipv6(135, bytes([59]) + bytes(7))], ["1 not translated: the IPv6 extension header 135"]),
+        ([build.ipv6(140, bytes([59]) + bytes(7))], ["1 not translated: the IPv6 extension header 140"]),
+        # Segments are left in a routing header.
+        ([build.ipv6(43, bytes([59, 0, 0, 1, 0, 0, 0, 0]))], ["1 not translated: the IPv6 extension header 43"]),
+        ([short], [f"1 not translated: {refused}the header has at least 20 bytes, and 13 are there."]),
+        ([other, short], [f"2 not translated: {refused}the version is 5."]),
+        ([cut, other], [f"2 not translated: {refused}the stated header length is 16."]),
+        ([build.ipv6(0, bytes(4))],
+         [f"1 not translated: {refused}the extension header with protocol number 0 at offset 40 has at least 8 bytes, and 4 are left."]),
+    ]
+    for packets, wanted in rows:
+        numbers = [0x86DD if packet[0] >> 4 == 6 else 0x0800 for packet in packets]
+        data = build.capture(build.ETHERNET, [build.frame(build.ETHERNET, packet, number=number) for packet, number in zip(packets, numbers)])
+        done = run(data, *TABLES["both sides"].arguments)
+        tally.expect(f"{wanted}", (done.returncode, done.stderr.decode().splitlines()[1:]), (0, [f"translator: {line}" for line in wanted]))
+
+
 def check_cuts(tally):
     """A capture of each form that ends at each byte: its whole packets are translated, and what is left is written as it is. Nothing is
     written if its header or its first block is cut off."""

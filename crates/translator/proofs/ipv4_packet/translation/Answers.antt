@@ -2,17 +2,16 @@ use Rattle.std.proofs.Common.{◌≡◌, ◌∙◌, ap, IfOk, None, Some, refl, 
 use Rattle.net_base.specs.Refusals.{RefusesExactly}
 use Rattle.translator.specs.Given.{ipv4_by, ipv4_with, quoted_in, quoted_of}
 use Rattle.translator.specs.Reasons.{ipv4_quoting_reason}
-use Rattle.translator.proofs.PacketLemmas.{false_is_true, ipv4_header_kept, ipv4_own_given, is_read_by, no_ipv4, not_read, ports_are, quoted_is, unknown_read, unknown_rejected}
+use Rattle.translator.proofs.PacketLemmas.{false_is_true, ipv4_header_kept, ipv4_own_given, other_than_ipv4, ports_are, quoted_is, unknown_other, unknown_read, unknown_rejected}
 use Rattle.translator.proofs.ipv4_packet.translation.Goals as goal
+
+pub returns-in-Err-clause-refused : goal.returns-in-Err-clause-refused
+returns-in-Err-clause-refused c = unknown_rejected 4 c.args.packet.now _ _ c.in-Err.ensures.refused
 
 pub returns-in_default-clause-refused : goal.returns-in_default-clause-refused
 returns-in_default-clause-refused c =
-    unknown_rejected 4 c.args.packet.now _ (not_read 4 c.args.packet.now _ c.in_default.ensures.refused)
-
-pub returns-in_default-from_slice-clause-refused : goal.returns-in_default-from_slice-clause-refused
-returns-in_default-from_slice-clause-refused c =
-    unknown_rejected 4 c.args.packet.now _ (no_ipv4 c.args.packet.now c.in-Ok.ensures.refused
-    (λ begins. false_is_true (c.in_default-from_slice.ensures.found.1 begins)))
+    unknown_other 4 c.args.packet.now _ c.in-Ok.ensures.refused (other_than_ipv4 c.args.packet.now c.in-Ok.ensures.refused
+    (λ begins. false_is_true (c.in_default.ensures.found.1 begins)))
 
 pub returns-in-Some-quoted_in : goal.returns-in-Some-quoted_in
 returns-in-Some-quoted_in c =
@@ -32,7 +31,7 @@ returns-in-Some-quoted_in c =
           c.quoting_translation.ensures.given;
       refused = subst (RefusesExactly c.quoting_translation.result)
           (ap (λ own. ipv4_quoting_reason table own (Some quoted)) own ∙ ap (ipv4_quoting_reason table (ipv4_by table packet)) quotes_of
-          ∙ sym (unknown_read 4 packet _ (is_read_by 4 packet c.in-Ok.ensures.refused begins.is_version_4)))
+          ∙ sym (unknown_read 4 packet _ c.in-Ok.ensures.refused begins.is_version_4))
           c.quoting_translation.ensures.refused;
     }
 
@@ -50,6 +49,6 @@ returns-in-None c =
     let own = ipv4_own_given table packet _ _ _ header ports c.ipv4_translation-new.ensures in
     record {
       given = own ∙ ap (ipv4_with table packet) none_of;
-      refused = unknown_read 4 packet _ (is_read_by 4 packet c.in-Ok.ensures.refused begins.is_version_4)
+      refused = unknown_read 4 packet _ c.in-Ok.ensures.refused begins.is_version_4
           ∙ sym (ap (ipv4_quoting_reason table (ipv4_by table packet)) none_of);
     }

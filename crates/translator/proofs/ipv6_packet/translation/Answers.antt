@@ -2,17 +2,16 @@ use Rattle.std.proofs.Common.{◌≡◌, ◌∙◌, ap, IfOk, None, Some, refl, 
 use Rattle.net_base.specs.Refusals.{RefusesExactly}
 use Rattle.translator.specs.Given.{ipv6_by, ipv6_with, quoted_in, quoted_of}
 use Rattle.translator.specs.Reasons.{ipv6_quoting_reason}
-use Rattle.translator.proofs.PacketLemmas.{false_is_true, ipv6_header_kept, ipv6_own_given, is_read_by, no_ipv6, not_read, ports_are, quoted_is, unknown_read, unknown_rejected}
+use Rattle.translator.proofs.PacketLemmas.{false_is_true, ipv6_header_kept, ipv6_own_given, other_than_ipv6, ports_are, quoted_is, unknown_other, unknown_read, unknown_rejected}
 use Rattle.translator.proofs.ipv6_packet.translation.Goals as goal
+
+pub returns-in-Err-clause-refused : goal.returns-in-Err-clause-refused
+returns-in-Err-clause-refused c = unknown_rejected 6 c.args.packet.now _ _ c.in-Err.ensures.refused
 
 pub returns-in_default-clause-refused : goal.returns-in_default-clause-refused
 returns-in_default-clause-refused c =
-    unknown_rejected 6 c.args.packet.now _ (not_read 6 c.args.packet.now _ c.in_default.ensures.refused)
-
-pub returns-in_default-from_slice-clause-refused : goal.returns-in_default-from_slice-clause-refused
-returns-in_default-from_slice-clause-refused c =
-    unknown_rejected 6 c.args.packet.now _ (no_ipv6 c.args.packet.now c.in-Ok.ensures.refused
-    (λ begins. false_is_true (c.in_default-from_slice.ensures.found.1 begins)))
+    unknown_other 6 c.args.packet.now _ c.in-Ok.ensures.refused (other_than_ipv6 c.args.packet.now c.in-Ok.ensures.refused
+    (λ begins. false_is_true (c.in_default.ensures.found.1 begins)))
 
 pub returns-in-Some-quoted_in : goal.returns-in-Some-quoted_in
 returns-in-Some-quoted_in c =
@@ -31,7 +30,7 @@ returns-in-Some-quoted_in c =
           c.quoting_translation.ensures.given;
       refused = subst (RefusesExactly c.quoting_translation.result)
           (ap (λ own. ipv6_quoting_reason table own (Some quoted)) own ∙ ap (ipv6_quoting_reason table (ipv6_by table packet)) quotes_of
-          ∙ sym (unknown_read 6 packet _ (is_read_by 6 packet c.in-Ok.ensures.refused begins.is_version_6)))
+          ∙ sym (unknown_read 6 packet _ c.in-Ok.ensures.refused begins.is_version_6))
           c.quoting_translation.ensures.refused;
     }
 
@@ -48,6 +47,6 @@ returns-in-None c =
     let own = ipv6_own_given table packet _ _ _ header ports c.ipv6_translation-new.ensures in
     record {
       given = own ∙ ap (ipv6_with table packet) none_of;
-      refused = unknown_read 6 packet _ (is_read_by 6 packet c.in-Ok.ensures.refused begins.is_version_6)
+      refused = unknown_read 6 packet _ c.in-Ok.ensures.refused begins.is_version_6
           ∙ sym (ap (ipv6_quoting_reason table (ipv6_by table packet)) none_of);
     }
