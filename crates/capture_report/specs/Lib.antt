@@ -1,7 +1,5 @@
 pub mod Failures
 pub mod FilterNames
-pub mod Inputs
-pub mod NewFiles
 pub mod Outputs
-pub mod Progress
+pub mod Reports
 pub mod Tasks

@@ -1,11 +1,11 @@
 //! Filters of tcpdump among the names of captures.
 
-ghost use Rattle.std.specs.Prelude.{is_some, map};
+ghost use Rattle.std.specs.Prelude.{map};
 ghost use Rattle.std.specs.Option.{option_map};
 ghost use Rattle.capture_report.specs.FilterNames.{FindsFilter, IsMissingFilter};
 
-use crate::file_system::FileSystem;
 use capture_request::is_filter;
+use program_files::{FileSystem, missing_file};
 use std::io;
 
 /// The first of these names that begins like a filter of tcpdump and is the name of no file, with the error of the operating system. Then
@@ -14,7 +14,8 @@ pub fn missing_filter<'a, S: FileSystem>(
     system: &S,
     names: &[&'a str],
 ) -> Option<(&'a str, io::Error)>
-    ensures { FindsFilter (S.lacks system.now) (map (λ name. name.now) names.now) (option_map (λ found. found.0.now) result) }
+    ensures { FindsFilter (S.describes system.now) (map (λ name. name.now) names.now)
+        (option_map (λ found. (found.0.now, found.1)) result) }
 {
     let mut left = names;
     while let [name, others @ ..] = left {
@@ -28,10 +29,10 @@ pub fn missing_filter<'a, S: FileSystem>(
 
 /// The error of the operating system if this name begins like a filter of tcpdump and is the name of no file.
 fn error_of_filter<S: FileSystem>(system: &S, name: &str) -> Option<io::Error>
-    ensures { IsMissingFilter (S.lacks system.now) name.now (is_some result) }
+    ensures { IsMissingFilter (S.describes system.now) name.now result }
 {
     if is_filter(name) {
-        system.missing(name)
+        missing_file(system, name)
     } else {
         None
     }

@@ -10,7 +10,8 @@
 //! ```
 #![tactic(auto)]
 
-ghost use Rattle.std.specs.Prelude.{◌≡◌, ◌-◌, ◌^◌, IfOk, IsOk, IsTrue, Ok, map, option_map, string_bytes};
+ghost use Rattle.std.specs.Prelude.{◌≡◌, IfOk, IsOk, Ok, map, option_map, string_bytes};
+ghost use Rattle.std.specs.Io.Buffered.{reader_remaining};
 ghost use Rattle.std.specs.IoError.{error_kind};
 ghost use Rattle.clap.specs.Words.{kind_of};
 ghost use Rattle.capture_request.specs.ErrorLines.{IsOneLine, IsOpenErrorLine, WritesSome};
@@ -18,17 +19,13 @@ ghost use Rattle.capture_request.specs.ExitStatuses.{exit_number};
 ghost use Rattle.capture_request.specs.Names.{shown_name};
 ghost use Rattle.capture_report.specs.Failures.{failure_number, write_failure_number};
 ghost use Rattle.capture_report.specs.Outputs.{AreErrorLines, AreSelectionLines, FailsFirst, IsStatusOf, WritesSelection, counts_line, written_status};
-ghost use Rattle.capture_report.specs.Progress.{inner_of, next_of};
+ghost use Rattle.capture_report.specs.Reports.{EndsReport, IsMissed, IsOpened};
 ghost use Rattle.capture_arguments.specs.Rejections.{answer_number};
 ghost use Rattle.capture_run.specs.Captures.{Gives, IsRun, WritesRun};
+ghost use Rattle.program_files.specs.Inputs.{bytes_left};
+ghost use Rattle.program_files.specs.Progress.{inner_of};
 
-mod computer;
-mod file_id;
-mod file_system;
 mod filters;
-mod input;
-mod new_file;
-mod progress;
 mod task;
 
 use capture_arguments::{
@@ -40,19 +37,20 @@ use capture_request::{
 };
 use capture_run::{Open, Outputs, Sources, WriteError, run};
 use capture_selection::{Copier, Counts, SelectionError, write_selected};
-use computer::Computer;
-use file_system::FileSystem;
 use filters::missing_filter;
-use input::{Input, is_named, len_of, open_input};
-use new_file::NewFile;
-use progress::{Progress, is_shown};
+use program_files::{
+    Computer, FileSystem, Flushes, Input, NewFile, Progress, open_input, with_progress,
+};
 use std::alloc::{AllocError, Global};
 use std::hash::RandomState;
 use std::io;
-use std::io::{BufReader, BufWriter, ErrorKind, IsTerminal, LineWriter, Read, Write};
+use std::io::{BufReader, BufWriter, ErrorKind, IsTerminal, LineWriter, Read, Stderr, Write};
 use std::process::ExitCode;
 use streams::{new_buffer, write_whole};
 use task::{Task, first_name, task_of};
+
+/// The name of the program in its progress line.
+const PROGRAM: &str = "capture_report";
 
 /// The size of the input buffer of a capture and of the buffer of standard output, in bytes.
 const BUFFER_LEN: usize = 1 << 16;
@@ -88,7 +86,8 @@ fn status(rt: &HostRuntime) -> io::Result<u8> {
         Ok(options) => options,
         Err(error) => return answer(rt, error),
     };
-    if let Some((name, error)) = missing_filter(&Computer { rt }, options.files.as_slice()) {
+    let system = Computer { rt };
+    if let Some((name, error)) = missing_filter(&system, options.files.as_slice()) {
         let status = ExitStatus::NoCapture;
         return unopened(&mut rt.stderr(), rt.alloc(), name, &error, status);
     }
@@ -101,12 +100,23 @@ fn status(rt: &HostRuntime) -> io::Result<u8> {
         Task::Write(name) => write_to(rt, &options, name),
         Task::ReportByLine => {
             let output = LineWriter::with_capacity(rt.alloc(), BUFFER_LEN, rt.stdout())?;
-            report_to(rt, &options, output)
+            report_to(rt, &system, &options, &mut outputs_with(rt, output))
         }
         Task::Report => {
             let output = BufWriter::with_capacity(rt.alloc(), BUFFER_LEN, rt.stdout())?;
-            report_to(rt, &options, output)
+            report_to(rt, &system, &options, &mut outputs_with(rt, output))
         }
+    }
+}
+
+/// The outputs of a run that writes its report to this output.
+fn outputs_with<W>(rt: &HostRuntime, report: W) -> Outputs<W, Stderr>
+    ensures { result.report ≡ report }
+{
+    Outputs {
+        alloc: rt.alloc(),
+        report,
+        errors: rt.stderr(),
     }
 }
 
@@ -121,30 +131,36 @@ fn answer(rt: &HostRuntime, error: clap::Error) -> io::Result<u8>
     Ok(error.exit_code() as u8)
 }
 
-/// Reports all captures to standard output, and returns the exit status.
-fn report_to<W: Write + Drop>(
+/// Reports the captures that the options name, and returns the exit status.
+///
+/// # Errors
+///
+/// The error of the operating system if it returns no random number.
+fn report_to<S: FileSystem, W: Write, E: Write>(
     rt: &HostRuntime,
+    system: &S,
     options: &Options<'_>,
-    output: W,
-) -> io::Result<u8> {
+    outputs: &mut Outputs<W, E>,
+) -> io::Result<u8>
+    ensures { IfOk result (EndsReport (λ status. WritesRun (W.contents outputs.old.report) (W.contents outputs.new.report)
+        (E.contents outputs.old.errors) (E.contents outputs.new.errors)
+        (IsRun (Gives (IsMissed (S.opens system.now)) (IsOpened (S.is_standard system.now) (S.opens system.now))
+        (reader_remaining (λ progress. bytes_left S.Standard.remaining S.File.remaining (inner_of progress)))) options.now.parts
+        (map (λ name. name.now) options.now.files.items) status))) }
+{
     let state = RandomState::new(rt)?;
     let lines_on_terminal = rt.stdout().is_terminal() && options.parts.lines != Lines::None;
     let files = Files {
         rt,
-        system: &Computer { rt },
+        system,
         lines_on_terminal,
-    };
-    let mut outputs = Outputs {
-        alloc: rt.alloc(),
-        report: output,
-        errors: rt.stderr(),
     };
     // The limit of the program: a packet above `MAX_PACKET_LEN`, 524,288 bytes, is counted, but not read.
     let Ok(mut bytes) = new_buffer(rt.alloc(), MAX_PACKET_LEN) else {
         return Ok(write_failure(rt, &WriteError::NoMemory));
     };
     let buffer = bytes.as_mut_slice().as_mut_array().unwrap();
-    match report(options, &files, state, buffer, &mut outputs) {
+    match report(options, &files, state, buffer, outputs) {
         Ok(status) => Ok(status.number()),
         Err(error) => Ok(write_failure(rt, &error)),
     }
@@ -194,14 +210,14 @@ fn write_to(rt: &HostRuntime, options: &Options<'_>, name: &str) -> io::Result<u
         }
     };
     if name == STANDARD_INPUT {
-        let input = with_progress(rt, &system, input, rt.stdout().is_terminal());
+        let mixed = rt.stdout().is_terminal();
+        let input = with_progress(rt, &system, input, PROGRAM, mixed);
         return write_packets(rt, &options.parts, capture, input, rt.stdout());
     }
-    if is_named(&system, &input, name) {
+    let Some(mut output) = NewFile::unless_input(&system, &input, name) else {
         return answer(rt, output_is_capture(&rt.alloc()));
-    }
-    let mut output = NewFile::new(rt, name);
-    let input = with_progress(rt, &system, input, false);
+    };
+    let input = with_progress(rt, &system, input, PROGRAM, false);
     match write_packets(rt, &options.parts, capture, input, &mut output) {
         Err(error) if output.is_refused() => {
             unopened(
@@ -256,21 +272,22 @@ fn write_packets<R: Read + Drop, W: Write + Drop>(
 ///
 /// The error of writing or flushing the output, or the error of writing to `errors`. It is also an error if no memory is left. All packets
 /// are written before anything is written to `errors`.
-fn write_selection<R: Read, W: Write, E: Write>(
+fn write_selection<R: Read, W: Flushes, E: Write>(
     alloc: Global,
     parts: &Parts,
     name: Option<&str>,
     copier: &mut Copier<'_, R, W>,
     errors: &mut E,
 ) -> io::Result<u8>
-    ensures { WritesSelection parts.now (option_map (λ text. shown_name text.now) name.entry) (R.remaining copier.old.input)
+    ensures writes { WritesSelection parts.now (option_map (λ text. shown_name text.now) name.entry) (R.remaining copier.old.input)
         (R.remaining copier.new.input)
         (W.contents copier.old.output) (W.contents copier.new.output) (E.contents errors.old) (E.contents errors.new) result }
+    ensures flushed { IfOk result (λ status. W.is_flushed copier.new.output) }
 {
     let mut counts = Counts::NONE;
     let ended = write_selected(copier, parts, &mut counts);
     // Packets that were written before an error are part of the output.
-    let flushed = copier.output.flush();
+    let flushed = copier.output.flush_all();
     let written = Written {
         ended,
         flushed,
@@ -360,22 +377,6 @@ fn write_failure(rt: &HostRuntime, error: &WriteError) -> u8
     ExitStatus::Failed.number()
 }
 
-/// Returns an input that shows the progress of reading if the input is a long file and standard error is a terminal. `lines_on_terminal`
-/// states whether other output is written to the terminal at the same time. Then no progress is shown.
-fn with_progress<S: FileSystem>(
-    rt: &HostRuntime,
-    system: &S,
-    input: Input<S::File>,
-    lines_on_terminal: bool,
-) -> Progress<Input<S::File>>
-    ensures inner { inner_of result ≡ input }
-    ensures mixed { IsTrue lines_on_terminal → next_of result ≡ 2 ^ 64 - 1 }
-{
-    let len = len_of(system, &input);
-    let shown = is_shown(len, rt.stderr().is_terminal(), lines_on_terminal);
-    Progress::new(input, len, shown, rt.stderr())
-}
-
 /// The source of captures: the files of a computer, and standard input.
 #[derive(Drop)]
 struct Files<'a, S> {
@@ -385,20 +386,18 @@ struct Files<'a, S> {
 }
 
 impl<'a, S: FileSystem> Open for Files<'a, S> {
-    type Input = BufReader<Progress<Input<S::File>>>;
+    type Input = BufReader<Progress<Input<S::Standard, S::File>>>;
 
-    ghost use Rattle.std.specs.Io.Buffered.{reader_inner};
-    ghost use Rattle.capture_report.specs.Inputs.{IsRequestedBy};
-    ghost use Rattle.capture_report.specs.Progress.{inner_of};
+    ghost use Rattle.capture_report.specs.Reports.{IsMissed, IsOpened};
 
-    ghost opens = { λ files name input. IsRequestedBy (S.opens files.system.now) name (inner_of (reader_inner input)) };
+    ghost opens = { λ files name input. IsOpened (S.is_standard files.system.now) (S.opens files.system.now) name input };
 
-    ghost misses = { λ files name. Unit {0} };
+    ghost misses = { λ files name. IsMissed (S.opens files.system.now) name };
 
     /// Opens a file, or standard input.
-    fn open(&self, name: &str) -> io::Result<BufReader<Progress<Input<S::File>>>> {
+    fn open(&self, name: &str) -> io::Result<BufReader<Progress<Input<S::Standard, S::File>>>> {
         let input = open_input(self.system, name)?;
-        let input = with_progress(self.rt, self.system, input, self.lines_on_terminal);
+        let input = with_progress(self.rt, self.system, input, PROGRAM, self.lines_on_terminal);
         Ok(BufReader::with_capacity(self.rt.alloc(), BUFFER_LEN, input)?)
     }
 }
