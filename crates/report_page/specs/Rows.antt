@@ -1,0 +1,79 @@
+-- The row of a packet: what the page keeps of it as numbers.
+use Rattle.std.specs.Prelude.{◌≡◌, ℕ, ◌<◌, List, [], ◌++◌, replicate, pos, Option, Some, None}
+use Rattle.std.specs.Net.Socket.{socket_port}
+use Rattle.ip_part.specs.Addresses.{Addresses, Ipv4, Ipv6, by_value}
+use Rattle.capture_packet.specs.declared.content.Content.{Content}
+use Rattle.capture_packet.specs.declared.content.Content.TheVariants as contents
+use Rattle.capture_packet.specs.declared.packet.Packet.{Packet}
+use Rattle.capture_summary.specs.FlowOf.{IsFlowOf}
+use Rattle.capture_summary.specs.Kinds.{verdict_kind, verdict_place}
+use Rattle.capture_summary.specs.Protocols.{content_protocol, protocol_place}
+use Rattle.capture_summary.specs.declared.capture_info.CaptureInfo.{CaptureInfo}
+use Rattle.capture_summary.specs.declared.capture_info.FrameLen.{FrameLen}
+use Rattle.capture_summary.specs.declared.flow.Flow.{Flow}
+use Rattle.report_page.specs.Times.{page_time, unknown}
+use Rattle.report_page.specs.declared.row.PageRow.{PageRow}
+
+-- a row before anything is known about the packet
+abbrev pub empty_row : PageRow
+empty_row = record {
+  end = 0;
+  time = unknown;
+  original_len = 0;
+  captured_len = 0;
+  has_len = 0;
+  verdict = 0;
+  protocol = 0;
+  version = 0;
+  has_destination = 0;
+  has_flow = 0;
+  source_port = 0;
+  destination_port = 0;
+  source = replicate 16 0;
+  destination = replicate 16 0;
+}
+
+-- a row with these lengths of a frame, if they are known
+abbrev pub with_len : Option FrameLen → PageRow
+with_len None = empty_row
+with_len (Some len) = record empty_row { original_len = len.original; captured_len = len.captured; has_len = 1 }
+
+-- an IPv4 address in 16 bytes
+abbrev pub ipv4_address : List ℕ → List ℕ
+ipv4_address address = address ++ replicate 12 0
+
+-- a row with these addresses
+abbrev pub with_addresses : PageRow → Addresses → PageRow
+with_addresses row (Ipv4 source destination) =
+    record row { version = 4; has_destination = 1; source = ipv4_address source; destination = ipv4_address destination }
+with_addresses row (Ipv6 source (Some destination)) =
+    record row { version = 6; has_destination = 1; source = source; destination = destination }
+with_addresses row (Ipv6 source None) = record row { version = 6; source = source }
+
+-- a row with the addresses of a packet, if it has addresses
+abbrev pub with_ends : PageRow → Content → PageRow
+with_ends row contents.Unread = row
+with_ends row (contents.IpHeader addresses) = with_addresses row (by_value addresses)
+with_ends row (contents.NotIp protocol) = row
+with_ends row (contents.Ip addresses protocol proto transport payload_len) = with_addresses row (by_value addresses)
+
+-- a row with the ports of a flow, if there is a flow
+abbrev pub with_ports : PageRow → Option Flow → PageRow
+with_ports row None = row
+with_ports row (Some flow) =
+    record row { has_flow = 1; source_port = socket_port flow.source; destination_port = socket_port flow.destination }
+
+-- `after` is the row `before` with the ports of the packet with this content, if the packet belongs to a flow
+abbrev pub AddsFlow : PageRow → Content → PageRow → Type 0
+AddsFlow before content after = (flow : Option Flow) × IsFlowOf content flow × (after ≡ with_ports before flow)
+
+-- This is the row of a packet. Its record or block ends at `end`, and `info` is what the capture states about it.
+abbrev pub IsRowOf : ℕ → CaptureInfo → Packet → PageRow → Type 0
+IsRowOf end info packet row =
+    let counted = record (with_len info.len) {
+      end = end;
+      time = page_time info.time;
+      verdict = verdict_place (verdict_kind packet.verdict);
+      protocol = protocol_place (content_protocol packet.content);
+    } in
+    AddsFlow (with_ends counted packet.content) packet.content row

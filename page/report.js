@@ -1,0 +1,451 @@
+// The page: what is shown, and what is chosen. The worker reads the capture and counts.
+"use strict";
+
+const find = (id) => document.getElementById(id);
+const thousands = new Intl.NumberFormat("en");
+const SVG = "http://www.w3.org/2000/svg";
+const LINE_HEIGHT = 20;
+/** Browsers limit the height of an element. A longer list is scrolled by parts of this height. */
+const MAX_HEIGHT = 8_000_000;
+const CHART = { width: 1000, height: 180 };
+const COLOURS = 11;
+/** A module with a 64-bit memory, and nothing else. */
+const ONLY_MEMORY64 = new Uint8Array([0, 0x61, 0x73, 0x6d, 1, 0, 0, 0, 5, 3, 1, 4, 0]);
+
+// ---- the worker
+
+let worker;
+const waiting = new Map();
+let lastId = 0;
+
+function ask(kind, more = {}, transfer = []) {
+    lastId += 1;
+    const id = lastId;
+    return new Promise((resolve, reject) => {
+        waiting.set(id, { resolve, reject });
+        worker.postMessage({ kind, id, ...more }, transfer);
+    });
+}
+
+function heard({ data }) {
+    if (data.kind === "progress") return showProgress(data);
+    const { resolve, reject } = waiting.get(data.id);
+    waiting.delete(data.id);
+    if (data.failure === undefined) resolve(data.answer);
+    else reject(new Error(data.failure));
+}
+
+async function startWorker() {
+    if (typeof WebAssembly !== "object" || !WebAssembly.validate(ONLY_MEMORY64)) {
+        throw new Error("This browser has no 64-bit memories of WebAssembly. Use Chrome 133, Firefox 134, or a later version.");
+    }
+    const url = URL.createObjectURL(new Blob([find("worker").textContent], { type: "text/javascript" }));
+    worker = new Worker(url);
+    worker.onmessage = heard;
+    const module = Uint8Array.from(atob(find("module").textContent), (character) => character.charCodeAt(0));
+    await ask("load", { module }, [module.buffer]);
+}
+
+// ---- the state
+
+/** The capture that is shown, the filter on its packets, and what the worker counted with this filter. */
+const state = { capture: undefined, filter: {}, shown: undefined };
+const sorts = { protocols: "packets", conversations: "packets", endpoints: "packets" };
+const orders = { protocols: "descending", conversations: "descending", endpoints: "descending" };
+
+function element(tag, properties = {}, ...children) {
+    const made = Object.assign(document.createElement(tag), properties);
+    made.append(...children);
+    return made;
+}
+
+function sizeText(size) {
+    if (size < 1000) return `${size} bytes`;
+    const power = Math.min(4, Math.floor(Math.log10(size) / 3));
+    return `${(size / 1000 ** power).toPrecision(3)} ${["", "kB", "MB", "GB", "TB"][power]}`;
+}
+
+const secondsText = (seconds) => `${Number(seconds.toFixed(9))} s`;
+
+function showError(text) {
+    find("error").textContent = text;
+    find("error").hidden = text === "";
+}
+
+function showProgress({ read, size, count, memory }) {
+    find("progress").value = size ? read / size : 1;
+    const kept = memory ? `, ${sizeText(memory)} of memory` : "";
+    find("progress-text").textContent = `${sizeText(read)} of ${sizeText(size)}, ${thousands.format(count)} packets${kept}`;
+}
+
+async function open(file) {
+    showError("");
+    find("report").hidden = true;
+    find("reading").hidden = false;
+    showProgress({ read: 0, size: file.size, count: 0, memory: 0 });
+    document.body.dataset.state = "reading";
+    try {
+        state.capture = await ask("open", { file, options: { udpTunnels: find("udp-tunnels").checked } });
+        await showCapture();
+    } catch (reason) {
+        showError(reason.message);
+    }
+    find("reading").hidden = true;
+    document.body.dataset.state = "ready";
+}
+
+async function showCapture() {
+    showError(state.capture.error);
+    if (state.capture.count === 0 && state.capture.facts === "") return;
+    document.title = `${state.capture.name}: capture report`;
+    find("capture-title").textContent = state.capture.name;
+    find("capture-text").textContent =
+        `${sizeText(state.capture.size)}, ${thousands.format(state.capture.count)} packets. The page uses about ${sizeText(state.capture.memory)} of memory.`;
+    find("facts").textContent = state.capture.facts;
+    fillChoices("protocol", state.capture.protocols);
+    fillChoices("verdict", state.capture.verdicts);
+    find("timeline-section").hidden = !state.capture.hasTimes;
+    find("report").hidden = false;
+    state.filter = {};
+    await update();
+}
+
+function fillChoices(id, names) {
+    const options = Object.entries(names).map(([group, name]) => element("option", { value: group, textContent: name }));
+    find(id).replaceChildren(element("option", { value: "", textContent: "any" }), ...options);
+}
+
+/** Counts and shows the packets of the filter. */
+async function update() {
+    state.shown = await ask("show", { filter: state.filter, sorts });
+    showFilter();
+    showVerdicts();
+    showTimeline();
+    for (const name of Object.keys(sorts)) showTable(name);
+    startLines();
+}
+
+// ---- the filter
+
+function choose(changes) {
+    state.filter = Object.fromEntries(Object.entries({ ...state.filter, ...changes }).filter(([, value]) => value !== undefined && value !== ""));
+    return update();
+}
+
+function showFilter() {
+    find("host").value = state.filter.host ?? "";
+    find("port").value = state.filter.port ?? "";
+    find("protocol").value = state.filter.protocol ?? "";
+    find("verdict").value = state.filter.verdicts?.[0] ?? "";
+    find("from").value = state.filter.from ?? "";
+    find("to").value = state.filter.to ?? "";
+    const conversation = state.filter.conversation ? ` Conversation: ${state.filter.name}.` : "";
+    find("filter-text").textContent =
+        `${thousands.format(state.shown.total)} of ${thousands.format(state.shown.all)} packets, ${sizeText(state.shown.totalBytes)}.${conversation}`;
+}
+
+function numberIn(id) {
+    const text = find(id).value.trim();
+    const number = Number(text);
+    find(id).setCustomValidity(text !== "" && !Number.isFinite(number) ? "This is not a number." : "");
+    return text === "" ? undefined : number;
+}
+
+find("filter").addEventListener("submit", (event) => {
+    event.preventDefault();
+    const optional = (id) => (find(id).value === "" ? undefined : Number(find(id).value));
+    const numbers = { port: numberIn("port"), from: numberIn("from"), to: numberIn("to") };
+    if (!find("filter").reportValidity()) return;
+    const verdict = optional("verdict");
+    choose({ host: find("host").value.trim(), protocol: optional("protocol"), verdicts: verdict === undefined ? undefined : [verdict], ...numbers });
+});
+find("reset").addEventListener("click", () => {
+    state.filter = {};
+    update();
+});
+
+// ---- verdicts
+
+const colour = (group) => `var(--g${group % COLOURS})`;
+
+function showVerdicts() {
+    const counts = new Map(state.shown.verdicts.map(({ group, packets }) => [group, packets]));
+    const tiles = Object.entries(state.capture.verdicts).map(([key, name]) => {
+        const group = Number(key);
+        const isChosen = state.filter.verdicts?.includes(group) ?? false;
+        const tile = element("button", { type: "button", className: "tile" },
+            element("strong", { textContent: thousands.format(counts.get(group) ?? 0) }), element("span", { textContent: name }));
+        tile.style.borderLeftColor = colour(group);
+        tile.dataset.verdict = name;
+        tile.setAttribute("aria-pressed", isChosen);
+        tile.addEventListener("click", () => choose({ verdicts: isChosen ? undefined : [group] }));
+        return tile;
+    });
+    find("verdicts").replaceChildren(...tiles);
+}
+
+// ---- the timeline
+
+function svg(tag, attributes) {
+    const made = document.createElementNS(SVG, tag);
+    for (const [name, value] of Object.entries(attributes)) made.setAttribute(name, value);
+    return made;
+}
+
+function showTimeline() {
+    const { timeline } = state.shown;
+    const [measure, split] = [find("measure").value, find("split").value];
+    const names = split === "verdicts" ? state.capture.verdicts : state.capture.protocols;
+    const series = timeline[split].filter((one) => one.packets.some((packets) => packets > 0));
+    const sums = Array.from({ length: timeline.intervals }, (_, at) => series.reduce((sum, one) => sum + one[measure][at], 0));
+    const greatest = Math.max(1, ...sums);
+    const step = CHART.width / timeline.intervals;
+    const below = new Array(timeline.intervals).fill(0);
+    const paths = series.map((one, order) => {
+        let path = "";
+        one[measure].forEach((value, at) => {
+            if (value === 0) return;
+            const height = Math.max(0.5, value / greatest * (CHART.height - 6));
+            path += `M${(at * step).toFixed(2)} ${(CHART.height - below[at]).toFixed(2)}h${Math.max(0.6, step - 0.4).toFixed(2)}v${(-height).toFixed(2)}h${(-Math.max(0.6, step - 0.4)).toFixed(2)}z`;
+            below[at] += height;
+        });
+        const drawn = svg("path", { d: path });
+        drawn.style.fill = colour(split === "verdicts" ? one.group : order);
+        return drawn;
+    });
+    find("timeline").replaceChildren(...paths, svg("rect", { class: "range", y: 0, height: CHART.height }), handle("from"), handle("to"));
+    find("legend").replaceChildren(...series.map((one, order) => {
+        const key = element("span", { className: "key" });
+        key.style.background = colour(split === "verdicts" ? one.group : order);
+        return element("span", {}, key, names[one.group]);
+    }));
+    placeRange(state.filter.from, state.filter.to);
+}
+
+function handle(side) {
+    const made = svg("rect", { class: "handle", id: `range-${side}`, width: 6, y: 0, height: CHART.height, tabindex: 0, role: "slider",
+        "aria-label": side === "from" ? "Start of the range" : "End of the range", "aria-orientation": "horizontal" });
+    made.addEventListener("keydown", (event) => moveHandle(event, side));
+    return made;
+}
+
+const startOfTime = () => state.shown.timeline.start;
+const endOfTime = () => state.shown.timeline.start + state.shown.timeline.width * state.shown.timeline.intervals;
+const roundedTime = (seconds) => Number((Math.round(seconds / state.shown.timeline.width) * state.shown.timeline.width).toFixed(9));
+
+function placeRange(from = startOfTime(), to = endOfTime()) {
+    const placeOf = (seconds) => (seconds - startOfTime()) / (endOfTime() - startOfTime()) * CHART.width;
+    const [left, right] = [placeOf(from), placeOf(to)];
+    const range = find("timeline").querySelector(".range");
+    range.style.display = from === startOfTime() && to === endOfTime() ? "none" : "";
+    range.setAttribute("x", left);
+    range.setAttribute("width", Math.max(0, right - left));
+    find("range-from").setAttribute("x", Math.min(CHART.width - 6, Math.max(0, left - 3)));
+    find("range-to").setAttribute("x", Math.min(CHART.width - 6, Math.max(0, right - 3)));
+    for (const [side, value] of [["from", from], ["to", to]]) {
+        const slider = find(`range-${side}`);
+        slider.setAttribute("aria-valuemin", startOfTime());
+        slider.setAttribute("aria-valuemax", endOfTime());
+        slider.setAttribute("aria-valuenow", value);
+        slider.setAttribute("aria-valuetext", secondsText(value));
+    }
+    find("range-text").textContent = `${secondsText(from)} to ${secondsText(to)} after the first packet, intervals of ${secondsText(state.shown.timeline.width)}`;
+}
+
+async function moveHandle(event, side) {
+    const steps = { ArrowLeft: -1, ArrowDown: -1, ArrowRight: 1, ArrowUp: 1, PageDown: -10, PageUp: 10 };
+    const [from, to] = [state.filter.from ?? startOfTime(), state.filter.to ?? endOfTime()];
+    const { width } = state.shown.timeline;
+    let value = side === "from" ? from : to;
+    if (event.key in steps) value += steps[event.key] * width;
+    else if (event.key === "Home") value = startOfTime();
+    else if (event.key === "End") value = endOfTime();
+    else if (event.key === "Escape") return wholeRange();
+    else return;
+    event.preventDefault();
+    value = roundedTime(value);
+    const least = side === "from" ? startOfTime() : roundedTime(from + width);
+    const greatest = side === "from" ? roundedTime(to - width) : endOfTime();
+    value = Math.max(least, Math.min(greatest, value));
+    await choose(side === "from" ? { from: value, to } : { from, to: value });
+    find(`range-${side}`).focus();
+}
+
+const wholeRange = () => choose({ from: undefined, to: undefined });
+
+let drawn;
+const timeAt = (event) => {
+    const box = find("timeline").getBoundingClientRect();
+    const part = Math.max(0, Math.min(1, (event.clientX - box.left) / box.width));
+    return startOfTime() + part * (endOfTime() - startOfTime());
+};
+find("timeline").addEventListener("pointerdown", (event) => {
+    drawn = timeAt(event);
+    find("timeline").setPointerCapture(event.pointerId);
+});
+find("timeline").addEventListener("pointermove", (event) => {
+    if (drawn !== undefined) placeRange(Math.min(drawn, timeAt(event)), Math.max(drawn, timeAt(event)));
+});
+find("timeline").addEventListener("pointerup", (event) => {
+    if (drawn === undefined) return;
+    const { width } = state.shown.timeline;
+    const [low, high] = [Math.min(drawn, timeAt(event)), Math.max(drawn, timeAt(event))];
+    drawn = undefined;
+    const from = Number((Math.floor(low / width) * width).toFixed(9));
+    choose({ from, to: Math.max(roundedTime(from + width), Number((Math.ceil(high / width) * width).toFixed(9))) });
+});
+find("timeline").addEventListener("pointercancel", () => { drawn = undefined; });
+find("whole-range").addEventListener("click", wholeRange);
+find("measure").addEventListener("change", showTimeline);
+find("split").addEventListener("change", showTimeline);
+
+// ---- tables
+
+const FILTERS = {
+    protocols: (row) => ({ protocol: state.filter.protocol === row.group ? undefined : row.group }),
+    conversations: (row) => (state.filter.conversation === row.conversation ? { conversation: undefined, name: undefined } : { conversation: row.conversation, name: row.name }),
+    endpoints: (row) => ({ host: state.filter.host === row.host ? undefined : row.host }),
+};
+const isChosen = {
+    protocols: (row) => state.filter.protocol === row.group,
+    conversations: (row) => state.filter.conversation === row.conversation,
+    endpoints: (row) => state.filter.host === row.host,
+};
+
+function showTable(name) {
+    const field = sorts[name];
+    const rows = state.shown[name];
+    if (field === "name") rows.sort((one, other) => one.name.localeCompare(other.name, "en", { numeric: true }));
+    else rows.sort((one, other) => other[field] - one[field]);
+    if (orders[name] === "ascending") rows.reverse();
+    const greatest = { packets: Math.max(1, ...rows.map((row) => row.packets)), bytes: Math.max(1, ...rows.map((row) => row.bytes)) };
+    const body = element("tbody", {}, ...rows.map((row) => {
+        const button = element("button", { type: "button", textContent: row.name });
+        button.setAttribute("aria-pressed", isChosen[name](row));
+        button.addEventListener("click", () => choose(FILTERS[name](row)));
+        const cells = ["packets", "bytes"].map((one) => {
+            const bar = element("div", { className: "bar" });
+            bar.style.width = `${row[one] / greatest[one] * 100}%`;
+            return element("td", { className: "number" }, bar, element("span", { textContent: thousands.format(row[one]) }));
+        });
+        return element("tr", { className: isChosen[name](row) ? "chosen" : "" }, element("th", { scope: "row" }, button), ...cells);
+    }));
+    const heads = [["name", "Name"], ["packets", "Packets"], ["bytes", "Bytes"]].map(([one, title]) => {
+        const button = element("button", { type: "button", textContent: title });
+        button.addEventListener("click", () => sortBy(name, one));
+        const head = element("th", { scope: "col" }, button);
+        if (one === field) head.setAttribute("aria-sort", orders[name]);
+        return head;
+    });
+    const focus = document.activeElement?.closest?.(`#${name} th button`)?.textContent;
+    find(name).replaceChildren(element("thead", {}, element("tr", {}, ...heads)), body);
+    if (focus) [...find(name).querySelectorAll("th button")].find((button) => button.textContent === focus)?.focus();
+    const count = { conversations: state.shown.conversationCount, endpoints: state.shown.endpointCount }[name];
+    if (count > rows.length) body.append(element("tr", {}, element("td", { colSpan: 3, textContent: `${thousands.format(count - rows.length)} more` })));
+}
+
+async function sortBy(name, field) {
+    orders[name] = sorts[name] === field && orders[name] === "descending" ? "ascending" : "descending";
+    if (field === "name" && sorts[name] !== "name") orders[name] = "ascending";
+    sorts[name] = field;
+    state.shown = await ask("show", { filter: state.filter, sorts });
+    showTable(name);
+}
+
+// ---- lines
+
+let active = 0;
+let drawing = 0;
+const list = find("packets");
+const rowsInView = () => Math.max(1, Math.floor(list.clientHeight / LINE_HEIGHT));
+const spacerHeight = () => Math.min(MAX_HEIGHT, state.shown.total * LINE_HEIGHT);
+
+function startLines() {
+    active = 0;
+    find("spacer").style.height = `${spacerHeight()}px`;
+    list.scrollTop = 0;
+    find("packets-text").textContent = `${thousands.format(state.shown.total)} packets`;
+    drawLines();
+}
+
+/** The first packet in view. A list above the greatest height is scrolled in proportion. */
+function firstInView() {
+    const room = spacerHeight() - list.clientHeight;
+    if (room <= 0) return 0;
+    return Math.round(Math.min(1, list.scrollTop / room) * Math.max(0, state.shown.total - rowsInView()));
+}
+
+async function drawLines() {
+    drawing += 1;
+    const turn = drawing;
+    const from = firstInView();
+    const options = { absolute: find("absolute").checked, verbose: find("verbose").checked };
+    const lines = await ask("lines", { from, to: Math.min(state.shown.total, from + rowsInView() + 1), options });
+    if (turn !== drawing) return;
+    const wrong = Object.entries(state.capture.verdicts).filter(([, name]) => name === "wrong" || name === "refused").map(([key]) => Number(key));
+    find("lines").replaceChildren(...lines.map(({ line, verdict, number }, at) => {
+        const made = element("div", { className: wrong.includes(verdict) ? "packet wrong" : "packet", textContent: line.replace(/\n$/, ""), id: `packet-${number}` });
+        made.setAttribute("role", "option");
+        made.setAttribute("aria-posinset", from + at + 1);
+        made.setAttribute("aria-setsize", state.shown.total);
+        made.setAttribute("aria-selected", from + at === active);
+        return made;
+    }));
+    find("lines").style.top = `${list.scrollTop}px`;
+    const chosen = find("lines").querySelector('[aria-selected="true"]');
+    if (chosen) list.setAttribute("aria-activedescendant", chosen.id);
+    else list.removeAttribute("aria-activedescendant");
+    list.dataset.drawn = String(turn);
+}
+
+function moveTo(row) {
+    active = Math.max(0, Math.min(state.shown.total - 1, row));
+    const [from, rows] = [firstInView(), rowsInView()];
+    let top = from;
+    if (active < from) top = active;
+    else if (active >= from + rows) top = active - rows + 1;
+    if (top !== from) list.scrollTop = top / Math.max(1, state.shown.total - rows) * (spacerHeight() - list.clientHeight);
+    drawLines();
+}
+
+list.addEventListener("scroll", () => requestAnimationFrame(drawLines));
+list.addEventListener("keydown", (event) => {
+    const rows = rowsInView();
+    const moves = { ArrowDown: active + 1, ArrowUp: active - 1, PageDown: active + rows, PageUp: active - rows, Home: 0, End: state.shown.total - 1 };
+    if (!(event.key in moves)) return;
+    event.preventDefault();
+    moveTo(moves[event.key]);
+});
+list.addEventListener("click", (event) => {
+    const chosen = event.target.closest(".packet");
+    if (chosen) moveTo(Number(chosen.getAttribute("aria-posinset")) - 1);
+});
+find("absolute").addEventListener("change", drawLines);
+find("verbose").addEventListener("change", drawLines);
+new ResizeObserver(() => { if (state.shown) drawLines(); }).observe(list);
+
+// ---- opening
+
+find("file").addEventListener("change", () => {
+    const [file] = find("file").files;
+    if (file) open(file);
+    find("file").value = "";
+});
+find("stop").addEventListener("click", () => ask("stop"));
+for (const kind of ["dragenter", "dragover"]) {
+    addEventListener(kind, (event) => {
+        event.preventDefault();
+        document.body.classList.add("over");
+    });
+}
+for (const kind of ["dragleave", "drop"]) addEventListener(kind, () => document.body.classList.remove("over"));
+addEventListener("drop", (event) => {
+    event.preventDefault();
+    const [file] = event.dataTransfer.files;
+    if (file) open(file);
+});
+
+/** What the tests call. */
+globalThis.captureReport = { ask, find, open, sorts, state };
+
+startWorker().then(() => { document.body.dataset.state = "ready"; }, (reason) => showError(reason.message));

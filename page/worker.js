@@ -1,0 +1,541 @@
+// Reads a capture with the proved reader (report_page.wasm), and answers the page. It runs as a worker, so that the page never waits.
+"use strict";
+
+/** How much of a file is read at once, in bytes. A longer record is read whole. */
+const CHUNK_LEN = 4 << 20;
+/** The longest record that is read whole, in bytes. */
+const MAX_CHUNK_LEN = 512 << 20;
+/** The room of a packet, as in the program (MAX_PACKET_LEN). A longer packet is not read. */
+const PACKET_LEN = 524288;
+/** The longest head of a piece, in bytes. */
+const HEAD_LEN = 1 << 20;
+/** The longest text, in bytes (MAX_TEXT_LEN). */
+const TEXT_LEN = 16384;
+/** How many rows the reader fills at once. */
+const ROWS = 4096;
+/** The most packets that the page keeps. */
+const MAX_PACKETS = 16_000_000;
+/** The rows and fields of the tables that the page shows. */
+const SHOWN = 100;
+const INTERVALS = 200;
+
+// The structs of the reader: where their fields are, in bytes.
+const ROW = { size: 104, end: 0, time: 8, originalLen: 40, hasLen: 56, verdict: 57, protocol: 58, version: 59, hasDestination: 60,
+    hasFlow: 61, sourcePort: 62, destinationPort: 64, source: 66, destination: 82 };
+const TIME = { size: 32, seconds: 0, fraction: 8, offset: 16, exponent: 24, isPowerOfTwo: 25, isKnown: 26 };
+const END = { size: 40, count: 0, offset: 8, requiredLen: 16, len: 24, status: 32, isPcapng: 36 };
+const LINE = { size: 48, number: 0, first: 8, isAbsolute: 40, isVerbose: 41, opensUdpTunnels: 42 };
+const Status = { FULL: 0, END: 1, CUT_OFF: 2, REFUSED: 3, BEGINNING_REFUSED: 4, FAILED: 5 };
+/** The length of the header of a classic capture, which is its head. */
+const CLASSIC_HEAD_LEN = 24;
+
+// ---- the module
+
+let calls, memory, bytes, view;
+/** Places in the memory. The piece is the last, since it grows. */
+const place = {};
+
+function setViews() {
+    bytes = new Uint8Array(memory.buffer);
+    view = new DataView(memory.buffer);
+}
+
+/** Lets the memory reach this length. Early runtimes take a number, not a BigInt. */
+function growTo(len) {
+    const pages = Math.ceil((len - memory.buffer.byteLength) / 65536);
+    if (pages <= 0) return;
+    try {
+        memory.grow(BigInt(pages));
+    } catch (reason) {
+        if (!(reason instanceof TypeError)) throw reason;
+        memory.grow(pages);
+    }
+    setViews();
+}
+
+async function load(module) {
+    const { instance } = await WebAssembly.instantiate(module, {});
+    calls = instance.exports;
+    memory = calls.memory;
+    let next = Math.ceil(memory.buffer.byteLength / 65536) * 65536;
+    const sizes = { rows: ROWS * ROW.size, end: 64, line: 64, cut: 64, text: TEXT_LEN, buffer: PACKET_LEN, head: HEAD_LEN, piece: 0 };
+    for (const [name, size] of Object.entries(sizes)) {
+        place[name] = next;
+        next += Math.ceil(size / 64) * 64;
+    }
+    growTo(next + HEAD_LEN + CHUNK_LEN);
+    setViews();
+}
+
+const number64 = (at) => view.getUint32(at + 4, true) * 0x100000000 + view.getUint32(at, true);
+const signed64 = (at) => view.getInt32(at + 4, true) * 0x100000000 + view.getUint32(at, true);
+
+/** The text that a call wrote: it returned this length. */
+function takeText(len) {
+    const text = Number(len);
+    return text > TEXT_LEN ? "(a text that is too long)" : new TextDecoder().decode(bytes.slice(place.text, place.text + text));
+}
+
+// ---- what is kept of a capture
+
+/** The numbers that are kept of each packet. */
+const COLUMNS = { start: Float64Array, size: Uint32Array, head: Uint32Array, time: Float64Array, len: Uint32Array, verdict: Uint8Array,
+    protocol: Uint8Array, source: Uint32Array, destination: Uint32Array, sourcePort: Uint16Array, destinationPort: Uint16Array,
+    conversation: Uint32Array };
+
+let capture;
+
+class Capture {
+    constructor(name, source, options) {
+        this.name = name;
+        this.source = source;
+        this.options = options;
+        this.count = 0;
+        this.room = 0;
+        this.values = {};
+        this.grow();
+        this.heads = [new Uint8Array(0)];
+        this.head = 0;
+        this.offset = 0;
+        this.first = undefined;
+        this.firstAt = -1;
+        this.addresses = [""];
+        this.addressIds = new Map();
+        this.conversations = [null];
+        this.conversationIds = new Map();
+        this.verdicts = new Map();
+        this.protocols = new Map();
+        this.status = Status.FULL;
+        this.error = "";
+        this.facts = "";
+    }
+
+    memory() {
+        const columns = Object.values(this.values).reduce((sum, column) => sum + column.byteLength, 0);
+        return columns + memory.buffer.byteLength + (this.addresses.length + this.conversations.length) * 120;
+    }
+
+    addressAt(version, at) {
+        const key = version === 4 ? view.getUint32(at) : String.fromCharCode(...bytes.subarray(at, at + 16));
+        let id = this.addressIds.get(key);
+        if (id === undefined) {
+            id = this.addresses.length;
+            this.addressIds.set(key, id);
+            this.addresses.push(addressText(version, bytes.subarray(at, at + 16)));
+        }
+        return id;
+    }
+
+    conversationOf(protocol, source, sourcePort, destination, destinationPort) {
+        const isForward = source < destination || (source === destination && sourcePort <= destinationPort);
+        const ends = isForward ? [source, sourcePort, destination, destinationPort] : [destination, destinationPort, source, sourcePort];
+        const key = `${protocol},${ends}`;
+        let id = this.conversationIds.get(key);
+        if (id === undefined) {
+            id = this.conversations.length;
+            this.conversationIds.set(key, id);
+            this.conversations.push({ protocol, ends });
+        }
+        return id;
+    }
+
+    /** Seconds since the first packet with a time, for the chart and for ranges. NaN if the time is not known. */
+    secondsAt(at) {
+        if (bytes[at + TIME.isKnown] === 0) return NaN;
+        const seconds = number64(at + TIME.seconds) + signed64(at + TIME.offset);
+        const units = (bytes[at + TIME.isPowerOfTwo] ? 2 : 10) ** bytes[at + TIME.exponent];
+        const fraction = number64(at + TIME.fraction) / units;
+        if (this.first === undefined) {
+            this.first = { raw: bytes.slice(at, at + TIME.size), seconds, fraction };
+            this.firstAt = this.count;
+        }
+        return seconds - this.first.seconds + (fraction - this.first.fraction);
+    }
+
+    /** Keeps the row at this place. Its packet begins after `start` bytes of the file, and has `size` bytes there. */
+    keep(at, start, size) {
+        const row = this.count;
+        if (row >= this.room) this.grow();
+        const { values } = this;
+        const [version, protocol] = [bytes[at + ROW.version], bytes[at + ROW.protocol]];
+        const source = version ? this.addressAt(version, at + ROW.source) : 0;
+        const destination = bytes[at + ROW.hasDestination] ? this.addressAt(version, at + ROW.destination) : 0;
+        const sourcePort = view.getUint16(at + ROW.sourcePort, true);
+        const destinationPort = view.getUint16(at + ROW.destinationPort, true);
+        const hasFlow = bytes[at + ROW.hasFlow] !== 0;
+        values.start[row] = start;
+        values.size[row] = size;
+        values.head[row] = this.head;
+        values.time[row] = this.secondsAt(at + ROW.time);
+        values.len[row] = bytes[at + ROW.hasLen] ? Math.min(number64(at + ROW.originalLen), 0xffffffff) : 0;
+        values.verdict[row] = bytes[at + ROW.verdict];
+        values.protocol[row] = protocol;
+        values.source[row] = source;
+        values.destination[row] = destination;
+        values.sourcePort[row] = sourcePort;
+        values.destinationPort[row] = destinationPort;
+        values.conversation[row] = hasFlow ? this.conversationOf(protocol, source, sourcePort, destination, destinationPort) : 0;
+        this.count += 1;
+    }
+
+    grow() {
+        this.room = Math.min(MAX_PACKETS, Math.max(65536, this.room * 2));
+        for (const [field, Type] of Object.entries(COLUMNS)) {
+            const grown = new Type(this.room);
+            if (this.values[field]) grown.set(this.values[field]);
+            this.values[field] = grown;
+        }
+    }
+}
+
+function addressText(version, address) {
+    if (version === 4) return address.subarray(0, 4).join(".");
+    const groups = Array.from({ length: 8 }, (_, group) => (address[2 * group] << 8 | address[2 * group + 1]).toString(16));
+    const zeros = [...groups.join(" ").matchAll(/\b0( 0)+\b/g)].map((match) => match[0]);
+    const longest = zeros.reduce((best, found) => (found.length > best.length ? found : best), "");
+    if (!longest) return groups.join(":");
+    const [front, ...back] = groups.join(" ").split(longest);
+    return `${front.trim().replaceAll(" ", ":")}::${back.join(longest).trim().replaceAll(" ", ":")}`;
+}
+
+// ---- reading
+
+let isStopped = false;
+
+/** Reads bytes of the file to the place of the piece, behind the room for a head, and returns how many there are. */
+async function readChunk(offset, len) {
+    const chunk = new Uint8Array(await capture.source.slice(offset, offset + len).arrayBuffer());
+    growTo(place.piece + HEAD_LEN + chunk.length);
+    bytes.set(chunk, place.piece + HEAD_LEN);
+    return chunk.length;
+}
+
+/** Puts a head before the bytes at this place, and returns where the piece begins. */
+function putHead(at, head) {
+    bytes.set(head, at - head.length);
+    return at - head.length;
+}
+
+/** A call that reads a piece. Every call of this kind takes the buffer for a packet after it. */
+function read(call, at, len, ...others) {
+    return calls[call](BigInt(at), BigInt(len), BigInt(place.buffer), BigInt(PACKET_LEN), ...others);
+}
+
+function textOf(call, at, len, ...others) {
+    return takeText(read(call, at, len, ...others, BigInt(place.text), BigInt(TEXT_LEN)));
+}
+
+function fillRows(at, len, rows) {
+    read("report_page_rows", at, len, udpTunnels(), BigInt(place.rows), BigInt(rows), BigInt(place.end));
+    return {
+        count: number64(place.end + END.count),
+        offset: number64(place.end + END.offset),
+        requiredLen: number64(place.end + END.requiredLen),
+        status: view.getUint32(place.end + END.status, true),
+        isPcapng: view.getUint32(place.end + END.isPcapng, true) === 1,
+    };
+}
+
+const udpTunnels = () => (capture.options.udpTunnels ? 1 : 0);
+
+/** The head of the next piece, after the first `len` bytes of a piece. */
+function headAfter(at, len, isPcapng) {
+    if (!isPcapng) return bytes.slice(at, at + CLASSIC_HEAD_LEN);
+    const head = Number(calls.report_page_head(BigInt(at), BigInt(len), BigInt(place.head), BigInt(HEAD_LEN)));
+    if (head === 0) throw new Error("the interfaces of a section need more memory than the page has for them");
+    return bytes.slice(place.head, place.head + head);
+}
+
+const isSame = (one, other) => one.length === other.length && one.every((byte, at) => byte === other[at]);
+
+/** Keeps the rows that were filled. The bytes after the head are at `at`, and begin after `offset` bytes of the file. */
+function keepRows(head, at, offset, count) {
+    let start = 0;
+    for (let row = 0; row < count && capture.count < MAX_PACKETS; row += 1) {
+        const rowAt = place.rows + row * ROW.size;
+        const size = number64(rowAt + ROW.end) - head.length - start;
+        capture.keep(rowAt, offset + start, size);
+        nameRow(bytes[rowAt + ROW.verdict], bytes[rowAt + ROW.protocol], head, at + start, size);
+        start += size;
+    }
+    return start;
+}
+
+/** Asks for the names of a verdict and a protocol, if they are new: those of the packet at this place. */
+function nameRow(verdict, protocol, head, at, size) {
+    if (capture.verdicts.has(verdict) && capture.protocols.has(protocol)) return;
+    const pieceAt = putHead(at, head);
+    const [verdictWord, protocolWord] = textOf("report_page_words", pieceAt, head.length + size, udpTunnels()).split("\n");
+    capture.verdicts.set(verdict, verdictWord);
+    capture.protocols.set(protocol, protocolWord);
+}
+
+/** The text of the error that refuses what is at this place, which begins after `offset` bytes of the file. */
+function refusalText(head, at, offset, chunkEnd) {
+    const pieceAt = putHead(at, head);
+    view.setBigUint64(place.cut, BigInt(head.length), true);
+    view.setBigUint64(place.cut + 8, BigInt(offset), true);
+    return textOf("report_page_refusal", pieceAt, chunkEnd - pieceAt, BigInt(place.cut));
+}
+
+/** The text of the error for a record or block that the file ends in. */
+function cutOffText(requiredLen) {
+    const numbers = [capture.count + 1, capture.offset, requiredLen, capture.source.size - capture.offset];
+    numbers.forEach((number, field) => view.setBigUint64(place.cut + 8 * field, BigInt(number), true));
+    return takeText(calls.report_page_cut_off(BigInt(place.cut), BigInt(place.text), BigInt(TEXT_LEN)));
+}
+
+/** Reads the pieces in a chunk. Returns the length of the next chunk, or 0 after the last one. */
+function readPieces(chunkLen, isLast) {
+    const chunkEnd = place.piece + HEAD_LEN + chunkLen;
+    let at = place.piece + HEAD_LEN;
+    let most = ROWS;
+    for (;;) {
+        const head = capture.heads[capture.head];
+        const pieceAt = putHead(at, head);
+        const end = fillRows(pieceAt, chunkEnd - pieceAt, most);
+        if (end.status === Status.BEGINNING_REFUSED) return endWith(refusalText(head, at, capture.offset, chunkEnd));
+        const nextHead = headAfter(pieceAt, end.offset, end.isPcapng);
+        const isNewHead = !isSame(nextHead, head);
+        if (isNewHead && end.count > 1) {
+            // Every row needs the head at its start. So the rows are read again, up to where the head changes.
+            most = end.count >> 1;
+            continue;
+        }
+        most = Math.min(ROWS, most * 2);
+        const kept = keepRows(head, at, capture.offset, end.count);
+        if (end.status === Status.REFUSED) return endWith(refusalText(head, at + kept, capture.offset + kept, chunkEnd));
+        if (isNewHead) capture.head = capture.heads.push(nextHead) - 1;
+        at += end.offset - head.length;
+        capture.offset += end.offset - head.length;
+        if (capture.count >= MAX_PACKETS) return endWith(`The page keeps ${MAX_PACKETS.toLocaleString("en")} packets, and reads no more.`);
+        if (end.status === Status.FULL) continue;
+        return afterPiece(end, isLast);
+    }
+}
+
+/** What follows a piece with no further packet. */
+function afterPiece(end, isLast) {
+    if (end.status === Status.FAILED) return endWith("Reading failed.");
+    if (end.status === Status.END) return isLast ? endWith("") : CHUNK_LEN;
+    const isCutOff = isLast || capture.offset + end.requiredLen > capture.source.size;
+    if (isCutOff) return endWith(cutOffText(end.requiredLen));
+    if (end.requiredLen > MAX_CHUNK_LEN) return endWith(`A record of ${end.requiredLen} bytes is longer than the page reads.`);
+    return Math.max(CHUNK_LEN, end.requiredLen);
+}
+
+function endWith(error) {
+    capture.error = error;
+    capture.isWhole = error === "";
+    return 0;
+}
+
+/** The facts of the capture: of the head after the packets. */
+function takeFacts() {
+    const head = capture.heads[capture.head];
+    if (head.length === 0) return "";
+    growTo(place.piece + HEAD_LEN);
+    const pieceAt = putHead(place.piece + HEAD_LEN, head);
+    return textOf("report_page_facts", pieceAt, head.length);
+}
+
+async function readCapture() {
+    let told = 0;
+    let len = CHUNK_LEN;
+    while (len > 0 && !isStopped) {
+        const chunkLen = await readChunk(capture.offset, len);
+        len = readPieces(chunkLen, capture.offset + chunkLen >= capture.source.size);
+        if (performance.now() - told > 100) {
+            told = performance.now();
+            postMessage({ kind: "progress", read: capture.offset, size: capture.source.size, count: capture.count, memory: capture.memory() });
+        }
+    }
+    if (isStopped && len > 0) capture.error = "Reading was stopped. The numbers are those of the packets before.";
+    capture.facts = takeFacts();
+}
+
+/** The bytes of a compressed file, without compression, or the file itself. */
+async function sourceOf(file) {
+    const start = new Uint8Array(await file.slice(0, 4).arrayBuffer());
+    const isGzip = start[0] === 0x1f && start[1] === 0x8b;
+    const isZstandard = start[0] === 0x28 && start[1] === 0xb5 && start[2] === 0x2f && start[3] === 0xfd;
+    if (!isGzip && !isZstandard) return file;
+    let stream;
+    try {
+        stream = new DecompressionStream(isGzip ? "gzip" : "zstd");
+    } catch {
+        throw new Error("This browser can't decompress the file. Decompress it, and open the result.");
+    }
+    let read = 0;
+    const counted = new TransformStream({
+        transform(chunk, controller) {
+            if (isStopped) controller.error(new Error("Reading was stopped while the file was decompressed."));
+            read += chunk.length;
+            postMessage({ kind: "progress", read, size: file.size, count: 0, memory: 0 });
+            controller.enqueue(chunk);
+        },
+    });
+    return new Response(file.stream().pipeThrough(counted).pipeThrough(stream)).blob();
+}
+
+async function open({ file, options }) {
+    isStopped = false;
+    capture = new Capture(file.name, await sourceOf(file), options);
+    try {
+        await readCapture();
+    } catch (reason) {
+        capture.error = String(reason.message ?? reason);
+    }
+    const named = (names) => Object.fromEntries(names);
+    return {
+        name: file.name, size: file.size, count: capture.count, facts: capture.facts, error: capture.error, memory: capture.memory(),
+        verdicts: named(capture.verdicts), protocols: named(capture.protocols), hasTimes: capture.first !== undefined,
+    };
+}
+
+// ---- what is shown
+
+let selection = new Uint32Array(0);
+
+/** The condition that a filter sets: a function of a row, without the range of times. */
+function conditionOf(filter) {
+    const { verdict, protocol, source, destination, sourcePort, destinationPort, conversation } = capture.values;
+    const verdicts = filter.verdicts && new Set(filter.verdicts);
+    const host = filter.host ? capture.addresses.indexOf(filter.host) : 0;
+    return (row) =>
+        (!verdicts || verdicts.has(verdict[row])) &&
+        (filter.protocol === undefined || protocol[row] === filter.protocol) &&
+        (!host || source[row] === host || destination[row] === host) &&
+        (filter.port === undefined || (conversation[row] !== 0 && (sourcePort[row] === filter.port || destinationPort[row] === filter.port))) &&
+        (!filter.conversation || conversation[row] === filter.conversation);
+}
+
+/** The first and the last time of a packet, in seconds since the first packet. */
+function timeRange() {
+    const { time } = capture.values;
+    let [least, greatest] = [0, 0];
+    for (let row = 0; row < capture.count; row += 1) {
+        if (time[row] < least) least = time[row];
+        if (time[row] > greatest) greatest = time[row];
+    }
+    return [least, greatest];
+}
+
+/** The least width of 1, 2 or 5 times a power of ten for which at most INTERVALS intervals are enough. */
+function intervalWidth(duration) {
+    let width = 1e-9;
+    for (let step = 0; width * INTERVALS <= duration; step += 1) width = [1, 2, 5][(step + 1) % 3] * 10 ** (Math.floor((step + 1) / 3) - 9);
+    return width;
+}
+
+class Counts {
+    constructor(length) {
+        this.packets = new Float64Array(length);
+        this.bytes = new Float64Array(length);
+    }
+    add(place, len) {
+        this.packets[place] += 1;
+        this.bytes[place] += len;
+    }
+    /** The places with packets, from the greatest number on. */
+    ranked(field, from, most) {
+        const places = [];
+        for (let at = from; at < this.packets.length; at += 1) if (this.packets[at] > 0) places.push(at);
+        const values = this[field] ?? this.packets;
+        return places.sort((one, other) => values[other] - values[one] || one - other).slice(0, most);
+    }
+}
+
+const GROUPS = 256;
+
+function show({ filter, sorts }) {
+    const { count } = capture;
+    const { time, len, verdict, protocol, source, destination, conversation } = capture.values;
+    const isMet = conditionOf(filter);
+    const [least, greatest] = timeRange();
+    const width = intervalWidth(greatest - least);
+    const origin = Math.floor(least / width);
+    const intervals = Math.floor(greatest / width) - origin + 1;
+    const [from, to] = [filter.from ?? -Infinity, filter.to ?? Infinity];
+    const hasRange = filter.from !== undefined || filter.to !== undefined;
+    const [byVerdict, byProtocol] = [new Counts(GROUPS * intervals), new Counts(GROUPS * intervals)];
+    const [verdicts, protocols, conversations] = [new Counts(GROUPS), new Counts(GROUPS), new Counts(capture.conversations.length)];
+    const endpoints = new Counts(capture.addresses.length);
+    const chosen = new Uint32Array(count);
+    let [total, totalBytes] = [0, 0];
+    for (let row = 0; row < count; row += 1) {
+        if (!isMet(row)) continue;
+        const interval = Math.floor(time[row] / width) - origin;
+        if (interval >= 0) {
+            byVerdict.add(verdict[row] * intervals + interval, len[row]);
+            byProtocol.add(protocol[row] * intervals + interval, len[row]);
+        }
+        if (hasRange && !(time[row] >= from && time[row] < to)) continue;
+        chosen[total] = row;
+        total += 1;
+        totalBytes += len[row];
+        verdicts.add(verdict[row], len[row]);
+        protocols.add(protocol[row], len[row]);
+        if (conversation[row]) conversations.add(conversation[row], len[row]);
+        if (source[row]) endpoints.add(source[row], len[row]);
+        if (destination[row] && destination[row] !== source[row]) endpoints.add(destination[row], len[row]);
+    }
+    selection = chosen.slice(0, total);
+    const tableOf = (counts, field, from, rowOf) =>
+        counts.ranked(field, from, SHOWN).map((at) => ({ ...rowOf(at), packets: counts.packets[at], bytes: counts.bytes[at] }));
+    const end = (address, port) => (capture.addresses[address].includes(":") ? `[${capture.addresses[address]}]:${port}` : `${capture.addresses[address]}:${port}`);
+    const seriesOf = (counts, names) => [...names.keys()].sort((one, other) => one - other).map((group) => ({
+        group, packets: counts.packets.slice(group * intervals, (group + 1) * intervals), bytes: counts.bytes.slice(group * intervals, (group + 1) * intervals),
+    }));
+    return {
+        total, totalBytes, all: count,
+        verdicts: tableOf(verdicts, "packets", 0, (at) => ({ group: at })),
+        protocols: tableOf(protocols, sorts.protocols, 0, (at) => ({ group: at, name: capture.protocols.get(at) })),
+        conversations: tableOf(conversations, sorts.conversations, 1, (at) => {
+            const { protocol: number, ends } = capture.conversations[at];
+            return { conversation: at, name: `${capture.protocols.get(number)} ${end(ends[0], ends[1])} <> ${end(ends[2], ends[3])}` };
+        }),
+        endpoints: tableOf(endpoints, sorts.endpoints, 1, (at) => ({ host: capture.addresses[at], name: capture.addresses[at] })),
+        conversationCount: conversations.packets.reduce((sum, packets) => sum + (packets > 0), 0),
+        endpointCount: endpoints.packets.reduce((sum, packets) => sum + (packets > 0), 0),
+        timeline: { width, start: origin * width, intervals, verdicts: seriesOf(byVerdict, capture.verdicts), protocols: seriesOf(byProtocol, capture.protocols) },
+    };
+}
+
+/** The line of a packet, from the bytes of its record or block. */
+function lineOf(row, record, options) {
+    const head = capture.heads[capture.values.head[row]];
+    growTo(place.piece + HEAD_LEN + record.length);
+    const at = place.piece + HEAD_LEN;
+    bytes.set(record, at);
+    const pieceAt = putHead(at, head);
+    bytes.fill(0, place.line, place.line + LINE.size);
+    view.setBigUint64(place.line + LINE.number, BigInt(row + 1), true);
+    if (capture.first && row > capture.firstAt) bytes.set(capture.first.raw, place.line + LINE.first);
+    bytes[place.line + LINE.isAbsolute] = options.absolute ? 1 : 0;
+    bytes[place.line + LINE.isVerbose] = options.verbose ? 1 : 0;
+    bytes[place.line + LINE.opensUdpTunnels] = udpTunnels();
+    return textOf("report_page_line", pieceAt, head.length + record.length, BigInt(place.line));
+}
+
+/** The lines of the chosen packets from one place in their list to another. */
+async function lines({ from, to, options }) {
+    const rows = [...selection.subarray(from, to)];
+    const { source, values: { start, size, verdict } } = capture;
+    const records = await Promise.all(rows.map((row) => source.slice(start[row], start[row] + size[row]).arrayBuffer()));
+    return rows.map((row, at) => ({
+        line: lineOf(row, new Uint8Array(records[at]), options), verdict: verdict[row], number: row + 1,
+    }));
+}
+
+// ---- messages
+
+const answers = { load: ({ module }) => load(module), open, show, lines, stop: () => { isStopped = true; } };
+
+onmessage = async ({ data }) => {
+    try {
+        postMessage({ id: data.id, answer: await answers[data.kind](data) });
+    } catch (reason) {
+        postMessage({ id: data.id, failure: String(reason.message ?? reason) });
+    }
+};
