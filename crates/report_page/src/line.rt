@@ -4,7 +4,7 @@ ghost use Rattle.report_page.specs.Lines.{IsFirstLine, is_set, times_of};
 ghost use Rattle.report_page.specs.Text.{WritesText};
 ghost use Rattle.report_page.specs.Times.{time_of};
 
-use crate::piece::{captured_info, first_item, too_long_info};
+use crate::piece::{captured_info, first_item, is_set, too_long_info};
 use crate::text::{Text, put};
 use crate::time::{PageTime, time_of};
 use capture_file::reader::{NextPacket, PacketInterface};
@@ -53,14 +53,15 @@ pub extern "C" fn report_page_line(
 fn first_line(piece: &[u8], buffer: &mut [u8], request: &PageLine) -> Option<Text>
     ensures { IfSome result (λ line. IsFirstLine piece.now (length buffer.old) request.now line.items) }
 {
-    match first_item(piece, buffer)? {
-        (reader, NextPacket::Whole(captured)) => {
+    let (reader, next) = first_item(piece, buffer)?;
+    match next {
+        NextPacket::Whole(captured) => {
             let frame = &buffer[captured.start..captured.start + captured.captured_len];
-            let packet = packet_in_frame(&captured, frame, request.opens_udp_tunnels != 0);
+            let packet = packet_in_frame(&captured, frame, is_set(request.opens_udp_tunnels));
             let interface = reader.interface_of(&captured);
             written(request, interface, captured_info(&captured), &packet)
         }
-        (_, NextPacket::TooLong(captured)) => {
+        NextPacket::TooLong(captured) => {
             let packet = packet_without_room(captured.required_len);
             written(request, None, too_long_info(&captured), &packet)
         }
@@ -89,7 +90,7 @@ fn written(
         _ => Times::Absolute,
     };
     let mut line = Text::new();
-    match write_packet_line(&mut line, times, request.is_verbose != 0, &info, packet) {
+    match write_packet_line(&mut line, times, is_set(request.is_verbose), &info, packet) {
         Ok(()) => Some(line),
         Err(_) => None,
     }

@@ -3,6 +3,7 @@
 ghost use Rattle.std.specs.Prelude.{◌≡◌, IfSome, length};
 ghost use Rattle.capture_file.specs.Packets.{IsNextWithin};
 ghost use Rattle.capture_request.specs.Report.{captured_info, too_long_info};
+ghost use Rattle.report_page.specs.Lines.{is_set};
 ghost use Rattle.report_page.specs.Pieces.{IsFirstItem};
 
 use capture_file::reader::{CaptureReader, CapturedPacket, NextPacket, TooLongPacket};
@@ -22,6 +23,13 @@ pub(crate) fn first_item(piece: &[u8], buffer: &mut [u8]) -> Option<(CaptureRead
         Ok(next) => Some((reader, next)),
         Err(_) => None,
     }
+}
+
+/// Returns whether a flag of the page is set: whether its number is not 0.
+pub(crate) fn is_set(flag: u8) -> bool
+    ensures { result ≡ is_set flag }
+{
+    flag != 0
 }
 
 /// Returns what the capture states about a packet.

@@ -2,7 +2,7 @@ ghost use Rattle.std.specs.Prelude.{◌≡◌, IfErr, IfOk, length};
 ghost use Rattle.report_page.specs.Lines.{is_set};
 ghost use Rattle.report_page.specs.Reading.{FillsRows, ReadsPiece, ReadsRow, StopsWith, end_at};
 
-use crate::piece::{captured_info, too_long_info};
+use crate::piece::{captured_info, is_set, too_long_info};
 use crate::row::{PageRow, row_of};
 use capture_file::reader::{CaptureReader, NextPacket};
 use capture_request::{packet_in_frame, packet_without_room};
@@ -75,7 +75,7 @@ enum Stop {
 pub extern "C" fn report_page_rows(
     piece: &[u8],
     buffer: &mut [u8],
-    opens_udp_tunnels: u32,
+    opens_udp_tunnels: u8,
     rows: &mut [PageRow],
     end: &mut PageEnd,
 )
@@ -83,7 +83,7 @@ pub extern "C" fn report_page_rows(
 {
     let mut input = piece;
     *end = match CaptureReader::read_header(&mut input, buffer) {
-        Ok(Ok(mut reader)) => fill_rows(&mut reader, &mut input, buffer, opens_udp_tunnels != 0, rows),
+        Ok(Ok(mut reader)) => fill_rows(&mut reader, &mut input, buffer, is_set(opens_udp_tunnels), rows),
         Ok(Err(_)) => AT_BEGINNING,
         Err(_) => PageEnd {
             status: FAILED,

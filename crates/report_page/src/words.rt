@@ -2,7 +2,7 @@ ghost use Rattle.std.specs.Prelude.{◌≡◌, IfSome, length};
 ghost use Rattle.report_page.specs.Lines.{AreFirstWords, words_of};
 ghost use Rattle.report_page.specs.Text.{WritesText};
 
-use crate::piece::first_item;
+use crate::piece::{first_item, is_set};
 use crate::text::{Text, put};
 use capture_file::reader::NextPacket;
 use capture_packet::Packet;
@@ -17,7 +17,7 @@ use std::io::Write;
 pub extern "C" fn report_page_words(
     piece: &[u8],
     buffer: &mut [u8],
-    opens_udp_tunnels: u32,
+    opens_udp_tunnels: u8,
     text: &mut [u8],
 ) -> usize
     ensures { WritesText (AreFirstWords piece.now (length buffer.old) opens_udp_tunnels) text.old text.new result }
@@ -29,15 +29,16 @@ pub extern "C" fn report_page_words(
 }
 
 /// Returns the words for the first packet of a piece, or `None` if the piece does not begin with a packet.
-fn first_words(piece: &[u8], buffer: &mut [u8], opens_udp_tunnels: u32) -> Option<Text>
+fn first_words(piece: &[u8], buffer: &mut [u8], opens_udp_tunnels: u8) -> Option<Text>
     ensures { IfSome result (λ words. AreFirstWords piece.now (length buffer.old) opens_udp_tunnels words.items) }
 {
-    match first_item(piece, buffer)? {
-        (_, NextPacket::Whole(captured)) => {
+    let (_, next) = first_item(piece, buffer)?;
+    match next {
+        NextPacket::Whole(captured) => {
             let frame = &buffer[captured.start..captured.start + captured.captured_len];
-            words_of(&packet_in_frame(&captured, frame, opens_udp_tunnels != 0))
+            words_of(&packet_in_frame(&captured, frame, is_set(opens_udp_tunnels)))
         }
-        (_, NextPacket::TooLong(captured)) => words_of(&packet_without_room(captured.required_len)),
+        NextPacket::TooLong(captured) => words_of(&packet_without_room(captured.required_len)),
         _ => None,
     }
 }

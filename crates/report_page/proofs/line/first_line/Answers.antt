@@ -1,0 +1,38 @@
+use Rattle.std.proofs.Common.{refl}
+use Rattle.capture_file.specs.CapturePackets.{kept, too_long}
+use Rattle.capture_file.specs.declared.reader.next_packet.NextPacket.TheVariants.{TooLong, Whole}
+use Rattle.report_page.proofs.ReadingLemmas.{frame_of, item_as, some_follows}
+use Rattle.report_page.proofs.line.first_line.Goals as goal
+
+-- a packet that fits in the buffer
+pub returns-in-Whole : goal.returns-in-Whole
+returns-in-Whole c =
+    let captured = c.in-Whole.captured in
+    let buffer = c.first_item.new.buffer in
+    let written = rw (c.interface_of-interface.ensures, c.captured_info.ensures) at c.written.ensures in
+    some_follows _ (λ line is. record {
+      buffer = buffer;
+      has_room = c.first_item.auto.buffer;
+      reader = c.in_ok-reader.reader;
+      captured = kept captured (frame_of buffer captured);
+      is_first = (Whole captured, item_as _ _ _ _ _ c.in-Whole.is c.in_ok-reader.ensures.item, refl);
+      packet = c.packet_in_frame-packet.result;
+      is_packet = rw c.is_set.ensures at c.packet_in_frame-packet.ensures;
+      is_line = is;
+    }) written
+
+-- a packet that is longer than the buffer
+pub returns-in-TooLong : goal.returns-in-TooLong
+returns-in-TooLong c =
+    let captured = c.in-TooLong.captured in
+    let written = rw c.too_long_info.ensures at c.written-in-TooLong.ensures in
+    some_follows _ (λ line is. record {
+      buffer = c.first_item.new.buffer;
+      has_room = c.first_item.auto.buffer;
+      reader = c.in_ok-reader.reader;
+      captured = too_long captured;
+      is_first = (TooLong captured, item_as _ _ _ _ _ c.in-TooLong.is c.in_ok-reader.ensures.item, refl);
+      packet = c.packet_without_room-packet.result;
+      is_packet = c.packet_without_room-packet.ensures;
+      is_line = is;
+    }) written
