@@ -47,9 +47,9 @@ reads_one room before after left still_left buffer read next packet has_room is 
 }
 
 -- what follows for a value, if there is one
-pub some_follows : {A : Type 0} {P Q : A → Type 0} (value : Option A) → ((a : A) → P a → Q a) → IfSome value P → IfSome value Q
-some_follows None follows holds = holds
-some_follows (Some a) follows holds = follows a holds
+pub some_follows : {A : Type 0} (value : Option A) (P Q : A → Type 0) → ((a : A) → P a → Q a) → IfSome value P → IfSome value Q
+some_follows None P Q follows holds = holds
+some_follows (Some a) P Q follows holds = follows a holds
 
 -- the first item of a piece, under another name
 pub item_as : (piece buffer : List ℕ) (after : CaptureReader) (read next : NextPacket)

@@ -1,4 +1,4 @@
-use Rattle.std.proofs.Common.{◌+◌, arith, inl, refl, subst, suc}
+use Rattle.std.proofs.Common.{[], ◌+◌, arith, inl, refl, subst, suc}
 use Rattle.capture_numbers.specs.declared.byte_order.ByteOrder.TheVariants.{BigEndian}
 use Rattle.report_page.specs.Heads.{IsHeadAfter}
 use Rattle.report_page.proofs.head.report_page_head.Goals as goal
@@ -10,10 +10,9 @@ loop-block-preserved c =
     let order = c.in-Ok.block.header.byte_order in
     let others = c.in-Ok.others.now in (
       c.in-Some.ensures.within,
-      leads.0 + 1,
-      λ more whole is. subst (λ blocks. IsHeadAfter blocks BigEndian c.args.piece.now _ whole) (omega arith)
-          (leads.1 (suc more) whole (c.in-Ok.block, others, c.in-Ok.ensures.refused, c.in-Ok.ensures.read,
-          subst (λ head. IsHeadAfter more order others head whole) c.in-Some.ensures.head is)),
+      (leads.0 + 1, λ more whole is. subst (λ blocks. IsHeadAfter blocks BigEndian c.args.piece.now [] whole) (omega arith)
+      (leads.1 (suc more) whole (c.in-Ok.block, others, c.in-Ok.ensures.refused, c.in-Ok.ensures.read,
+      subst (λ head. IsHeadAfter more order others head whole) c.in-Some.ensures.head is))),
     )
 
 -- no block follows

@@ -1,7 +1,12 @@
-use Rattle.std.proofs.Common.{refl}
+use Rattle.std.proofs.Common.{None, length, refl}
 use Rattle.capture_file.specs.CapturePackets.{kept, too_long}
 use Rattle.capture_file.specs.declared.reader.next_packet.NextPacket.TheVariants.{TooLong, Whole}
 use Rattle.report_page.proofs.ReadingLemmas.{frame_of, item_as, some_follows}
+use Rattle.capture_file.specs.Interfaces.{interface_of}
+use Rattle.capture_request.specs.Report.{captured_info, too_long_info}
+use Rattle.capture_text.specs.PacketLine.{IsLine}
+use Rattle.report_page.specs.Lines.{IsFirstLine, is_set, times_of}
+use Rattle.report_page.specs.Times.{time_of}
 use Rattle.report_page.proofs.line.first_line.Goals as goal
 
 -- a packet that fits in the buffer
@@ -10,7 +15,13 @@ returns-in-Whole c =
     let captured = c.in-Whole.captured in
     let buffer = c.first_item.new.buffer in
     let written = rw (c.interface_of-interface.ensures, c.captured_info.ensures) at c.written.ensures in
-    some_follows _ (λ line is. record {
+    let request = c.args.request.now in
+    let info = captured_info captured in
+    some_follows c.written.result
+    (λ line. IsLine (times_of request.is_absolute) (is_set request.is_verbose) request.number
+    (interface_of c.in_ok-reader.reader captured.interface) (time_of request.first) info.time info.len
+    c.packet_in_frame-packet.result line.items)
+    (λ line. IsFirstLine c.args.piece.now (length c.args.buffer.now) c.args.request.now line.items) (λ line is. record {
       buffer = buffer;
       has_room = c.first_item.auto.buffer;
       reader = c.in_ok-reader.reader;
@@ -26,7 +37,12 @@ pub returns-in-TooLong : goal.returns-in-TooLong
 returns-in-TooLong c =
     let captured = c.in-TooLong.captured in
     let written = rw c.too_long_info.ensures at c.written-in-TooLong.ensures in
-    some_follows _ (λ line is. record {
+    let request = c.args.request.now in
+    let info = too_long_info captured in
+    some_follows c.written-in-TooLong.result
+    (λ line. IsLine (times_of request.is_absolute) (is_set request.is_verbose) request.number None (time_of request.first) info.time info.len
+    c.packet_without_room-packet.result line.items)
+    (λ line. IsFirstLine c.args.piece.now (length c.args.buffer.now) c.args.request.now line.items) (λ line is. record {
       buffer = c.first_item.new.buffer;
       has_room = c.first_item.auto.buffer;
       reader = c.in_ok-reader.reader;

@@ -1,7 +1,8 @@
-use Rattle.std.proofs.Common.{refl}
+use Rattle.std.proofs.Common.{◌≡◌, length, refl}
 use Rattle.capture_file.specs.CapturePackets.{kept, too_long}
 use Rattle.capture_file.specs.declared.reader.next_packet.NextPacket.TheVariants.{TooLong, Whole}
 use Rattle.report_page.proofs.ReadingLemmas.{frame_of, item_as, some_follows}
+use Rattle.report_page.specs.Lines.{AreFirstWords, words_of}
 use Rattle.report_page.proofs.words.first_words.Goals as goal
 
 -- a packet that fits in the buffer
@@ -9,7 +10,8 @@ pub returns-in-Whole : goal.returns-in-Whole
 returns-in-Whole c =
     let captured = c.in-Whole.captured in
     let buffer = c.first_item.new.buffer in
-    some_follows _ (λ words are. record {
+    some_follows c.words_of.result (λ words. words.items ≡ words_of c.packet_in_frame.result)
+    (λ words. AreFirstWords c.args.piece.now (length c.args.buffer.now) c.args.opens_udp_tunnels words.items) (λ words are. record {
       buffer = buffer;
       has_room = c.first_item.auto.buffer;
       reader = c.in_ok-next.field-0-0;
@@ -24,7 +26,8 @@ returns-in-Whole c =
 pub returns-in-TooLong : goal.returns-in-TooLong
 returns-in-TooLong c =
     let captured = c.in-TooLong.captured in
-    some_follows _ (λ words are. record {
+    some_follows c.words_of-in-TooLong.result (λ words. words.items ≡ words_of c.packet_without_room.result)
+    (λ words. AreFirstWords c.args.piece.now (length c.args.buffer.now) c.args.opens_udp_tunnels words.items) (λ words are. record {
       buffer = c.first_item.new.buffer;
       has_room = c.first_item.auto.buffer;
       reader = c.in_ok-next.field-0-0;
