@@ -1,9 +1,7 @@
-ghost use Rattle.report_page.specs.Text.{WritesText};
-
 use crate::piece::first_item;
 use crate::text::{Text, put};
 use capture_file::reader::{CaptureReader, NextPacket, PlacedPacketError};
-use capture_request::CaptureError;
+use std::fmt::Display;
 use std::io::Write;
 
 /// The place of a piece in its file.
@@ -39,30 +37,38 @@ pub extern "C" fn report_page_refusal(
     buffer: &mut [u8],
     place: &PagePlace,
     text: &mut [u8],
-) -> usize
-{
-    match refusal_of(piece, buffer, place) {
-        Some(error) => put_error(&error, text),
-        None => 0,
+) -> usize {
+    let mut input = piece;
+    match CaptureReader::read_header(&mut input, buffer) {
+        Ok(Ok(_)) => put_refused(piece, buffer, place, text),
+        Ok(Err(error)) => put_error(&error, text),
+        Err(_) => 0,
     }
 }
 
 /// Writes the text of the error for a capture that ends within a record or block to `text`, and returns its length. It is the text that the
 /// program prints after the name of the capture. If the text is longer than `text`, nothing is written.
 #[unsafe(no_mangle)]
-pub extern "C" fn report_page_cut_off(cut: &PageCut, text: &mut [u8]) -> usize
-{
-    let error = CaptureError::RecordCutOff {
-        number: cut.number,
-        offset: cut.offset,
-        required_len: cut.required_len as usize,
-        len: cut.len as usize,
-    };
-    put_error(&error, text)
+pub extern "C" fn report_page_cut_off(cut: &PageCut, text: &mut [u8]) -> usize {
+    let PageCut {
+        number,
+        offset,
+        required_len,
+        len,
+    } = *cut;
+    let mut words = Text::new();
+    let written = write!(
+        words,
+        "At byte {offset} of the capture, in or before packet {number}: The record or block has at least {required_len} bytes, and {len} are left."
+    );
+    match written {
+        Ok(()) => put(words.as_slice(), text),
+        Err(_) => 0,
+    }
 }
 
 /// Writes the text of an error to `text`, and returns its length.
-fn put_error(error: &CaptureError, text: &mut [u8]) -> usize {
+fn put_error<E: Display>(error: &E, text: &mut [u8]) -> usize {
     let mut words = Text::new();
     match write!(words, "{error}") {
         Ok(()) => put(words.as_slice(), text),
@@ -70,16 +76,11 @@ fn put_error(error: &CaptureError, text: &mut [u8]) -> usize {
     }
 }
 
-/// Returns the error that refuses the beginning or the first item of a piece.
-fn refusal_of(piece: &[u8], buffer: &mut [u8], place: &PagePlace) -> Option<CaptureError> {
-    let mut input = piece;
-    match CaptureReader::read_header(&mut input, buffer) {
-        Ok(Ok(_)) => match first_item(piece, buffer)? {
-            (_, NextPacket::Refused(refused)) => Some(CaptureError::Refused(moved(refused, place))),
-            _ => None,
-        },
-        Ok(Err(error)) => Some(CaptureError::Header(error)),
-        Err(_) => None,
+/// Writes the text of the error that refuses the first item of a piece to `text`, and returns its length. Returns 0 if it is not refused.
+fn put_refused(piece: &[u8], buffer: &mut [u8], place: &PagePlace, text: &mut [u8]) -> usize {
+    match first_item(piece, buffer) {
+        Some((_, NextPacket::Refused(refused))) => put_error(&moved(refused, place), text),
+        _ => 0,
     }
 }
 

@@ -10,11 +10,7 @@ use capture_words::write_facts;
 /// the packets, with no bytes after it. The result is 0, and nothing is written, if its beginning is refused. If the facts are longer than
 /// `text`, nothing is written either.
 #[unsafe(no_mangle)]
-pub extern "C" fn report_page_facts(
-    piece: &[u8],
-    buffer: &mut [u8],
-    text: &mut [u8],
-) -> usize
+pub extern "C" fn report_page_facts(piece: &[u8], buffer: &mut [u8], text: &mut [u8]) -> usize
     ensures { WritesText (AreFacts piece.now) text.old text.new result }
 {
     match facts_of(piece, buffer) {

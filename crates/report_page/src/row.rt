@@ -64,7 +64,10 @@ const EMPTY: PageRow = PageRow {
 pub(crate) fn row_of(end: u64, info: &CaptureInfo, packet: &Packet<'_>) -> PageRow
     ensures { IsRowOf end info.now packet.now result }
 {
-    let (verdict, protocol) = (VerdictKind::of(&packet.verdict), Protocol::of(&packet.content));
+    let (verdict, protocol) = (
+        VerdictKind::of(&packet.verdict),
+        Protocol::of(&packet.content),
+    );
     let row = PageRow {
         end,
         time: page_time(info.time),
@@ -143,7 +146,9 @@ fn ipv4_address(address: &[u8; 4]) -> [u8; 16]
     ensures { result ≡ ipv4_address address.now }
 {
     let [first, second, third, fourth] = *address;
-    [first, second, third, fourth, 0, 0, 0, 0, 0, 0, 0, 0, 0, 0, 0, 0]
+    [
+        first, second, third, fourth, 0, 0, 0, 0, 0, 0, 0, 0, 0, 0, 0, 0,
+    ]
 }
 
 /// Adds the ports of a packet to its row, if the packet belongs to a flow.

@@ -83,7 +83,13 @@ pub extern "C" fn report_page_rows(
 {
     let mut input = piece;
     *end = match CaptureReader::read_header(&mut input, buffer) {
-        Ok(Ok(mut reader)) => fill_rows(&mut reader, &mut input, buffer, is_set(opens_udp_tunnels), rows),
+        Ok(Ok(mut reader)) => fill_rows(
+            &mut reader,
+            &mut input,
+            buffer,
+            is_set(opens_udp_tunnels),
+            rows,
+        ),
         Ok(Err(_)) => AT_BEGINNING,
         Err(_) => PageEnd {
             status: FAILED,

@@ -10,9 +10,17 @@ loop-block-preserved c =
     let order = c.in-Ok.block.header.byte_order in
     let others = c.in-Ok.others.now in (
       c.in-Some.ensures.within,
-      (leads.0 + 1, λ more whole is. subst (λ blocks. IsHeadAfter blocks BigEndian c.args.piece.now [] whole) (omega arith)
-      (leads.1 (suc more) whole (c.in-Ok.block, others, c.in-Ok.ensures.refused, c.in-Ok.ensures.read,
-      subst (λ head. IsHeadAfter more order others head whole) c.in-Some.ensures.head is))),
+      (
+        leads.0 + 1,
+        λ more whole is. subst (λ blocks. IsHeadAfter blocks BigEndian c.args.piece.now [] whole) (omega arith)
+            (leads.1 (suc more) whole (
+              c.in-Ok.block,
+              others,
+              c.in-Ok.ensures.refused,
+              c.in-Ok.ensures.read,
+              subst (λ head. IsHeadAfter more order others head whole) c.in-Some.ensures.head is,
+            )),
+      ),
     )
 
 -- no block follows

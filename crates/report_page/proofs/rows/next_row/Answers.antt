@@ -33,9 +33,9 @@ returns-in-Ok-TooLong-clause-row g c =
 -- a block that is refused
 pub returns-in-Ok-Refused-clause-stop : goal.returns-in-Ok-Refused-clause-stop
 returns-in-Ok-Refused-clause-stop g c = (
-      c.next_packet.new.buffer,
-      omega arith,
-      Refused c.in-Ok-Refused.field-0-0,
-      reads_as _ _ _ _ _ _ _ c.in-Ok-Refused.field-0-is c.in-Ok-Refused.ensures.reads,
-      refl,
-    )
+  c.next_packet.new.buffer,
+  omega arith,
+  Refused c.in-Ok-Refused.field-0-0,
+  reads_as _ _ _ _ _ _ _ c.in-Ok-Refused.field-0-is c.in-Ok-Refused.ensures.reads,
+  refl,
+)
