@@ -1,9 +1,9 @@
 -- The line of the first packet of a piece, as the report writes it.
 use Rattle.std.specs.Prelude.{◌≡◌, ℕ, ◌==◌, Bool, true, false, List, ◌++◌, codes, length, Option, None, if◌then◌else◌}
 use Rattle.capture_file.specs.CapturePackets.{FilePacket, kept, too_long}
-use Rattle.capture_file.specs.Interfaces.{interface_of}
+use Rattle.capture_file.specs.PacketTexts.{no_packet_texts, texts_of}
 use Rattle.capture_file.specs.declared.reader.capture_reader.CaptureReader.{CaptureReader}
-use Rattle.capture_file.specs.declared.reader.packet_interface.PacketInterface.{PacketInterface}
+use Rattle.capture_file.specs.declared.reader.packet_texts.PacketTexts.{PacketTexts}
 use Rattle.capture_packet.specs.declared.packet.Packet.{Packet}
 use Rattle.capture_request.specs.Report.{IsPacketOf, info_of}
 use Rattle.capture_summary.specs.Kinds.{verdict_kind, verdict_word}
@@ -23,10 +23,10 @@ is_set flag = if flag == 0 then false else true
 abbrev pub times_of : ℕ → Times
 times_of flag = if flag == 0 then times.SinceFirst else times.Absolute
 
--- the interface in the line of a packet that was read last
-abbrev pub shown_interface : CaptureReader → FilePacket → Option PacketInterface
-shown_interface reader (kept packet frame) = interface_of reader packet.interface
-shown_interface reader (too_long packet) = None
+-- the texts in the line of a packet that was read last
+abbrev pub shown_texts : CaptureReader → FilePacket → PacketTexts
+shown_texts reader (kept packet frame) = texts_of reader packet.interface
+shown_texts reader (too_long packet) = no_packet_texts
 
 -- This is the line of the first packet of a piece. The buffer for a packet has `room` bytes.
 pub record IsFirstLine (piece : List ℕ) (room : ℕ) (request : PageLine) (line : List ℕ) : Type 0 where
@@ -37,7 +37,7 @@ pub record IsFirstLine (piece : List ℕ) (room : ℕ) (request : PageLine) (lin
   pub is_first : IsFirstPacket piece buffer reader captured
   pub packet : Packet
   pub is_packet : IsPacketOf (is_set request.opens_udp_tunnels) captured packet
-  pub is_line : IsLine (times_of request.is_absolute) (is_set request.is_verbose) request.number (shown_interface reader captured)
+  pub is_line : IsLine (times_of request.is_absolute) (is_set request.is_verbose) request.number (shown_texts reader captured)
       (time_of request.first) (info_of captured).time (info_of captured).len packet line
 
 -- the words for the verdict and the protocol of a packet, each with a line feed

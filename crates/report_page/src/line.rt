@@ -7,7 +7,7 @@ ghost use Rattle.report_page.specs.Times.{time_of};
 use crate::piece::{captured_info, first_item, is_set, too_long_info};
 use crate::text::{Text, put};
 use crate::time::{PageTime, time_of};
-use capture_file::reader::{NextPacket, PacketInterface};
+use capture_file::reader::{NextPacket, PacketTexts};
 use capture_packet::Packet;
 use capture_request::{packet_in_frame, packet_without_room};
 use capture_summary::{CaptureInfo, PacketInfo};
@@ -24,7 +24,7 @@ pub struct PageLine {
     pub first: PageTime,
     /// 0 if the line shows the time since the first packet. Otherwise it shows the date and the time of day, in UTC.
     pub is_absolute: u8,
-    /// 0 if the line does not show the hop limit, as without `--verbose`.
+    /// 0 if the line does not show the hop limit and the comments, as without `--verbose`.
     pub is_verbose: u8,
     /// 0 if tunnels in UDP are not opened, as without `--udp-tunnels`.
     pub opens_udp_tunnels: u8,
@@ -58,12 +58,13 @@ fn first_line(piece: &[u8], buffer: &mut [u8], request: &PageLine) -> Option<Tex
         NextPacket::Whole(captured) => {
             let frame = &buffer[captured.start..captured.start + captured.captured_len];
             let packet = packet_in_frame(&captured, frame, is_set(request.opens_udp_tunnels));
-            let interface = reader.interface_of(&captured);
-            written(request, interface, captured_info(&captured), &packet)
+            let texts = reader.texts_of(&captured);
+            written(request, texts, captured_info(&captured), &packet)
         }
         NextPacket::TooLong(captured) => {
             let packet = packet_without_room(captured.required_len);
-            written(request, None, too_long_info(&captured), &packet)
+            let texts = PacketTexts::new();
+            written(request, texts, too_long_info(&captured), &packet)
         }
         _ => None,
     }
@@ -72,16 +73,16 @@ fn first_line(piece: &[u8], buffer: &mut [u8], request: &PageLine) -> Option<Tex
 /// Returns the line of a packet, or `None` if the line has no room.
 fn written(
     request: &PageLine,
-    interface: Option<PacketInterface>,
+    texts: PacketTexts,
     capture: CaptureInfo,
     packet: &Packet<'_>,
 ) -> Option<Text>
-    ensures { IfSome result (λ line. IsLine (times_of request.now.is_absolute) (is_set request.now.is_verbose) request.now.number interface
+    ensures { IfSome result (λ line. IsLine (times_of request.now.is_absolute) (is_set request.now.is_verbose) request.now.number texts
         (time_of request.now.first) capture.time capture.len packet.now line.items) }
 {
     let info = PacketInfo {
         number: request.number,
-        interface,
+        texts,
         first: time_of(&request.first),
         capture,
     };

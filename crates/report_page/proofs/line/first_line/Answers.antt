@@ -1,8 +1,8 @@
-use Rattle.std.proofs.Common.{None, length, refl}
+use Rattle.std.proofs.Common.{length, refl}
 use Rattle.capture_file.specs.CapturePackets.{kept, too_long}
 use Rattle.capture_file.specs.declared.reader.next_packet.NextPacket.TheVariants.{TooLong, Whole}
 use Rattle.report_page.proofs.ReadingLemmas.{frame_of, item_as, some_follows}
-use Rattle.capture_file.specs.Interfaces.{interface_of}
+use Rattle.capture_file.specs.PacketTexts.{no_packet_texts, texts_of}
 use Rattle.capture_request.specs.Report.{captured_info, too_long_info}
 use Rattle.capture_text.specs.PacketLine.{IsLine}
 use Rattle.report_page.specs.Lines.{IsFirstLine, is_set, times_of}
@@ -14,12 +14,12 @@ pub returns-in-Whole : goal.returns-in-Whole
 returns-in-Whole c =
     let captured = c.in-Whole.captured in
     let buffer = c.first_item.new.buffer in
-    let written = rw (c.interface_of-interface.ensures, c.captured_info.ensures) at c.written.ensures in
+    let written = rw (c.texts_of-texts.ensures, c.captured_info.ensures) at c.written.ensures in
     let request = c.args.request.now in
     let info = captured_info captured in
     some_follows c.written.result
     (λ line. IsLine (times_of request.is_absolute) (is_set request.is_verbose) request.number
-    (interface_of c.in_ok-reader.reader captured.interface) (time_of request.first) info.time info.len
+    (texts_of c.in_ok-reader.reader captured.interface) (time_of request.first) info.time info.len
     c.packet_in_frame-packet.result line.items)
     (λ line. IsFirstLine c.args.piece.now (length c.args.buffer.now) c.args.request.now line.items) (λ line is. record {
       buffer = buffer;
@@ -36,12 +36,12 @@ returns-in-Whole c =
 pub returns-in-TooLong : goal.returns-in-TooLong
 returns-in-TooLong c =
     let captured = c.in-TooLong.captured in
-    let written = rw c.too_long_info.ensures at c.written-in-TooLong.ensures in
+    let written = rw (c.new-texts.ensures, c.too_long_info.ensures) at c.written-in-TooLong.ensures in
     let request = c.args.request.now in
     let info = too_long_info captured in
     some_follows c.written-in-TooLong.result
-    (λ line. IsLine (times_of request.is_absolute) (is_set request.is_verbose) request.number None (time_of request.first) info.time info.len
-    c.packet_without_room-packet.result line.items)
+    (λ line. IsLine (times_of request.is_absolute) (is_set request.is_verbose) request.number no_packet_texts (time_of request.first) info.time
+    info.len c.packet_without_room-packet.result line.items)
     (λ line. IsFirstLine c.args.piece.now (length c.args.buffer.now) c.args.request.now line.items) (λ line is. record {
       buffer = c.first_item.new.buffer;
       has_room = c.first_item.auto.buffer;
