@@ -1,6 +1,6 @@
+use Rattle.std.proofs.lemmas.Bool.Decides.{nat_tests}
 use Rattle.std.specs.Prelude.{codes}
-use Rattle.std.proofs.Common.{◌≡◌, ◌≤◌, ◌∙◌, ◌∷◌, ◌++◌, [], List, ap, arith, length, map, refl, rules, sym}
-use Rattle.capture_file.specs.declared.kept_text.KeptText.{KeptText}
+use Rattle.std.proofs.Common.{◌≡◌, ◌==◌, ◌≤◌, ◌∙◌, ◌∷◌, [], ap, arith, false, if◌then◌else◌, length, map, rules, sym}
 use Rattle.capture_file.specs.declared.packet_comments.PacketComments.{PacketComments}
 use Rattle.capture_json.specs.JsonComments.{comment_data, comments_members, more_comments_members}
 use Rattle.capture_json.specs.Members.{array_of}
@@ -9,12 +9,12 @@ use Rattle.capture_json.proofs.TokensLemmas.{listed, then_put}
 use Rattle.capture_json.proofs.comments.put_comments.Goals as goal
 
 -- the members of comments, if there are comments
-some_comments : (texts : List KeptText) (comments : PacketComments) → texts ≡ comments.texts.items → 1 ≤ length texts
+some_comments : (comments : PacketComments) → 1 ≤ length comments.texts.items
     → comments_members comments ≡ (codes "comments", array_of (map comment_data comments.texts.items)) ∷ more_comments_members comments.more
-some_comments [] comments are some = absurd (omega (arith, some))
-some_comments (text ∷ texts) comments are some =
-    ap (λ items. comments_members (record comments { texts = record { items = items } })) (sym are)
-    ∙ ap (λ items. (codes "comments", array_of (map comment_data items)) ∷ more_comments_members comments.more) are
+some_comments comments some =
+    let test : (length comments.texts.items == 0) ≡ false = grind (arith, nat_tests, some) in
+    ap (λ b. if b then []
+    else (codes "comments", array_of (map comment_data comments.texts.items)) ∷ more_comments_members comments.more) test
 
 pub returns : goal.returns
 returns c =
@@ -26,6 +26,6 @@ returns c =
     let ended = c.in_ok-end_array.ensures
     ∙ ap array_ended (pushed ∙ ap (with_items items) c.in_ok-begin_array.ensures)
     ∙ listed (codes "comments") items before in
-    then_put list (more_comments_members comments.more) before (tokens_in c.end_array.new.line) (tokens_in c.put_more.new.line) ended
+    then_put list (more_comments_members comments.more) before (tokens_in c.end_array.new.self) (tokens_in c.put_more.new.line) ended
     c.in_ok-put_more.ensures
-    ∙ sym (ap (λ members. with_members members before) (some_comments comments.texts.items comments refl (search rules)))
+    ∙ sym (ap (λ members. with_members members before) (some_comments comments (search rules)))
