@@ -1094,7 +1094,7 @@ fn long_quotes_are_cut(rt: HostRuntime) {
 
 /// "Time exceeded" about a UDP packet, which zeros extend to 128 bytes, before an extension.
 #[rattlefmt::skip]
-static EXTENDED: [u8; 59] = [
+static WITH_EXTENSION: [u8; 59] = [
     0x45, 0, 0, 0xA8, 0x12, 0x34, 0x40, 0, 0x40, 1, 0x3B, 0xC5, 0xC0, 0, 2, 0x21, 0xC6, 0x33, 0x64, 7,
     0x0B, 0, 0xE1, 0x58, 0, 0x20, 0, 0, 0x45, 0, 0, 0x1F, 0xAB, 0xCD, 0x40, 0, 1, 0x11, 0xE1, 0xA4,
     0xC6, 0x33, 0x64, 7, 0xC0, 0, 2, 0x21, 4, 0xD2, 0, 0x15, 0, 0x0B, 0x4A, 0x32, 0x61, 0x62, 0x63,
@@ -1102,7 +1102,7 @@ static EXTENDED: [u8; 59] = [
 
 /// The same error over IPv6. Its length field counts units of 8 bytes.
 #[rattlefmt::skip]
-static EXTENDED_IPV6: [u8; 99] = [
+static WITH_EXTENSION_IPV6: [u8; 99] = [
     0x60, 0, 0, 0, 0, 0x94, 0x3A, 0x3F, 0x20, 1, 0x0D, 0xB8, 0xC0, 0, 2, 0x21, 0, 0, 0, 0,
     0, 0, 0, 0, 0x20, 1, 0x0D, 0xB8, 1, 0x22, 3, 0x44, 0, 0, 0, 0, 0xC6, 0x33, 0x64, 7,
     3, 0, 0x2F, 0x0C, 0x10, 0, 0, 0, 0x60, 0, 0, 0, 0, 0x0B, 0x11, 1, 0x20, 1, 0x0D, 0xB8,
@@ -1112,7 +1112,7 @@ static EXTENDED_IPV6: [u8; 99] = [
 
 /// The error over IPv4 that it becomes, of identification BEEF.
 #[rattlefmt::skip]
-static EXTENDED_BACK: [u8; 59] = [
+static WITH_EXTENSION_BACK: [u8; 59] = [
     0x45, 0, 0, 0xA8, 0xBE, 0xEF, 0, 0, 0x3E, 1, 0xD1, 9, 0xC0, 0, 2, 0x21, 0xC6, 0x33, 0x64, 7,
     0x0B, 0, 0xE1, 0x58, 0, 0x20, 0, 0, 0x45, 0, 0, 0x1F, 0, 0, 0, 0, 1, 0x11, 0xCD, 0x72,
     0xC6, 0x33, 0x64, 7, 0xC0, 0, 2, 0x21, 4, 0xD2, 0, 0x15, 0, 0x0B, 0x4A, 0x32, 0x61, 0x62, 0x63,
@@ -1123,9 +1123,9 @@ static EXTENSION: [u8; 12] = [0x20, 0, 0x9D, 0xEF, 0, 8, 1, 1, 0, 6, 0x41, 1];
 
 #[test]
 fn extensions_are_kept(rt: HostRuntime) {
-    let packet = joined(&rt, &[&EXTENDED, &[0; 97], &EXTENSION]);
-    let over_ipv6 = joined(&rt, &[&EXTENDED_IPV6, &[0; 77], &EXTENSION]);
-    let back = joined(&rt, &[&EXTENDED_BACK, &[0; 97], &EXTENSION]);
+    let packet = joined(&rt, &[&WITH_EXTENSION, &[0; 97], &EXTENSION]);
+    let over_ipv6 = joined(&rt, &[&WITH_EXTENSION_IPV6, &[0; 77], &EXTENSION]);
+    let back = joined(&rt, &[&WITH_EXTENSION_BACK, &[0; 97], &EXTENSION]);
     let mut buffer = [0xEE; 200];
     let len = expect_ok(&rt, ipv4_to_ipv6(packet.as_slice(), &PREFIXES, &mut buffer));
     expect_bytes(&rt, bytes_to(&rt, &buffer, len), over_ipv6.as_slice());
@@ -1142,7 +1142,7 @@ fn extensions_are_kept(rt: HostRuntime) {
 /// "Packet too big" has no length field, so an extension is left out.
 #[test]
 fn extensions_are_left_out(rt: HostRuntime) {
-    let mut packet = joined(&rt, &[&EXTENDED, &[0; 97], &EXTENSION]);
+    let mut packet = joined(&rt, &[&WITH_EXTENSION, &[0; 97], &EXTENSION]);
     packet.as_mut_slice()[20..22].copy_from_slice(&[3, 4]);
     let mut buffer = [0xEE; 200];
     let outcome = ipv4_to_ipv6(packet.as_slice(), &PREFIXES, &mut buffer);

@@ -79,8 +79,8 @@ impl FileSystem for Names {
 }
 
 /// The kind of the error of a result.
-fn kind_of<T>(result: io::Result<T>) -> Option<ErrorKind> {
-    match result {
+fn kind_of<T: Drop>(outcome: io::Result<T>) -> Option<ErrorKind> {
+    match outcome {
         Ok(_) => None,
         Err(error) => Some(error.kind()),
     }

@@ -1,6 +1,7 @@
 //! Tests of the crate `timeline`.
 
 use crate::expect::{expect_at, expect_equal, expect_ok};
+use std::alloc::Global;
 use std::process::Abort;
 use timeline::{Count, Counts, Event, Fault, MAX_INTERVALS, Timeline, Transport};
 
@@ -25,16 +26,16 @@ fn add(rt: &impl Abort, timeline: &mut Timeline, event: &Event) {
 }
 
 /// The intervals of a timeline.
-fn intervals(rt: &HostRuntime, timeline: &Timeline) -> Vec<Counts> {
-    expect_ok(rt, timeline.intervals(rt.alloc()))
+fn intervals(rt: &impl Abort, alloc: Global, timeline: &Timeline) -> Vec<Counts> {
+    expect_ok(rt, timeline.intervals(alloc))
 }
 
 /// Stops the test unless the width and the number of intervals are these after a packet at time 1000 and another packet so much later.
-fn expect_width(rt: &HostRuntime, row: &(u128, u128, usize)) {
-    let mut timeline = Timeline::new(rt.alloc());
+fn expect_width(rt: &impl Abort, alloc: Global, row: &(u128, u128, usize)) {
+    let mut timeline = Timeline::new(alloc);
     add(rt, &mut timeline, &udp(Some(1000)));
     add(rt, &mut timeline, &udp(Some(1000 + row.0)));
-    let shown = intervals(rt, &timeline);
+    let shown = intervals(rt, alloc, &timeline);
     expect_at(rt, row, &timeline.width(), &row.1);
     expect_at(rt, row, &shown.len(), &row.2);
     if let Some(last) = shown.last() {
@@ -62,7 +63,7 @@ fn the_width_is_the_least_that_fits(rt: HostRuntime) {
         (u128::MAX - 1000, 2_000_000_000_000_000_000_000_000_000_000_000_000, 171),
     ];
     for row in &rows {
-        expect_width(&rt, row);
+        expect_width(&rt, rt.alloc(), row);
     }
 }
 
@@ -73,7 +74,7 @@ fn bins_keep_their_packets_if_the_unit_grows(rt: HostRuntime) {
         add(&rt, &mut timeline, &udp(Some(time)));
     }
     add(&rt, &mut timeline, &udp(Some(12_799)));
-    let shown = intervals(&rt, &timeline);
+    let shown = intervals(&rt, rt.alloc(), &timeline);
     expect_equal(&rt, &timeline.width(), &50);
     expect_equal(&rt, &shown.len(), &MAX_INTERVALS);
     for place in 0..26 {
@@ -98,7 +99,7 @@ fn protocols_and_faults_are_counted(rt: HostRuntime) {
         let event = Event { time: Some(7), len: 10, transport, fault };
         add(&rt, &mut timeline, &event);
     }
-    let shown = intervals(&rt, &timeline);
+    let shown = intervals(&rt, rt.alloc(), &timeline);
     let expected = Counts {
         udp: count(1, 10),
         tcp: count(1, 10),
@@ -115,7 +116,7 @@ fn protocols_and_faults_are_counted(rt: HostRuntime) {
 fn older_packets_and_packets_without_a_time_are_apart(rt: HostRuntime) {
     let mut timeline = Timeline::new(rt.alloc());
     expect_equal(&rt, &timeline.start(), &None);
-    expect_equal(&rt, &intervals(&rt, &timeline).len(), &0);
+    expect_equal(&rt, &intervals(&rt, rt.alloc(), &timeline).len(), &0);
     add(&rt, &mut timeline, &udp(None));
     expect_equal(&rt, &timeline.start(), &None);
     for time in [1_000, 999, 1_001, 0] {
@@ -125,7 +126,7 @@ fn older_packets_and_packets_without_a_time_are_apart(rt: HostRuntime) {
     expect_equal(&rt, &timeline.start(), &Some(1_000));
     expect_equal(&rt, &timeline.untimed().udp, &count(2, 200));
     expect_equal(&rt, &timeline.older().udp, &count(2, 200));
-    let shown = intervals(&rt, &timeline);
+    let shown = intervals(&rt, rt.alloc(), &timeline);
     expect_equal(&rt, &Counts::sum(&shown).udp, &count(2, 200));
 }
 
@@ -135,6 +136,6 @@ fn counts_saturate(rt: HostRuntime) {
     let event = Event { len: u64::MAX, ..udp(Some(3)) };
     add(&rt, &mut timeline, &event);
     add(&rt, &mut timeline, &udp(Some(3)));
-    let shown = intervals(&rt, &timeline);
+    let shown = intervals(&rt, rt.alloc(), &timeline);
     expect_equal(&rt, &shown[0].udp, &count(2, u64::MAX));
 }
