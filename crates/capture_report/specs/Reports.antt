@@ -1,6 +1,7 @@
 -- The captures that are opened for a report, and the end of a report. `IsStandard` and `Opens` are the statements of a file system about
 -- standard input, and about a name and the result of opening its file.
 use Rattle.std.specs.Prelude.{◌≡◌, ◌⊎◌, ℕ, IfOk, List, Result, Ok, Err}
+use Rattle.std.specs.Global.{Global}
 use Rattle.std.specs.Io.Buffered.{reader_inner}
 use Rattle.std.specs.IoError.{error_kind}
 use Rattle.std.specs.declared.io.buffered.BufReader.{BufReader}
@@ -16,8 +17,8 @@ use Rattle.program_files.specs.declared.input.Input.{Input}
 use Rattle.program_files.specs.declared.progress.Progress.{Progress}
 
 -- this is the input that the name requests, with a buffer and a progress line
-abbrev pub IsOpened : {G F A : Type 0} → (G → Type 0) → (List ℕ → Result F Error → Type 0) → List ℕ → BufReader (Progress (Input G F)) A
-    → Type 0
+abbrev pub IsOpened : {G F : Type 0} → (G → Type 0) → (List ℕ → Result F Error → Type 0) → List ℕ
+    → BufReader (Progress (Input G F)) Global → Type 0
 IsOpened IsStandard Opens name input = IsRequestedBy IsStandard Opens name (inner_of (reader_inner input))
 
 -- no input is opened by the name, because of an error of the operating system, a name that is not UTF-8, or because no memory is left
