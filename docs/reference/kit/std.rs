@@ -29,7 +29,7 @@ pub mod clone {
 }
 
 pub mod cmp {
-    pub use core::cmp::Ordering;
+    pub use core::cmp::{Ordering, min};
 
     pub trait PartialEq<Rhs: ?Sized = Self> {
         fn eq(&self, other: &Rhs) -> bool;
