@@ -5,6 +5,7 @@ import re
 import tempfile
 
 from ..build import IPV4, RAW, capture, ipv4, udp
+from .files import files_table
 from .report import lines_of, run
 
 
@@ -108,6 +109,7 @@ def check_pairs(tally):
 def check_long_words(tally):
     """An argument of as many bytes as Linux accepts, and more than 64 arguments."""
     packet = capture(RAW, [ipv4(17, udp(IPV4, b"abc"))])
+    row = files_table([{"file": "-", "packets": 1, "bytes": len(ipv4(17, udp(IPV4, b"abc"))), "wrong": 0, "refused": 0}]).encode()
     for length in (100_000, 131_071):
         name = "x" * length
         done = run(packet, "--host", name)
@@ -115,7 +117,7 @@ def check_long_words(tally):
                      (2, b"", True))
         done = run(packet, "--summary", name, "-")
         tally.expect(f"a file name of {length} bytes", (done.returncode, done.stdout, done.stderr.decode()),
-                     (3, run(packet, "--summary").stdout, f"capture_report: {name}: File name too long (os error 36)\n"))
+                     (3, run(packet, "--summary").stdout + row, f"capture_report: {name}: File name too long (os error 36)\n"))
     with tempfile.TemporaryDirectory() as room:
         names = [f"{number}.pcap" for number in range(70)]
         for name in names:

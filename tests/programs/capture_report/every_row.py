@@ -143,8 +143,9 @@ def check_every_row(tally):
     for title, rows in (("link type", [*links, "another link type", "unknown"]), ("refused", refused), ("protocol", protocols)):
         tally.expect(f"rows of the table {title}", sorted(table_of(text, title)), sorted(map(with_underscores, rows)))
     tally.expect("rows of the table checksum", len(table_of(text, "checksum")), len(tables["In the line"]))
-    # The capture has no texts; check_texts, check_interfaces and check_comments read some.
-    texts = {"application", "operating_system", "hardware", "comment", "packets_with_comment", "interface_name", "comments", "more_comments"}
+    # It is one capture without texts; check_texts, check_interfaces and check_comments read some, and check_rows reads several captures.
+    texts = {"application", "operating_system", "hardware", "comment", "packets_with_comment", "interface_name", "comments", "more_comments",
+             "files", "other_files"}
     for table, cell in (("Frame", 2), ("In the line", 1), ("Member of a packet", 0), ("Member of the summary", 0)):
         for name in (name.strip('"') for row in tables[table] for name in quoted_texts(row[cell])):
             tally.expect(f"JSON has {name}", f'"{name}' in members or name.startswith("..") or name in texts, True)
