@@ -469,20 +469,39 @@ def fragments_of_1280(answer):
             struct.pack(">BBHI", answer[6], 0, offset | more, IDENTIFICATION) + part for offset, more, part in parts]
 
 
+def with_message_checksum(answer, message):
+    """An ICMP message with its checksum between the ends of this packet."""
+    at = message_at(answer)
+    packed_ends = answer[12:20] if at == 20 else answer[8:40]
+    half = len(packed_ends) // 2
+    ends = Ends(*(str(ipaddress.ip_address(it)) for it in (packed_ends[:half], packed_ends[half:])))
+    return with_checksum(ends, ICMP if at == 20 else ICMPV6, message, 2)
+
+
 def with_mtu(mtu):
     def changed(answer):
         at = message_at(answer)
-        packed_ends = answer[12:20] if at == 20 else answer[8:40]
-        half = len(packed_ends) // 2
-        ends = Ends(*(str(ipaddress.ip_address(it)) for it in (packed_ends[:half], packed_ends[half:])))
         message = answer[at:at + 4] + struct.pack(">I", mtu) + answer[at + 8:]
-        return [answer[:at] + with_checksum(ends, ICMP if at == 20 else ICMPV6, message, 2)]
+        return [answer[:at] + with_message_checksum(answer, message)]
     return changed
 
 
 def of_576_bytes(answer):
     """An ICMP error without what follows, which are zeros."""
     return [with_dont_fragment(answer[:2] + struct.pack(">H", 576) + answer[4:20]) + answer[20:576]]
+
+
+def without_extension(answer):
+    """An ICMP error without its length field, its extension, and the zeros before it."""
+    at = message_at(answer)
+    quoted = answer[at + 8:]
+    length, = struct.unpack(">H", quoted[2:4] if at == 20 else quoted[4:6])
+    quoted = quoted[:length if at == 20 else 40 + length]
+    if at == 20:
+        header = with_dont_fragment(answer[:2] + struct.pack(">H", 28 + len(quoted)) + answer[4:20])
+    else:
+        header = answer[:4] + struct.pack(">H", 8 + len(quoted)) + answer[6:40]
+    return [header + with_message_checksum(answer, answer[at:at + 4] + bytes(4) + quoted)]
 
 
 class Difference(NamedTuple):
@@ -529,8 +548,8 @@ DIFFERENCES = [
     Difference(6, "an error about (a later|an atomic) fragment", TRANSLATES, "section 5.3: the library refuses a quoted extension header"),
     Difference(6, "an error about hop-by-hop options", TRANSLATES, "section 5.3: the library refuses a quoted extension header"),
     Difference(6, "an error about 1400 bytes, 1408 bytes", of_576_bytes, "RFC 1812, section 4.3.2.3; RFC 7915 states no longest error"),
-    Difference(4, "an error with an extension", TRANSLATES, "section 4.2: tayga leaves the extension out; the library refuses it"),
-    Difference(6, "an error with an extension", TRANSLATES, "section 5.2: tayga leaves the extension out; the library refuses it"),
+    Difference(4, "an error with an extension", without_extension, "section 4.2: the extension is kept; tayga leaves it out"),
+    Difference(6, "an error with an extension", without_extension, "section 5.2: the extension is kept; tayga leaves it out"),
     Difference(4, "a wrong checksum in an error", DROPS, "section 4.2: the library keeps a wrong checksum wrong, so the receiver drops it"),
     Difference(6, "a wrong checksum in an error", DROPS, "section 5.2: the library keeps a wrong checksum wrong, so the receiver drops it"),
 ]
