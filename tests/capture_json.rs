@@ -5,17 +5,16 @@ use crate::packets::OVER_IPV4;
 use crate::summaries::{first_info, flow_of_ipv4, judge, new_summary, refuse};
 use capture_file::pcapng::TimeResolution;
 use capture_file::reader::PacketInterface;
-use capture_file::{LinkType, PacketTime};
+use capture_file::{KeptText, LinkType, PacketTime};
 use capture_json::{Captures, write_packet, write_summary};
 use capture_packet::{
-    Arp, ArpAddresses, Content, FragmentFields, HopLimit, Identification, NetworkKind, NetworkProtocol, Packet,
-    Refusal, Transport, Tunnel, Verdict, VirtualNetwork,
+    Arp, ArpAddresses, Content, FragmentFields, HopLimit, Identification, NetworkKind,
+    NetworkProtocol, Packet, Refusal, Transport, Tunnel, Verdict, VirtualNetwork,
 };
 use capture_summary::{
     Busiest, CaptureInfo, Count, FileCount, FileTable, FrameLen, MAX_FILES, Protocol, RefusalKind,
     Summary, VerdictKind,
 };
-use capture_file::KeptText;
 use capture_words::Times;
 use etherparse_transport::ip::{IpAddresses, IpError};
 use etherparse_transport::{
@@ -171,12 +170,7 @@ static COMMENTS: [(&[&[u8]], u64, &str); 4] = [
 ];
 
 /// Stops the test unless the object of a packet with these comments has these members.
-fn expect_comments(
-    rt: &(impl Abort + AllocGlobal),
-    comments: &[&[u8]],
-    more: u64,
-    members: &str,
-) {
+fn expect_comments(rt: &(impl Abort + AllocGlobal), comments: &[&[u8]], more: u64, members: &str) {
     let mut info = first_info(None, None);
     for comment in comments {
         let text = KeptText::new(comment);
@@ -187,7 +181,8 @@ fn expect_comments(
     let mut line = Vec::new(rt.alloc());
     let written = write_packet(&mut line, rt.alloc(), Times::SinceFirst, &info, &packet);
     expect_ok(rt, written);
-    let before = r#"{"type":"packet","number":1,"time":null,"checksum":"not_looked_at","reason":"cut_off""#;
+    let before =
+        r#"{"type":"packet","number":1,"time":null,"checksum":"not_looked_at","reason":"cut_off""#;
     expect_all_written(rt, &line, &[before, members, "}\n"]);
 }
 
@@ -687,9 +682,17 @@ fn files_without_a_row(rt: HostRuntime) {
     for _ in 1..MAX_FILES {
         append(&rt, &mut rows, row.as_bytes());
     }
-    append(&rt, &mut rows, b"{\"file\":\"a\",\"packets\":0,\"bytes\":0,\"wrong\":0,\"refused\":0}]");
+    append(
+        &rt,
+        &mut rows,
+        b"{\"file\":\"a\",\"packets\":0,\"bytes\":0,\"wrong\":0,\"refused\":0}]",
+    );
     files.add("b", OF_FILE);
     files.add("c", OF_FILE);
-    append(&rt, &mut rows, b",\"other_files\":{\"files\":2,\"packets\":6,\"bytes\":196,\"wrong\":4,\"refused\":2}}\n");
+    append(
+        &rt,
+        &mut rows,
+        b",\"other_files\":{\"files\":2,\"packets\":6,\"bytes\":196,\"wrong\":4,\"refused\":2}}\n",
+    );
     expect_files(&rt, &files, expect_ok(&rt, std::str::from_utf8(&rows)));
 }

@@ -810,7 +810,11 @@ fn fragments_are_refused(rt: HostRuntime) {
     let mut udp = joined(&rt, &[FRAGMENTS[0].0]);
     udp.as_mut_slice()[26..28].copy_from_slice(&[0, 0]);
     let outcome = ipv4_to_ipv6(udp.as_slice(), &PREFIXES, &mut buffer);
-    expect_equal(&rt, &outcome, &Err(PacketTranslationError::FragmentChecksum));
+    expect_equal(
+        &rt,
+        &outcome,
+        &Err(PacketTranslationError::FragmentChecksum),
+    );
     // ICMP, with the checksum of the header.
     udp.as_mut_slice()[9..12].copy_from_slice(&[1, 0x5B, 0x90]);
     let outcome = ipv4_to_ipv6(udp.as_slice(), &PREFIXES, &mut buffer);
@@ -1136,7 +1140,11 @@ fn extensions_are_kept(rt: HostRuntime) {
     let mut wrong = joined(&rt, &[packet.as_slice()]);
     wrong.as_mut_slice()[25] = 36;
     let outcome = ipv4_to_ipv6(wrong.as_slice(), &PREFIXES, &mut buffer);
-    expect_equal(&rt, &outcome, &Err(PacketTranslationError::IcmpExtension(36)));
+    expect_equal(
+        &rt,
+        &outcome,
+        &Err(PacketTranslationError::IcmpExtension(36)),
+    );
 }
 
 /// "Packet too big" has no length field, so an extension is left out.

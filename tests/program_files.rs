@@ -33,7 +33,9 @@ struct Names {
 
 impl FileSystem for Names {
     type Standard = &'static [u8];
+
     type File = &'static [u8];
+
     type Created = Vec<u8>;
 
     ghost is_standard = { λ names stdin. Unit {0} };
@@ -174,6 +176,11 @@ fn only_long_files_have_a_progress_line(rt: HostRuntime) {
         (100_000_001, true, true, false),
     ] {
         let shown = is_shown(len, is_terminal, lines_on_terminal);
-        expect_at(&rt, &(len, is_terminal, lines_on_terminal), &shown, &is_long);
+        expect_at(
+            &rt,
+            &(len, is_terminal, lines_on_terminal),
+            &shown,
+            &is_long,
+        );
     }
 }

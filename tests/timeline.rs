@@ -59,8 +59,16 @@ fn the_width_is_the_least_that_fits(rt: HostRuntime) {
         (12_799, 50, 256),
         (12_800, 100, 129),
         (3_600_000_000_000, 20_000_000_000, 181),
-        (u128::from(u64::MAX) * 1_000_000_000, 100_000_000_000_000_000_000_000_000, 185),
-        (u128::MAX - 1000, 2_000_000_000_000_000_000_000_000_000_000_000_000, 171),
+        (
+            u128::from(u64::MAX) * 1_000_000_000,
+            100_000_000_000_000_000_000_000_000,
+            185,
+        ),
+        (
+            u128::MAX - 1000,
+            2_000_000_000_000_000_000_000_000_000_000_000_000,
+            171,
+        ),
     ];
     for row in &rows {
         expect_width(&rt, rt.alloc(), row);
@@ -79,7 +87,12 @@ fn bins_keep_their_packets_if_the_unit_grows(rt: HostRuntime) {
     expect_equal(&rt, &shown.len(), &MAX_INTERVALS);
     for place in 0..26 {
         let packets = if place < 25 { 50 } else { 30 };
-        expect_at(&rt, &place, &shown[place].udp, &count(packets, packets * 100));
+        expect_at(
+            &rt,
+            &place,
+            &shown[place].udp,
+            &count(packets, packets * 100),
+        );
     }
     expect_equal(&rt, &shown[26], &Counts::NONE);
     expect_equal(&rt, &shown[255].udp, &count(1, 100));
@@ -96,7 +109,12 @@ fn protocols_and_faults_are_counted(rt: HostRuntime) {
     ];
     let mut timeline = Timeline::new(rt.alloc());
     for (transport, fault) in rows {
-        let event = Event { time: Some(7), len: 10, transport, fault };
+        let event = Event {
+            time: Some(7),
+            len: 10,
+            transport,
+            fault,
+        };
         add(&rt, &mut timeline, &event);
     }
     let shown = intervals(&rt, rt.alloc(), &timeline);
@@ -133,7 +151,10 @@ fn older_packets_and_packets_without_a_time_are_apart(rt: HostRuntime) {
 #[test]
 fn counts_saturate(rt: HostRuntime) {
     let mut timeline = Timeline::new(rt.alloc());
-    let event = Event { len: u64::MAX, ..udp(Some(3)) };
+    let event = Event {
+        len: u64::MAX,
+        ..udp(Some(3))
+    };
     add(&rt, &mut timeline, &event);
     add(&rt, &mut timeline, &udp(Some(3)));
     let shown = intervals(&rt, rt.alloc(), &timeline);

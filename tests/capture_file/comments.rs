@@ -8,8 +8,7 @@ const BEGINNING: &[u8] =
     b"\x0A\x0D\x0D\x0A\x1C\0\0\0M\x3C\x2B\x1A\x01\0\0\0\xFF\xFF\xFF\xFF\xFF\xFF\xFF\xFF\x1C\0\0\0\x01\0\0\0\x14\0\0\0\x01\0\0\0\0\0\0\0\x14\0\0\0";
 
 /// An empty packet without options.
-const BARE: &[u8] =
-    b"\x06\0\0\0\x20\0\0\0\0\0\0\0\0\0\0\0\0\0\0\0\0\0\0\0\0\0\0\0\x20\0\0\0";
+const BARE: &[u8] = b"\x06\0\0\0\x20\0\0\0\0\0\0\0\0\0\0\0\0\0\0\0\0\0\0\0\0\0\0\0\x20\0\0\0";
 
 /// A packet of one byte with an option of code 2, the comment `a`, an empty comment, the end of the options, and a comment after the
 /// end.
@@ -21,12 +20,10 @@ const OBSOLETE: &[u8] =
     b"\x02\0\0\0\x28\0\0\0\0\0\xFF\xFF\0\0\0\0\0\0\0\0\0\0\0\0\0\0\0\0\x01\0\x03\0old\0\x28\0\0\0";
 
 /// An empty packet in a simple packet block.
-const SIMPLE: &[u8] =
-    b"\x03\0\0\0\x10\0\0\0\0\0\0\0\x10\0\0\0";
+const SIMPLE: &[u8] = b"\x03\0\0\0\x10\0\0\0\0\0\0\0\x10\0\0\0";
 
 /// A block of another type.
-const OTHER: &[u8] =
-    b"\x07\0\0\0\x0C\0\0\0\x0C\0\0\0";
+const OTHER: &[u8] = b"\x07\0\0\0\x0C\0\0\0\x0C\0\0\0";
 
 /// The blocks after the beginning of a file, the comments of its last packet, and the number of packets with a comment.
 type CommentRow = (&'static [&'static [u8]], &'static [&'static [u8]], u64);
@@ -92,7 +89,12 @@ fn first_comments_of_many(rt: HostRuntime) {
         texts.note(ByteOrder::LittleEndian, 6, &body);
         let comments = &texts.packet_comments;
         expect_at(&rt, &count, &comments.texts.len(), &count.min(4));
-        expect_at(&rt, &count, &comments.more, &(count.saturating_sub(4) as u64));
+        expect_at(
+            &rt,
+            &count,
+            &comments.more,
+            &(count.saturating_sub(4) as u64),
+        );
         expect_bytes(&rt, comments.texts.as_slice()[0].bytes.as_slice(), b"b");
         append(&rt, &mut body, COMMENT);
     }

@@ -19,12 +19,10 @@ const DROPPED: &[u8] =
     b"\x01\0\0\0\x01\0\0\0\x02\0\0\0\x04\0\x04\0\x09\0\0\0\x05\0\x08\0\0\0\0\0\x01\0\0\0";
 
 /// The statistics of interface 0 without a number.
-const NONE: &[u8] =
-    b"\0\0\0\0\x01\0\0\0\x02\0\0\0";
+const NONE: &[u8] = b"\0\0\0\0\x01\0\0\0\x02\0\0\0";
 
 /// The statistics of an interface that is not described.
-const OF_THIRD: &[u8] =
-    b"\x02\0\0\0\x01\0\0\0\x02\0\0\0\x05\0\x08\0\x07\0\0\0\0\0\0\0";
+const OF_THIRD: &[u8] = b"\x02\0\0\0\x01\0\0\0\x02\0\0\0\x05\0\x08\0\x07\0\0\0\0\0\0\0";
 
 /// The numbers that the statistics of an interface state.
 type Counts = (Option<u64>, Option<u64>, Option<u64>);
@@ -43,7 +41,11 @@ static ROWS: [(&[&[u8]], [Counts; 2]); 6] = [
 
 /// The numbers of these statistics.
 fn counts_of(statistics: InterfaceStatistics) -> Counts {
-    (statistics.received, statistics.dropped, statistics.dropped_by_system)
+    (
+        statistics.received,
+        statistics.dropped,
+        statistics.dropped_by_system,
+    )
 }
 
 #[test]

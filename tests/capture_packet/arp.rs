@@ -2,8 +2,8 @@
 
 use super::packet::OTHER_PROTOCOL;
 use crate::expect::{expect_at, joined};
-use capture_packet::{Arp, ArpAddresses, Content, NetworkProtocol, Packet, read_packet};
 use capture_numbers::{ByteOrder, LinkType};
+use capture_packet::{Arp, ArpAddresses, Content, NetworkProtocol, Packet, read_packet};
 use std::process::Abort;
 
 /// The addresses of `SENDER` and `TARGET`.
@@ -70,6 +70,12 @@ fn arp_packets(rt: HostRuntime) {
 fn other_protocols_are_not_arp(rt: HostRuntime) {
     let rarp = [2, 0, 0, 0, 0, 2, 2, 0, 0, 0, 0, 1, 0x80, 0x35];
     let frame = joined(&rt, &[&rarp, &[0, 1, 8, 0, 6, 4, 0, 3], &SENDER, &TARGET]);
-    let packet = read_packet(LinkType::Ethernet, ByteOrder::BigEndian, &frame, false, false);
+    let packet = read_packet(
+        LinkType::Ethernet,
+        ByteOrder::BigEndian,
+        &frame,
+        false,
+        false,
+    );
     expect_at(&rt, &frame, &packet.arp, &None);
 }

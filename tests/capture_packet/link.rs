@@ -2,8 +2,8 @@
 
 use crate::expect::{bytes_to, expect_at, joined};
 use crate::packets::{IPV4_UDP, UDP_OVER_IPV4};
-use capture_packet::{Frame, LinkHeaderCutOff, NetworkBytes, NetworkProtocol, network_packet};
 use capture_numbers::{ByteOrder, LinkType};
+use capture_packet::{Frame, LinkHeaderCutOff, NetworkBytes, NetworkProtocol, network_packet};
 use std::process::Abort;
 
 /// LLC and SNAP headers with the ether type of IPv4 (RFC 1042).

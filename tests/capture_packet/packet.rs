@@ -1,9 +1,9 @@
 use crate::expect::{append, expect_at, expect_equal, expect_ok, joined};
 use crate::packets::{IPV4_UDP, UDP_OVER_IPV4};
 use capture_file::{ByteOrder, LinkType};
-use capture_packet::LinkHeaderCutOff;
 use capture_packet::{
-    Arp, Content, HopLimit, NetworkProtocol, Packet, Refusal, Transport, Verdict, read_packet,
+    Arp, Content, HopLimit, LinkHeaderCutOff, NetworkProtocol, Packet, Refusal, Transport, Verdict,
+    read_packet,
 };
 use etherparse_transport::err::tcp::{HeaderError, HeaderSliceError};
 use etherparse_transport::err::{Layer, LenError};

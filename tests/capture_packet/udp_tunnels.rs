@@ -1,10 +1,11 @@
 use super::packet::{OTHER_PROTOCOL, RIGHT, over_ipv4};
 use crate::expect::{append, expect_at, expect_equal, expect_ok, joined};
 use crate::packets::{IPV4_UDP, UDP_OVER_IPV4};
-use capture_packet::{
-    Arp, ArpAddresses, Content, HopLimit, NetworkKind, NetworkProtocol, Packet, Tunnel, Verdict, VirtualNetwork, read_packet,
-};
 use capture_file::{ByteOrder, LinkType};
+use capture_packet::{
+    Arp, ArpAddresses, Content, HopLimit, NetworkKind, NetworkProtocol, Packet, Tunnel, Verdict,
+    VirtualNetwork, read_packet,
+};
 use etherparse_transport::ip::IpAddresses;
 use etherparse_transport::{IpNumber, TransportSlice, UdpSlice, Untested, ip_number};
 use std::process::Abort;
@@ -46,12 +47,40 @@ fn datagram_to(
     parts: &[&[u8]],
 ) -> Vec<u8> {
     let payload = joined(rt, parts);
-    let len = u8::try_from(payload.len()).unwrap_or(u8::MAX).saturating_add(missing_len);
+    let len = u8::try_from(payload.len())
+        .unwrap_or(u8::MAX)
+        .saturating_add(missing_len);
     let [high, low] = port.to_be_bytes();
     let (datagram_len, total_len) = (len.saturating_add(8), len.saturating_add(28));
     let header = [
-        0x45, 0, 0, total_len, 0, 1, 0, 0, 9, 17, 0, 0, 192, 0, 2, 1, 192, 0, 2, 2, 0xC0, 0, high,
-        low, 0, datagram_len, 0, 0,
+        0x45,
+        0,
+        0,
+        total_len,
+        0,
+        1,
+        0,
+        0,
+        9,
+        17,
+        0,
+        0,
+        192,
+        0,
+        2,
+        1,
+        192,
+        0,
+        2,
+        2,
+        0xC0,
+        0,
+        high,
+        low,
+        0,
+        datagram_len,
+        0,
+        0,
     ];
     let mut packet = joined(rt, &[&header]);
     append(rt, &mut packet, payload.as_slice());
@@ -95,7 +124,12 @@ fn expect_open(rt: &(impl Abort + AllocGlobal), row: &OpenRow) {
     expect_at(rt, row, &packet.content, &content);
     expect_at(rt, row, &packet.verdict, &RIGHT);
     expect_at(rt, row, &packet.hop_limit, &Some(HopLimit::Ipv4(64)));
-    expect_at(rt, row, &packet.tunnels.as_slice(), &[tunnel_of(kind)].as_slice());
+    expect_at(
+        rt,
+        row,
+        &packet.tunnels.as_slice(),
+        &[tunnel_of(kind)].as_slice(),
+    );
     let closed = read_packet(LinkType::RawIp, ByteOrder::BigEndian, &frame, false, false);
     expect_at(rt, row, &closed.tunnels.len(), &0);
 }
@@ -130,7 +164,13 @@ fn expect_closed(rt: &(impl Abort + AllocGlobal), row: &ClosedRow) {
     let frame = datagram_to(rt, port, missing_len, parts);
     let packet = read(&frame);
     expect_at(rt, row, &packet.tunnels.len(), &0);
-    let is_udp = matches!(packet.content, Content::Ip { protocol: IpNumber(17), .. });
+    let is_udp = matches!(
+        packet.content,
+        Content::Ip {
+            protocol: IpNumber(17),
+            ..
+        }
+    );
     expect_at(rt, row, &is_udp, &true);
 }
 
@@ -156,20 +196,39 @@ fn an_arp_packet_in_vxlan(rt: HostRuntime) {
         addresses,
     };
     expect_equal(&rt, &packet.arp, &Some(arp));
-    expect_equal(&rt, &packet.content, &Content::NotIp(NetworkProtocol::EtherType(0x0806)));
+    expect_equal(
+        &rt,
+        &packet.content,
+        &Content::NotIp(NetworkProtocol::EtherType(0x0806)),
+    );
     expect_equal(&rt, &packet.verdict, &OTHER_PROTOCOL);
-    expect_equal(&rt, &packet.tunnels.as_slice(), &[tunnel_of(NetworkKind::Vxlan)].as_slice());
+    expect_equal(
+        &rt,
+        &packet.tunnels.as_slice(),
+        &[tunnel_of(NetworkKind::Vxlan)].as_slice(),
+    );
 }
 
 /// The bytes of the inner packet that are missing, and the verdict on it.
 static CUTS: [(usize, Verdict); 2] = [
-    (1, Verdict::Checksum(etherparse_transport::ChecksumVerdict::Untested(Untested::CutOff))),
-    (11, Verdict::Checksum(etherparse_transport::ChecksumVerdict::Untested(Untested::CutOff))),
+    (
+        1,
+        Verdict::Checksum(etherparse_transport::ChecksumVerdict::Untested(Untested::CutOff)),
+    ),
+    (
+        11,
+        Verdict::Checksum(etherparse_transport::ChecksumVerdict::Untested(Untested::CutOff)),
+    ),
 ];
 
 #[test]
 fn packets_in_cut_udp_tunnels(rt: HostRuntime) {
-    let frame = datagram_to(&rt, 4789, 0, &[&VXLAN, &ETHERNET, &IPV4_UDP, &UDP_OVER_IPV4]);
+    let frame = datagram_to(
+        &rt,
+        4789,
+        0,
+        &[&VXLAN, &ETHERNET, &IPV4_UDP, &UDP_OVER_IPV4],
+    );
     for (missing, verdict) in &CUTS {
         let packet = read(crate::expect::bytes_to(&rt, &frame, frame.len() - missing));
         expect_at(&rt, missing, &packet.verdict, verdict);

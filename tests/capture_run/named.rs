@@ -388,7 +388,8 @@ const OF_ONE_FILE: &str = "
           1                29           0           0 right
 ";
 
-const FILE_OBJECTS: &str = r#","packets_of_other_flows":{"packets":0,"bytes":0},"files":[{"file":"right","packets":1,"bytes":29,"wrong":0,"refused":0},{"file":"wrong","packets":1,"bytes":29,"wrong":1,"refused":0}]}
+const FILE_OBJECTS: &str =
+    r#","packets_of_other_flows":{"packets":0,"bytes":0},"files":[{"file":"right","packets":1,"bytes":29,"wrong":0,"refused":0},{"file":"wrong","packets":1,"bytes":29,"wrong":1,"refused":0}]}
 "#;
 
 /// Stops the test unless the output of a row ends with the text of the row.

@@ -64,7 +64,11 @@ fn the_rows_of_a_table_of_files(rt: HostRuntime) {
         expect_at(&rt, &number, &row.count.all.packets, &(number as u64));
     }
     expect_equal(&rt, &files.rows().len(), &MAX_FILES);
-    expect_equal(&rt, &(files.other_files(), files.others()), &(0, FileCount::NONE));
+    expect_equal(
+        &rt,
+        &(files.other_files(), files.others()),
+        &(0, FileCount::NONE),
+    );
     files.add("b", count_of(4, 3, 2, 1));
     files.add("c", count_of(u64::MAX, u64::MAX - 3, 1, 1));
     expect_equal(&rt, &files.rows().len(), &MAX_FILES);

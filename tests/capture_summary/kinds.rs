@@ -2,8 +2,7 @@
 
 use crate::expect::expect_at;
 use capture_file::LinkType;
-use capture_packet::LinkHeaderCutOff;
-use capture_packet::{Refusal, Verdict};
+use capture_packet::{LinkHeaderCutOff, Refusal, Verdict};
 use capture_summary::{LinkKind, RefusalKind, VerdictKind};
 use etherparse_transport::err::tcp::{HeaderError, HeaderSliceError};
 use etherparse_transport::err::{Layer, LenError, LenSource};

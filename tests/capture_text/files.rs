@@ -36,7 +36,8 @@ const HEAD: &str = "
 
 const ROW: &str = "          3                98           2           1 a.pcap\n";
 
-const OTHERS: &str = "18446744073709551615 18446744073709551615 18446744073709551615 18446744073709551615 other captures: 2\n";
+const OTHERS: &str =
+    "18446744073709551615 18446744073709551615 18446744073709551615 18446744073709551615 other captures: 2\n";
 
 /// Stops the test unless the text of a table is this text.
 fn expect_table(rt: &(impl Abort + AllocGlobal), files: &FileTable<'_>, wanted: &str) {

@@ -2,14 +2,14 @@ use super::{expect_line, expect_line_of, expect_transport, expect_verdict, line_
 use crate::expect::{expect_all_written, expect_ok, expect_some, expect_written};
 use crate::packets::{OVER_IPV4, OVER_IPV6};
 use crate::summaries::first_info;
+use capture_file::KeptText;
 use capture_file::reader::PacketInterface;
-use capture_packet::LinkHeaderCutOff;
 use capture_packet::{
-    Content, HopLimit, NetworkKind, NetworkProtocol, Packet, Refusal, Transport, Tunnel, Verdict, VirtualNetwork,
+    Content, HopLimit, LinkHeaderCutOff, NetworkKind, NetworkProtocol, Packet, Refusal, Transport,
+    Tunnel, Verdict, VirtualNetwork,
 };
 use capture_summary::FrameLen;
 use capture_text::write_packet_line;
-use capture_file::KeptText;
 use capture_words::Times;
 use etherparse_transport::err::tcp::{HeaderError, HeaderSliceError};
 use etherparse_transport::err::{Layer, LenError, LenSource};

@@ -1,12 +1,11 @@
 //! Tests of the facts of a capture as text.
 
 use crate::expect::{expect_ok, expect_some, expect_written};
-use capture_words::write_facts;
-use capture_file::ByteOrder;
 use capture_file::classic::{CaptureHeader, Resolution};
 use capture_file::pcapng::{InterfaceDescription, TimeResolution};
 use capture_file::reader::{CaptureReader, ClassicReader, PcapngReader, Section};
-use capture_file::FileTexts;
+use capture_file::{ByteOrder, FileTexts};
+use capture_words::write_facts;
 use std::process::Abort;
 
 /// Stops the test unless the facts of the capture are this text.
