@@ -304,7 +304,11 @@ function readPieces(chunkLen, isLast) {
         }
         most = Math.min(ROWS, most * 2);
         const kept = keepRows(head, at, capture.offset, end.count);
-        if (end.status === Status.REFUSED) return endWith(refusalText(head, at + kept, capture.offset + kept, chunkEnd));
+        if (end.status === Status.REFUSED) {
+            // Interfaces that are described before the last row count too.
+            const lastHead = kept === 0 ? head : headAfter(pieceAt, head.length + kept, end.isPcapng);
+            return endWith(refusalText(lastHead, at + kept, capture.offset + kept, chunkEnd));
+        }
         if (isNewHead) capture.head = capture.heads.push(nextHead) - 1;
         at += end.offset - head.length;
         capture.offset += end.offset - head.length;
