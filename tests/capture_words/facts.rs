@@ -4,7 +4,7 @@ use crate::expect::{expect_ok, expect_some, expect_written};
 use capture_file::classic::{CaptureHeader, Resolution};
 use capture_file::pcapng::{InterfaceDescription, TimeResolution};
 use capture_file::reader::{CaptureReader, ClassicReader, PcapngReader, Section};
-use capture_file::{ByteOrder, FileTexts};
+use capture_file::{ByteOrder, FileTexts, InterfaceStatistics};
 use capture_words::write_facts;
 use std::process::Abort;
 
@@ -140,4 +140,25 @@ fn texts_of_a_pcapng_file(rt: HostRuntime) {
     texts.note(ByteOrder::LittleEndian, SECTION_HEADER, &SECTION);
     texts.note(ByteOrder::LittleEndian, INTERFACE_DESCRIPTION, &INTERFACE);
     expect_file(&rt, section, texts, OF_TEXTS);
+}
+
+/// The lines of a section with two interfaces. The last statistics of interface 0 state three numbers, and those of interface 1 state one.
+const OF_STATISTICS: &str =
+    "file type pcapng, byte order little-endian, interfaces 2\ninterface 0, snap length 0, time resolution 10^-6 s\ninterface 0 packets received 1000\ninterface 0 packets dropped 0\ninterface 0 packets dropped by the operating system 3\ninterface 1, snap length 0, time resolution 10^-6 s\ninterface 1 packets dropped 7\n";
+
+#[test]
+fn statistics_of_interfaces(rt: HostRuntime) {
+    let mut section = Section::new(ByteOrder::LittleEndian);
+    let mut texts = FileTexts::new();
+    for _ in 0..2 {
+        push_interface(&rt, &mut section, 0, TimeResolution::PowerOfTen(6));
+        texts.note(ByteOrder::LittleEndian, INTERFACE_DESCRIPTION, &[0; 8]);
+    }
+    texts.interfaces.as_mut_slice()[0].statistics = InterfaceStatistics {
+        received: Some(1000),
+        dropped: Some(0),
+        dropped_by_system: Some(3),
+    };
+    texts.interfaces.as_mut_slice()[1].statistics.dropped = Some(7);
+    expect_file(&rt, section, texts, OF_STATISTICS);
 }

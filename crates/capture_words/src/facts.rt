@@ -15,7 +15,7 @@ use std::io::Write;
 
 /// Writes the facts of a capture, or nothing if there is no capture. The facts of a classic capture are its file type, byte order, snap
 /// length and time resolution. The facts of a pcapng file are its file type, byte order, number of interfaces and texts. They also contain
-/// the snap length, the time resolution and the texts of each interface.
+/// the snap length, the time resolution, the texts and the statistics of each interface.
 ///
 /// `capture` is the reader after it has read the packets. In a pcapng file, only the last section that was read counts, with the interfaces
 /// that were described so far.

@@ -26,7 +26,7 @@ pub struct PageLine {
     pub is_absolute: u8,
     /// 0 if the line does not show the hop limit and the comments, as without `--verbose`.
     pub is_verbose: u8,
-    /// 0 if tunnels in UDP are not opened, as without `--udp-tunnels`.
+    /// 0 if tunnels in UDP are not opened, as without `--tunnels`.
     pub opens_udp_tunnels: u8,
 }
 

@@ -137,13 +137,16 @@ def statistics_of(number, counts, order="<"):
 
 
 def check_statistics(tally):
-    """The newest statistics of each interface, in JSON. Capinfos shows how many statistics each interface has."""
+    """The newest statistics of each interface, in text and in JSON. Capinfos shows how many statistics each interface has."""
     labels = {4: "received", 5: "dropped", 7: "dropped by the operating system"}
     for order in "<>":
         file = section_with(b"", order) + interface_with(b"", order) * 3
         blocks = [(0, [(4, 10), (5, 1), (7, 2)]), (2, [(5, 2 ** 32)]), (3, [(5, 9)]), (0, [(7, 3), (6, 8), (4, 1000)])]
         file += b"".join(statistics_of(number, counts, order) for number, counts in blocks) + block(5, bytes(8), order)
         newest = {0: [(4, 1000), (7, 3)], 2: [(5, 2 ** 32)]}
+        lines = [line for line in run(file, "--summary").stdout.decode().splitlines() if re.match("interface [0-9]+ packets ", line)]
+        wanted = [f"interface {number} packets {labels[code]} {count}" for number, counts in newest.items() for code, count in counts]
+        tally.expect(f"statistics, {order}", lines, wanted)
         rows = json.loads(run(file, "--summary", "--json").stdout)["interfaces"]
         found = [{name: row[name] for name in row if name.startswith("packets_")} for row in rows]
         wanted = [{"packets_" + labels[code].replace(" the", "").replace(" ", "_"): count for code, count in newest.get(number, [])} for number in range(3)]
