@@ -20,11 +20,6 @@ fn count(packets: u64, bytes: u64) -> Count {
     Count { packets, bytes }
 }
 
-/// Counts one packet.
-fn add(rt: &impl Abort, timeline: &mut Timeline, event: &Event) {
-    expect_ok(rt, timeline.add(event));
-}
-
 /// The intervals of a timeline.
 fn intervals(rt: &impl Abort, alloc: Global, timeline: &Timeline) -> Vec<Counts> {
     expect_ok(rt, timeline.intervals(alloc))
@@ -32,9 +27,9 @@ fn intervals(rt: &impl Abort, alloc: Global, timeline: &Timeline) -> Vec<Counts>
 
 /// Stops the test unless the width and the number of intervals are these after a packet at time 1000 and another packet so much later.
 fn expect_width(rt: &impl Abort, alloc: Global, row: &(u128, u128, usize)) {
-    let mut timeline = Timeline::new(alloc);
-    add(rt, &mut timeline, &udp(Some(1000)));
-    add(rt, &mut timeline, &udp(Some(1000 + row.0)));
+    let mut timeline = expect_ok(rt, Timeline::new(alloc));
+    timeline.add(&udp(Some(1000)));
+    timeline.add(&udp(Some(1000 + row.0)));
     let shown = intervals(rt, alloc, &timeline);
     expect_at(rt, row, &timeline.width(), &row.1);
     expect_at(rt, row, &shown.len(), &row.2);
@@ -77,11 +72,11 @@ fn the_width_is_the_least_that_fits(rt: HostRuntime) {
 
 #[test]
 fn bins_keep_their_packets_if_the_unit_grows(rt: HostRuntime) {
-    let mut timeline = Timeline::new(rt.alloc());
+    let mut timeline = expect_ok(&rt, Timeline::new(rt.alloc()));
     for time in 0..1_280 {
-        add(&rt, &mut timeline, &udp(Some(time)));
+        timeline.add(&udp(Some(time)));
     }
-    add(&rt, &mut timeline, &udp(Some(12_799)));
+    timeline.add(&udp(Some(12_799)));
     let shown = intervals(&rt, rt.alloc(), &timeline);
     expect_equal(&rt, &timeline.width(), &50);
     expect_equal(&rt, &shown.len(), &MAX_INTERVALS);
@@ -107,7 +102,7 @@ fn protocols_and_faults_are_counted(rt: HostRuntime) {
         (Transport::Other, Some(Fault::Refused)),
         (Transport::Other, None),
     ];
-    let mut timeline = Timeline::new(rt.alloc());
+    let mut timeline = expect_ok(&rt, Timeline::new(rt.alloc()));
     for (transport, fault) in rows {
         let event = Event {
             time: Some(7),
@@ -115,7 +110,7 @@ fn protocols_and_faults_are_counted(rt: HostRuntime) {
             transport,
             fault,
         };
-        add(&rt, &mut timeline, &event);
+        timeline.add(&event);
     }
     let shown = intervals(&rt, rt.alloc(), &timeline);
     let expected = Counts {
@@ -132,15 +127,15 @@ fn protocols_and_faults_are_counted(rt: HostRuntime) {
 
 #[test]
 fn older_packets_and_packets_without_a_time_are_apart(rt: HostRuntime) {
-    let mut timeline = Timeline::new(rt.alloc());
+    let mut timeline = expect_ok(&rt, Timeline::new(rt.alloc()));
     expect_equal(&rt, &timeline.start(), &None);
     expect_equal(&rt, &intervals(&rt, rt.alloc(), &timeline).len(), &0);
-    add(&rt, &mut timeline, &udp(None));
+    timeline.add(&udp(None));
     expect_equal(&rt, &timeline.start(), &None);
     for time in [1_000, 999, 1_001, 0] {
-        add(&rt, &mut timeline, &udp(Some(time)));
+        timeline.add(&udp(Some(time)));
     }
-    add(&rt, &mut timeline, &udp(None));
+    timeline.add(&udp(None));
     expect_equal(&rt, &timeline.start(), &Some(1_000));
     expect_equal(&rt, &timeline.untimed().udp, &count(2, 200));
     expect_equal(&rt, &timeline.older().udp, &count(2, 200));
@@ -150,13 +145,13 @@ fn older_packets_and_packets_without_a_time_are_apart(rt: HostRuntime) {
 
 #[test]
 fn counts_saturate(rt: HostRuntime) {
-    let mut timeline = Timeline::new(rt.alloc());
+    let mut timeline = expect_ok(&rt, Timeline::new(rt.alloc()));
     let event = Event {
         len: u64::MAX,
         ..udp(Some(3))
     };
-    add(&rt, &mut timeline, &event);
-    add(&rt, &mut timeline, &udp(Some(3)));
+    timeline.add(&event);
+    timeline.add(&udp(Some(3)));
     let shown = intervals(&rt, rt.alloc(), &timeline);
     expect_equal(&rt, &shown[0].udp, &count(2, u64::MAX));
 }

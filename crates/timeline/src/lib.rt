@@ -5,8 +5,8 @@
 //! interval. Packets that are older than the first packet are counted apart, and so are packets without a time.
 //!
 //! ```
-//! let mut timeline = Timeline::new(alloc);
-//! timeline.add(&event)?;
+//! let mut timeline = Timeline::new(alloc)?;
+//! timeline.add(&event);
 //! let intervals = timeline.intervals(alloc)?;
 //! ```
 #![tactic(auto)]

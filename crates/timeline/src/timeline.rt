@@ -1,4 +1,4 @@
-ghost use Rattle.std.specs.Prelude.{◌≡◌, ◌⊎◌, ◌+◌, IfOk, List, None, OnErr, OnOk, Some, []};
+ghost use Rattle.std.specs.Prelude.{◌≡◌, ◌⊎◌, ◌+◌, IfOk, List, None, Some, []};
 ghost use Rattle.timeline.specs.Timelines.{AreShown, CountsPacket, IsTimelineOf, empty_timeline, shown_intervals, shown_width};
 ghost use Rattle.timeline.specs.declared.event.Event.{Event as PacketEvent};
 
@@ -23,7 +23,7 @@ pub struct Timeline {
 }
 
 impl Model for Timeline {
-    ghost use Rattle.std.specs.Prelude.{◌<◌, ◌≤◌, ◌^◌, length};
+    ghost use Rattle.std.specs.Prelude.{◌<◌, ◌≤◌, ◌^◌, length, vec_capacity};
     ghost use Rattle.timeline.specs.Timelines.{TimelineBins, max_bins};
 
     ghost Value = { TimelineBins };
@@ -36,44 +36,47 @@ impl Model for Timeline {
       untimed = timeline.untimed;
     } };
 
-    ghost invariant = { λ timeline. (0 < timeline.unit) × (timeline.unit < 2 ^ 121) × (length timeline.bins.items ≤ max_bins) };
+    ghost invariant = { λ timeline.
+        (0 < timeline.unit) × (timeline.unit < 2 ^ 121) × (length timeline.bins.items ≤ max_bins)
+        × (max_bins ≤ vec_capacity timeline.bins) };
 }
 
 impl Timeline {
-    /// A timeline without packets.
-    pub fn new(alloc: Global) -> Timeline
-        ensures empty { result ≡ empty_timeline }
-        ensures none { IsTimelineOf [] result }
-    {
-        Timeline {
-            start: None,
-            unit: 1,
-            bins: Vec::new(alloc),
-            older: Counts::NONE,
-            untimed: Counts::NONE,
-        }
-    }
-
-    /// Counts a packet.
+    /// A timeline without packets, with the memory of all its bins.
     ///
     /// # Errors
     ///
-    /// `AllocError` if no memory is left, and for no other reason. Then the packet is not counted, and all counts are unchanged.
-    pub fn add(&mut self, event: &Event) -> Result<(), AllocError>
-        ensures ok { OnOk result (CountsPacket self.old event.now self.new) }
-        ensures err { OnErr result (self.new ≡ self.old) }
+    /// `AllocError` if no memory is left, and for no other reason.
+    pub fn new(alloc: Global) -> Result<Timeline, AllocError>
+        ensures empty { IfOk result (λ timeline. timeline ≡ empty_timeline) }
+        ensures none { IfOk result (λ timeline. IsTimelineOf [] timeline) }
+    {
+        let mut bins = Vec::new(alloc);
+        bins.try_reserve_exact(MAX_BINS)?;
+        Ok(Timeline {
+            start: None,
+            unit: 1,
+            bins,
+            older: Counts::NONE,
+            untimed: Counts::NONE,
+        })
+    }
+
+    /// Counts a packet.
+    pub fn add(&mut self, event: &Event)
+        ensures { CountsPacket self.old event.now self.new }
     {
         let time = match event.time {
             Some(time) => time,
             None => {
                 self.untimed.add(event);
-                return Ok(());
+                return;
             }
         };
         let start = self.start.unwrap_or(time);
         if time < start {
             self.older.add(event);
-            return Ok(());
+            return;
         }
         self.add_from(start, time - start, event)
     }
@@ -110,17 +113,14 @@ impl Timeline {
     }
 
     /// Counts a packet with the time `start + offset`, which is not before the start.
-    fn add_from(&mut self, start: u128, offset: u128, event: &Event) -> Result<(), AllocError>
+    fn add_from(&mut self, start: u128, offset: u128, event: &Event)
         requires timed { event.now.time ≡ Some (start + offset) }
         requires start { (self.old.start ≡ Some start) ⊎ ((self.old.start ≡ None) × (offset ≡ 0)) }
-        ensures ok { OnOk result (CountsPacket self.old event.now self.new) }
-        ensures err { OnErr result (self.new ≡ self.old) }
+        ensures { CountsPacket self.old event.now self.new }
     {
-        self.bins.try_reserve_exact(MAX_BINS - self.bins.len())?;
         let place = widen(&mut self.unit, &mut self.bins, offset);
-        count_at(&mut self.bins, place, event)?;
+        count_at(&mut self.bins, place, event);
         self.start = Some(start);
-        Ok(())
     }
 
     /// The counts of the packets that are older than the first packet with a time.

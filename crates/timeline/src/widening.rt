@@ -1,6 +1,6 @@
 //! Bins for a later packet.
 
-ghost use Rattle.std.specs.Prelude.{◌≡◌, ◌≤◌, ◌<◌, ◌*◌, ◌^◌, ◌/◌, ℕ, List, length, vec_capacity, IsOk};
+ghost use Rattle.std.specs.Prelude.{◌≡◌, ◌≤◌, ◌<◌, ◌*◌, ◌^◌, ◌/◌, ℕ, List, length, vec_capacity};
 ghost use Rattle.timeline.specs.Intervals.{AreIntervals, IsPowerOfTen};
 ghost use Rattle.timeline.specs.Timelines.{max_bins};
 ghost use Rattle.timeline.specs.Widening.{CountsAt};
@@ -8,7 +8,6 @@ ghost use Rattle.timeline.specs.declared.event.Event.{Event as PacketEvent};
 
 use crate::merging::{MAX_BINS, coarsen};
 use crate::{Counts, Event};
-use std::alloc::AllocError;
 
 /// Makes the unit ten times as large, as often as needed until at most `MAX_BINS` bins reach this time after the start. The bins contain
 /// the same packets as before. Returns the number of the bin of this time.
@@ -35,15 +34,14 @@ pub fn widen(unit: &mut u128, bins: &mut Vec<Counts>, offset: u128) -> usize
 }
 
 /// Counts a packet in the bin number `place`. There must be room for this bin.
-pub fn count_at(bins: &mut Vec<Counts>, place: usize, event: &Event) -> Result<(), AllocError>
+pub fn count_at(bins: &mut Vec<Counts>, place: usize, event: &Event)
     requires place { place < max_bins }
     requires capacity { max_bins ≤ vec_capacity bins.old }
-    ensures ok { CountsAt place event.now bins.old.items bins.new.items }
-    ensures succeeds { IsOk result }
+    ensures counted { CountsAt place event.now bins.old.items bins.new.items }
+    ensures capacity { max_bins ≤ vec_capacity bins.new }
 {
     if bins.len() <= place {
-        bins.resize(place + 1, Counts::NONE)?;
+        bins.resize(place + 1, Counts::NONE).unwrap();
     }
     bins[place].add(event);
-    Ok(())
 }

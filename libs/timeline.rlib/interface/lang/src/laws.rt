@@ -1,0 +1,6 @@
+pub fn shown ( )
+    ensures { } ;
+pub fn totals ( )
+    ensures { } ;
+pub fn unique ( )
+    ensures { } ;

@@ -1,0 +1,13 @@
+mod count ;
+mod counts ;
+mod event ;
+# [ doc ( hidden ) ] pub mod laws ;
+mod merging ;
+mod timeline ;
+pub use count :: Count ;
+pub use counts :: Counts ;
+pub use event :: Event ;
+pub use event :: Fault ;
+pub use event :: Transport ;
+pub use merging :: MAX_INTERVALS ;
+pub use timeline :: Timeline ;

@@ -1,0 +1,4 @@
+pub mod Counts
+pub mod Intervals
+pub mod Timelines
+pub mod Widening

@@ -1,0 +1,12 @@
+mod count ;
+mod counts ;
+mod event ;
+# [ doc ( hidden ) ] pub mod laws ;
+mod merging ;
+mod timeline ;
+mod widening ;
+pub use count :: Count ;
+pub use counts :: Counts ;
+pub use event :: { Event , Fault , Transport } ;
+pub use merging :: MAX_INTERVALS ;
+pub use timeline :: Timeline ;
