@@ -124,7 +124,7 @@ fn padded_len(len: usize) -> usize
 fn stated_len(message: &[u8]) -> usize
     requires there { 8 ≤ length message.now }
     ensures len { result ≡ specs.stated_len message.now }
-    ensures short { result ≤ 2040 }
+    ensures short { result ≤ extensions.greatest_stated_len }
 {
     if message[0] == UNREACHABLE || message[0] == TIME_EXCEEDED {
         return usize::from(message[QUOTE_LENGTH_AT]) * IPV6_UNIT;

@@ -129,7 +129,7 @@ fn padded_len(len: usize) -> usize
 fn stated_len(message: &[u8]) -> usize
     requires there { 8 ≤ length message.now }
     ensures len { result ≡ specs.stated_len message.now }
-    ensures short { result ≤ 2040 }
+    ensures short { result ≤ extensions.greatest_stated_len }
 {
     usize::from(message[QUOTE_LENGTH_AT]) * IPV4_UNIT
 }

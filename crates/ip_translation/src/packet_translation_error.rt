@@ -32,8 +32,8 @@ pub enum PacketTranslationError {
         /// The code of the message.
         code_u8: u8,
     },
-    /// An ICMP error has this wrong length field, which counts units of four bytes of the quoted packet, and over IPv6 of eight (RFC 4884, section
-    /// 4). The length is below 128 bytes, or above the rest of the message.
+    /// An ICMP error has this wrong length field, which counts units of four bytes of the quoted packet, and over IPv6 of eight (RFC 4884,
+    /// section 4). The length is below 128 bytes, or above the rest of the message.
     IcmpExtension(u8),
     /// The pointer of an ICMP parameter problem points to this byte of the IP header, which has no place in the other version of IP.
     IcmpPointer(u32),
