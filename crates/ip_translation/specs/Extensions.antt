@@ -43,4 +43,4 @@ padded_len unit len = max 128 ((len + (unit - 1)) / unit * unit)
 -- packet with zeros up to the length `len`, and the extension. An extension that is too long is cut (RFC 7915, section 4.2).
 abbrev pub extended : ℕ × ℕ → List ℕ → ℕ → List ℕ → List ℕ → List ℕ
 extended new_kind word len quote extension =
-    joined new_kind word (quote ++ replicate (len - length quote) 0) (take (max_error_len - (8 + len)) extension)
+    joined new_kind word ((quote ++ replicate (len - length quote) 0) ++ take (max_error_len - (8 + len)) extension)

@@ -88,13 +88,11 @@ header_refusal prefixes header = first_of (field_refusal header ∷ embedding_re
 abbrev pub any_header_refusal : Prefixes → List ℕ → Option TranslationError
 any_header_refusal prefixes header = first_of (any_field_refusal header ∷ embedding_refusal prefixes header ∷ [])
 
--- The first error about the fields of the header of a quoted packet. Its checksum and its time to live are not checked, since routers
--- change
--- them. It has no source route, since this translator never sends one.
+-- The first error about the fields of the header of a quoted packet, which may be a fragment. Its checksum and its time to live are not
+-- checked, since routers change them. It has no source route, since this translator never sends one.
 abbrev pub quoted_field_refusal : List ℕ → Option TranslationError
 quoted_field_refusal header = first_of (
     refused_if (nat_lt (total_len header) (ipv4_header_len header)) (TotalLength (total_len header) (ipv4_header_len header))
-    ∷ refused_if (ipv4_is_fragment header) Fragment
     ∷ addresses_refusal header
     ∷ [])
 

@@ -4,6 +4,7 @@ pub mod ErrorTexts
 pub mod ErrorsToIpv4
 pub mod ErrorsToIpv6
 pub mod Extensions
+pub mod FragmentHeaders
 pub mod Fragments
 pub mod FragmentsToIpv6
 pub mod HeadersToIpv4
@@ -16,5 +17,7 @@ pub mod PacketsToIpv6
 pub mod Prefixes
 pub mod PseudoHeaders
 pub mod QuotedPackets
+pub mod QuotedToIpv4
+pub mod QuotedToIpv6
 pub mod SkippedHeaders
 pub mod ThereAndBack

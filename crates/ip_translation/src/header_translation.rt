@@ -132,25 +132,26 @@ pub(crate) fn check_any_fields(header: &Ipv4HeaderSlice<'_>) -> Result<u16, Tran
     Ok(total_len - header_len)
 }
 
-/// Translates the header of a packet that an ICMP error quotes. The hop limit is the time to live, and it is not lowered.
-pub(crate) fn quoted_header_to_ipv6(
+/// Checks the header of a packet that an ICMP error quotes, which may be a fragment. Returns the length of the payload.
+pub(crate) fn quoted_payload_len(
     header: &Ipv4HeaderSlice<'_>,
     prefixes: &Prefixes,
-) -> Result<ArrayVec<u8, IPV6_LEN>, TranslationError>
+) -> Result<u16, TranslationError>
     ensures refused { RefusesExactly result (specs.quoted_header_refusal prefixes.now header.now) }
-    ensures written { IfOk result (λ translated. translated.items ≡ specs.quoted_header prefixes.now header.now) }
-    ensures len { IfOk result (λ translated. length translated.items ≡ 40) }
+    ensures payload_len { IfOk result (λ len. len ≡ specs.payload_len header.now) }
+    ensures counted { IfOk result (λ len. len + ipv4_header_len header.now ≤ max_len_over_ipv4) }
     ensures total_len { IfOk result (λ _. ipv4_header_len header.now ≤ specs.total_len header.now) }
 {
     let payload_len = check_quoted_header(header)?;
     check_embedding(header, prefixes)?;
-    Ok(header_with(header, prefixes, payload_len, header.ttl()))
+    Ok(payload_len)
 }
 
 /// Checks the fields of the header of a quoted packet, and returns the length of the payload.
 fn check_quoted_header(header: &Ipv4HeaderSlice<'_>) -> Result<u16, TranslationError>
     ensures refused { RefusesExactly result (specs.quoted_field_refusal header.now) }
     ensures payload_len { IfOk result (λ len. len ≡ specs.payload_len header.now) }
+    ensures counted { IfOk result (λ len. len + ipv4_header_len header.now ≤ max_len_over_ipv4) }
     ensures total_len { IfOk result (λ _. ipv4_header_len header.now ≤ specs.total_len header.now) }
 {
     let total_len = header.total_len();
@@ -160,9 +161,6 @@ fn check_quoted_header(header: &Ipv4HeaderSlice<'_>) -> Result<u16, TranslationE
             total_len,
             header_len,
         });
-    }
-    if header.is_fragmenting_payload() {
-        return Err(TranslationError::Fragment);
     }
     check_addresses(header)?;
     Ok(total_len - header_len)

@@ -107,19 +107,19 @@ fn check_fields(header: &Ipv6HeaderSlice<'_>) -> Result<u16, TranslationError>
     Ok(total_len)
 }
 
-/// Translates the header of a packet that an ICMPv6 error quotes. The time to live is the hop limit, and it is not lowered. The
-/// identification is 0.
+/// Translates the header of a packet that an ICMPv6 error quotes, without further extension headers. These fields describe the fragment. The
+/// time to live is the hop limit, and it is not lowered.
 pub(crate) fn quoted_header_to_ipv4(
     header: &Ipv6HeaderSlice<'_>,
     prefixes: &Prefixes,
+    fields: FragmentFields,
 ) -> Result<ArrayVec<u8, 20>, TranslationError>
     ensures refused { RefusesExactly result (specs.quoted_header_refusal prefixes.now header.now) }
-    ensures written { IfOk result (λ translated. translated.items ≡ specs.quoted_header prefixes.now header.now) }
+    ensures written { IfOk result (λ translated. translated.items ≡ specs.quoted_header prefixes.now fields header.now) }
     ensures len { IfOk result (λ translated. length translated.items ≡ 20) }
 {
     let total_len = check_quoted_fields(header)?;
     check_addresses(header, prefixes)?;
-    let fields = FragmentFields::whole(0);
     Ok(header_with(header, prefixes, fields, total_len, header.hop_limit()))
 }
 

@@ -31,6 +31,8 @@ mod prefix64;
 mod prefix64_error;
 mod prefixes;
 mod quoted_packet;
+mod quoted_to_ipv4;
+mod quoted_to_ipv6;
 mod skipped_headers;
 mod translation_error;
 mod updated_message;

@@ -87,7 +87,7 @@ pub enum PacketTranslationError {
         /// The place of the field "segments left", in bytes from the start of the packet.
         pointer: usize,
     },
-    /// The packet is a fragment of an ICMP message (RFC 7915, section 1.2).
+    /// The packet is a fragment of an ICMP message, or an ICMP error quotes such a fragment (RFC 7915, section 1.2).
     IcmpFragment,
     /// The first fragment of a UDP packet over IPv4 has no checksum. The checksum can't be computed, since it covers the other fragments
     /// (RFC 7915, section 4.5).
