@@ -216,7 +216,7 @@ static NO_HEADERS: [(&[u8], TranslationError, &str); 10] = [
         TranslationError::Fragment, "Translation Error: the packet is a fragment."),
     (&[0x45, 0xB9, 0, 31, 0x12, 0x34, 0, 1, 64, 17, 0x7B, 0x84, 192, 0, 2, 33, 198, 51, 100, 7],
         TranslationError::Fragment, "Translation Error: the packet is a fragment."),
-    (&[0x47, 0, 0, 32, 0, 0, 0, 0, 64, 6, 0xB1, 0x8E, 10, 1, 2, 3, 198, 51, 100, 7, 131, 7, 8, 1, 2, 3, 4, 0],
+    (&[0x47, 0, 0, 32, 0, 0, 0, 0, 64, 6, 0xB2, 0x8E, 10, 1, 2, 3, 198, 51, 100, 7, 131, 7, 7, 1, 2, 3, 4, 0],
         TranslationError::SourceRoute, "Translation Error: the IPv4 options contain a source route."),
     (&[0x45, 0xB9, 0, 31, 0x12, 0x34, 0x40, 0, 1, 17, 0x7A, 0x85, 192, 0, 2, 33, 198, 51, 100, 7],
         TranslationError::TimeExceeded, "Translation Error: the time to live is exceeded."),
@@ -250,6 +250,31 @@ fn headers_are_refused(rt: HostRuntime) {
         let outcome = header_to_ipv6(&header, &prefixes_of(error));
         expect_at(&rt, text, &outcome.err().as_ref(), &Some(error));
         expect_text(&rt, error, text);
+    }
+}
+
+/// The pointer of a source route of 7 bytes, the first byte of the checksum of its header, and whether the header is translated. A pointer
+/// after the route means that the route is at its end.
+#[rattlefmt::skip]
+static POINTERS_OF_ROUTES: [(u8, u8, bool); 6] = [
+    (0, 0xB9, false), (4, 0xB5, false), (6, 0xB3, false), (7, 0xB2, false), (8, 0xB1, true), (9, 0xB0, true),
+];
+
+#[test]
+fn source_routes_at_their_end_are_ignored(rt: HostRuntime) {
+    for (pointer, checksum, is_translated) in &POINTERS_OF_ROUTES {
+        let bytes = [
+            0x47, 0, 0, 32, 0, 0, 0, 0, 64, 6, *checksum, 0x8E, 10, 1, 2, 3, 198, 51, 100, 7, 131, 7,
+            *pointer, 1, 2, 3, 4, 0,
+        ];
+        let header = expect_some(&rt, Ipv4HeaderSlice::from_slice(&bytes));
+        let outcome = header_to_ipv6(&header, &PREFIXES);
+        let error = outcome.err();
+        if *is_translated {
+            expect_at(&rt, pointer, &error, &None);
+        } else {
+            expect_at(&rt, pointer, &error, &Some(TranslationError::SourceRoute));
+        }
     }
 }
 

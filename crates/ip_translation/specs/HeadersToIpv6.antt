@@ -3,7 +3,7 @@ use Rattle.std.specs.Prelude.{ℕ, ◌+◌, ◌-◌, ◌*◌, ◌/◌, ◌%◌, 
 use Rattle.std.specs.Int.{to_be_bytes, w16}
 use Rattle.std.specs.List.{find}
 use Rattle.std.specs.Option.{option_map}
-use Rattle.ip_part.specs.Options.{ipv4_option, is_source_route, options_of}
+use Rattle.ip_part.specs.Options.{ipv4_option, is_unexpired_route, options_of}
 use Rattle.net_base.specs.Bytes.{be_number}
 use Rattle.net_base.specs.IpHeaders.{ipv4_header_len, ipv4_is_fragment}
 use Rattle.net_base.specs.IpNumbers.{icmpv4_number, icmpv6_number}
@@ -55,16 +55,17 @@ addresses_refusal header = first_of (
     ∷ refused_if (is_illegal (destination header)) IllegalDestination
     ∷ [])
 
--- the options contain a loose or strict source route (RFC 791, section 3.1)
-abbrev pub has_source_route : List ℕ → Bool
-has_source_route header = is_some (find is_source_route (options_of ipv4_option (drop 20 header)))
+-- The options contain a loose or strict source route that is not at its end (RFC 791, section 3.1). RFC 7915, section 4.1, discards only
+-- such a packet.
+abbrev pub has_unexpired_source_route : List ℕ → Bool
+has_unexpired_source_route header = is_some (find is_unexpired_route (options_of ipv4_option (drop 20 header)))
 
 -- the first error about the fields of a header, which may be the header of a fragment
 abbrev pub any_field_refusal : List ℕ → Option TranslationError
 any_field_refusal header = first_of (
     refused_if (nat_lt (total_len header) (ipv4_header_len header)) (TotalLength (total_len header) (ipv4_header_len header))
     ∷ refused_if (not (folded (total header) == all_ones)) HeaderChecksum
-    ∷ refused_if (has_source_route header) SourceRoute
+    ∷ refused_if (has_unexpired_source_route header) SourceRoute
     ∷ refused_if (nat_lt (time_to_live header) 2) TimeExceeded
     ∷ addresses_refusal header
     ∷ [])

@@ -9,7 +9,7 @@ ghost use Rattle.ip_translation.specs.PacketsToIpv6.{added_addresses, removed_ad
 
 use crate::{Prefixes, TranslationError};
 use arrayvec::ArrayVec;
-use ip_part::has_source_route;
+use ip_part::has_unexpired_source_route;
 use net_base::{IpNumber, Ipv4HeaderSlice, Ipv6Header, ip_number};
 use word_sum::checksum_change::ChecksumChange;
 
@@ -31,7 +31,7 @@ use word_sum::checksum_change::ChecksumChange;
 /// The call checks these cases, in this order:
 /// - `Fragment` if more fragments follow, or if the fragment offset is not 0.
 /// - `TotalLength` if the total length is below the header length, and `HeaderChecksum` if the checksum of the header is wrong.
-/// - `SourceRoute` if the options contain a source route, even if no address is left in it.
+/// - `SourceRoute` if the options contain a source route that is not at its end: its pointer is at most its length (RFC 791, section 3.1).
 /// - `TimeExceeded` if the time to live is 0 or 1.
 /// - `IllegalSource` if the first byte of the source is 0, 127, or above 223, and `IllegalDestination` if this is true for the destination.
 /// - `Source` or `Destination` if `Prefix64::to_ipv6` refuses this address.
@@ -122,7 +122,7 @@ pub(crate) fn check_any_fields(header: &Ipv4HeaderSlice<'_>) -> Result<u16, Tran
     if !header.is_checksum_valid() {
         return Err(TranslationError::HeaderChecksum);
     }
-    if has_source_route(header.options()) {
+    if has_unexpired_source_route(header.options()) {
         return Err(TranslationError::SourceRoute);
     }
     if header.ttl() <= 1 {
