@@ -6,6 +6,7 @@ pub mod ErrorLemmas
 pub mod ExtensionExamples
 pub mod HeaderBackLemmas
 pub mod IcmpErrorExamples
+pub mod IcmpErrorTables
 pub mod Ipv4HeaderLemmas
 pub mod Ipv4PacketExamples
 pub mod ListedLemmas
