@@ -264,8 +264,8 @@ static POINTERS_OF_ROUTES: [(u8, u8, bool); 6] = [
 fn source_routes_at_their_end_are_ignored(rt: HostRuntime) {
     for (pointer, checksum, is_translated) in &POINTERS_OF_ROUTES {
         let bytes = [
-            0x47, 0, 0, 32, 0, 0, 0, 0, 64, 6, *checksum, 0x8E, 10, 1, 2, 3, 198, 51, 100, 7, 131, 7,
-            *pointer, 1, 2, 3, 4, 0,
+            0x47, 0, 0, 32, 0, 0, 0, 0, 64, 6, *checksum, 0x8E, 10, 1, 2, 3, 198, 51, 100, 7, 131,
+            7, *pointer, 1, 2, 3, 4, 0,
         ];
         let header = expect_some(&rt, Ipv4HeaderSlice::from_slice(&bytes));
         let outcome = header_to_ipv6(&header, &PREFIXES);
@@ -884,16 +884,58 @@ fn rows_of_icmp_errors(rt: HostRuntime) {
     }
 }
 
-/// The number of pairs of type and code that are translated. Over IPv4 there are 15 codes of type 3, all of type 11, and 2 of type 12. Over
-/// IPv6 there are 5 codes of type 1, all of types 2 and 3, and 2 of type 4.
+/// The type and code of a row, or `None` if there is no row for this type and code.
+fn row_of(rows: &[((u8, u8), (u8, u8))], kind: (u8, u8)) -> Option<(u8, u8)> {
+    for (from, to) in rows {
+        if *from == kind {
+            return Some(*to);
+        }
+    }
+    None
+}
+
+/// Type and code over IPv6. "Time exceeded", type 11, keeps any code.
+fn expected_over_ipv6(type_u8: u8, code_u8: u8) -> Option<(u8, u8)> {
+    if type_u8 == 11 {
+        return Some((3, code_u8));
+    }
+    row_of(&ERRORS, (type_u8, code_u8))
+}
+
+/// Type and code over IPv4. "Packet too big", type 2, may have any code, and "time exceeded", type 3, keeps any code.
+fn expected_over_ipv4(type_u8: u8, code_u8: u8) -> Option<(u8, u8)> {
+    match type_u8 {
+        2 => Some((3, 4)),
+        3 => Some((11, code_u8)),
+        _ => row_of(&ERRORS_BACK, (type_u8, code_u8)),
+    }
+}
+
+/// Each pair of type and code is a row or dropped. Over IPv4 there are rows for 15 codes of type 3, all of type 11, and 2 of type 12. Over
+/// IPv6 there are rows for 5 codes of type 1, all of types 2 and 3, and 2 of type 4.
 #[test]
 fn all_types_and_codes(rt: HostRuntime) {
     let mut to_ipv6 = 0;
     let mut to_ipv4 = 0;
     for type_u8 in 0..=u8::MAX {
         for code_u8 in 0..=u8::MAX {
-            to_ipv6 += usize::from(icmpv6_error(type_u8, code_u8).is_some());
-            to_ipv4 += usize::from(icmpv4_error(type_u8, code_u8).is_some());
+            let kind = (type_u8, code_u8);
+            let over_ipv6 = icmpv6_error(type_u8, code_u8);
+            expect_at(
+                &rt,
+                &kind,
+                &over_ipv6,
+                &expected_over_ipv6(type_u8, code_u8),
+            );
+            let over_ipv4 = icmpv4_error(type_u8, code_u8);
+            expect_at(
+                &rt,
+                &kind,
+                &over_ipv4,
+                &expected_over_ipv4(type_u8, code_u8),
+            );
+            to_ipv6 += usize::from(over_ipv6.is_some());
+            to_ipv4 += usize::from(over_ipv4.is_some());
         }
     }
     expect_equal(&rt, &to_ipv6, &273);
@@ -1104,8 +1146,8 @@ fn icmp_errors_are_translated_back(rt: HostRuntime) {
     }
 }
 
-/// ICMP errors about fragments, each with the translated packet: the first fragment of a UDP packet, four bytes of its last fragment, and the
-/// first fragment of a TCP segment. A program in Python computed the checksums.
+/// ICMP errors about fragments, each with the translated packet: the first fragment of a UDP packet, four bytes of its last fragment, and
+/// the first fragment of a TCP segment. A program in Python computed the checksums.
 #[rattlefmt::skip]
 static QUOTED_FRAGMENTS: [(&[u8], &[u8]); 3] = [
     (&[

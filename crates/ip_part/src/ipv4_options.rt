@@ -36,9 +36,9 @@ pub(crate) fn final_destination(header: &[u8]) -> &[u8; 4]
     }
 }
 
-/// Whether the options of an IPv4 header contain a loose or strict source route, option 131 or 137, that is not at its end (RFC 791, section
-/// 3.1). A route is at its end if its pointer is greater than its length. A route of two bytes has no pointer, and is not at its end. Reading
-/// stops at the end of the list of options, or at an option that states a length below 2 or goes beyond the bytes.
+/// Whether the options of an IPv4 header contain a loose or strict source route, option 131 or 137, that is not at its end (RFC 791,
+/// section 3.1). A route is at its end if its pointer is greater than its length. A route of two bytes has no pointer, and is not at its
+/// end. Reading stops at the end of the list of options, or at an option that states a length below 2 or goes beyond the bytes.
 pub fn has_unexpired_source_route(options: &[u8]) -> bool
     ensures { result ≡ is_some (find specs.is_unexpired_route (specs.options_of specs.ipv4_option options.now)) }
 {

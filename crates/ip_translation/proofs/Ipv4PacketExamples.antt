@@ -199,3 +199,31 @@ error_accepted = refl
 error_translated : translated_packet prefixes 0xbeef packet_too_big ≡ packet_too_big_ipv4
 unfolding skipped_from folded prefixes packet_too_big packet_too_big_ipv4
 error_translated = refl
+
+-- "time exceeded" about a fragment after hop-by-hop options and a routing header without segments left; four bytes of its eight are quoted
+quoted_fragment : List ℕ
+quoted_fragment =
+    0x60 ∷ 0 ∷ 0 ∷ 0 ∷ 0 ∷ 0x4c ∷ 0x3a ∷ 0x3f ∷ 0x20 ∷ 1 ∷ 0x0d ∷ 0xb8 ∷ 0xc0 ∷ 0 ∷ 2 ∷ 0x21
+    ∷ 0 ∷ 0 ∷ 0 ∷ 0 ∷ 0 ∷ 0 ∷ 0 ∷ 0 ∷ 0x20 ∷ 1 ∷ 0x0d ∷ 0xb8 ∷ 1 ∷ 0x22 ∷ 3 ∷ 0x44
+    ∷ 0 ∷ 0 ∷ 0 ∷ 0 ∷ 0xc6 ∷ 0x33 ∷ 0x64 ∷ 7 ∷ 3 ∷ 0 ∷ 8 ∷ 0 ∷ 0 ∷ 0 ∷ 0 ∷ 0
+    ∷ 0x60 ∷ 0 ∷ 0 ∷ 0 ∷ 0 ∷ 0x20 ∷ 0 ∷ 1 ∷ 0x20 ∷ 1 ∷ 0x0d ∷ 0xb8 ∷ 1 ∷ 0x22 ∷ 3 ∷ 0x44
+    ∷ 0 ∷ 0 ∷ 0 ∷ 0 ∷ 0xc6 ∷ 0x33 ∷ 0x64 ∷ 7 ∷ 0x20 ∷ 1 ∷ 0x0d ∷ 0xb8 ∷ 0xc0 ∷ 0 ∷ 2 ∷ 0x21
+    ∷ 0 ∷ 0 ∷ 0 ∷ 0 ∷ 0 ∷ 0 ∷ 0 ∷ 0 ∷ 0x2b ∷ 0 ∷ 1 ∷ 4 ∷ 0 ∷ 0 ∷ 0 ∷ 0
+    ∷ 0x2c ∷ 0 ∷ 0 ∷ 0 ∷ 0 ∷ 0 ∷ 0 ∷ 0 ∷ 0x11 ∷ 0 ∷ 0 ∷ 0x11 ∷ 0xab ∷ 0xcd ∷ 0x12 ∷ 0x34
+    ∷ 0x69 ∷ 0x6a ∷ 0x6b ∷ 0x6c ∷ []
+
+-- over IPv4 the quoted packet has no extension headers, and its total length counts all bytes
+quoted_fragment_ipv4 : List ℕ
+quoted_fragment_ipv4 =
+    0x45 ∷ 0 ∷ 0 ∷ 0x34 ∷ 0xbe ∷ 0xef ∷ 0 ∷ 0 ∷ 0x3e ∷ 1 ∷ 0xd1 ∷ 0x7d ∷ 0xc0 ∷ 0 ∷ 2 ∷ 0x21
+    ∷ 0xc6 ∷ 0x33 ∷ 0x64 ∷ 7 ∷ 0x0b ∷ 0 ∷ 0x20 ∷ 0x29 ∷ 0 ∷ 0 ∷ 0 ∷ 0 ∷ 0x45 ∷ 0 ∷ 0 ∷ 0x1c
+    ∷ 0x12 ∷ 0x34 ∷ 0x20 ∷ 2 ∷ 1 ∷ 0x11 ∷ 0x9b ∷ 0x3f ∷ 0xc6 ∷ 0x33 ∷ 0x64 ∷ 7 ∷ 0xc0 ∷ 0 ∷ 2 ∷ 0x21
+    ∷ 0x69 ∷ 0x6a ∷ 0x6b ∷ 0x6c ∷ []
+
+quoted_fragment_accepted : packet_refusal prefixes quoted_fragment 52 ≡ None
+unfolding skipped_from folded prefixes quoted_fragment
+quoted_fragment_accepted = refl
+
+quoted_fragment_translated : translated_packet prefixes 0xbeef quoted_fragment ≡ quoted_fragment_ipv4
+unfolding skipped_from folded prefixes quoted_fragment quoted_fragment_ipv4
+quoted_fragment_translated = refl

@@ -177,3 +177,30 @@ later_fragment_ipv6 =
 later_fragment_translated : translated_packet prefixes later_fragment ≡ later_fragment_ipv6
 unfolding folded prefixes later_fragment later_fragment_ipv6
 later_fragment_translated = refl
+
+-- "time exceeded" about the last fragment of a UDP packet, of which four bytes are quoted
+quoted_fragment : List ℕ
+quoted_fragment =
+    0x45 ∷ 0 ∷ 0 ∷ 0x34 ∷ 0x12 ∷ 0x34 ∷ 0x40 ∷ 0 ∷ 0x40 ∷ 1 ∷ 0x3c ∷ 0x39 ∷ 0xc0 ∷ 0 ∷ 2 ∷ 0x21
+    ∷ 0xc6 ∷ 0x33 ∷ 0x64 ∷ 7 ∷ 0x0b ∷ 0 ∷ 0x20 ∷ 0x29 ∷ 0 ∷ 0 ∷ 0 ∷ 0 ∷ 0x45 ∷ 0 ∷ 0 ∷ 0x1c
+    ∷ 0xab ∷ 0xcd ∷ 0 ∷ 2 ∷ 1 ∷ 0x11 ∷ 0x21 ∷ 0xa6 ∷ 0xc6 ∷ 0x33 ∷ 0x64 ∷ 7 ∷ 0xc0 ∷ 0 ∷ 2 ∷ 0x21
+    ∷ 0x69 ∷ 0x6a ∷ 0x6b ∷ 0x6c ∷ []
+
+-- over IPv6 the quoted packet has a fragment header, and its payload length counts all bytes
+quoted_fragment_ipv6 : List ℕ
+quoted_fragment_ipv6 =
+    0x60 ∷ 0 ∷ 0 ∷ 0 ∷ 0 ∷ 0x3c ∷ 0x3a ∷ 0x3f ∷ 0x20 ∷ 1 ∷ 0x0d ∷ 0xb8 ∷ 0xc0 ∷ 0 ∷ 2 ∷ 0x21
+    ∷ 0 ∷ 0 ∷ 0 ∷ 0 ∷ 0 ∷ 0 ∷ 0 ∷ 0 ∷ 0x20 ∷ 1 ∷ 0x0d ∷ 0xb8 ∷ 1 ∷ 0x22 ∷ 3 ∷ 0x44
+    ∷ 0 ∷ 0 ∷ 0 ∷ 0 ∷ 0xc6 ∷ 0x33 ∷ 0x64 ∷ 7 ∷ 3 ∷ 0 ∷ 0x46 ∷ 0x59 ∷ 0 ∷ 0 ∷ 0 ∷ 0
+    ∷ 0x60 ∷ 0 ∷ 0 ∷ 0 ∷ 0 ∷ 0x10 ∷ 0x2c ∷ 1 ∷ 0x20 ∷ 1 ∷ 0x0d ∷ 0xb8 ∷ 1 ∷ 0x22 ∷ 3 ∷ 0x44
+    ∷ 0 ∷ 0 ∷ 0 ∷ 0 ∷ 0xc6 ∷ 0x33 ∷ 0x64 ∷ 7 ∷ 0x20 ∷ 1 ∷ 0x0d ∷ 0xb8 ∷ 0xc0 ∷ 0 ∷ 2 ∷ 0x21
+    ∷ 0 ∷ 0 ∷ 0 ∷ 0 ∷ 0 ∷ 0 ∷ 0 ∷ 0 ∷ 0x11 ∷ 0 ∷ 0 ∷ 0x10 ∷ 0 ∷ 0 ∷ 0xab ∷ 0xcd
+    ∷ 0x69 ∷ 0x6a ∷ 0x6b ∷ 0x6c ∷ []
+
+quoted_fragment_accepted : packet_refusal prefixes quoted_fragment 100 ≡ None
+unfolding folded options_within prefixes quoted_fragment
+quoted_fragment_accepted = refl
+
+quoted_fragment_translated : translated_packet prefixes quoted_fragment ≡ quoted_fragment_ipv6
+unfolding folded prefixes quoted_fragment quoted_fragment_ipv6
+quoted_fragment_translated = refl

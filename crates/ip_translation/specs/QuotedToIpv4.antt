@@ -23,8 +23,8 @@ use Rattle.ip_translation.specs.declared.translation_error.TranslationError.TheV
 
 -- ---- the message
 
--- The error of a quoted message of this protocol. At least eight bytes are needed, as over IPv4. An ICMPv6 error must not be about an ICMPv6
--- error (RFC 4443, section 2.4). So an ICMPv6 message must be an echo message.
+-- The error of a quoted message of this protocol. At least eight bytes are needed, as over IPv4. An ICMPv6 error must not be about an
+-- ICMPv6 error (RFC 4443, section 2.4). So an ICMPv6 message must be an echo message.
 abbrev pub quoted_message_refusal : ℕ → List ℕ → Option PacketTranslationError
 quoted_message_refusal protocol message =
     if protocol == icmpv6_number then quoted_echo_refusal type_over_ipv4 message
@@ -32,8 +32,8 @@ quoted_message_refusal protocol message =
     else if protocol == tcp_number then header_len_refusal 8 message
     else None
 
--- The first error of the part of a message of this protocol in a quoted fragment. ICMPv6 messages in fragments are not translated (RFC 7915,
--- section 1.2). A later fragment has no transport header. `flags` is the flags and the offset.
+-- The first error of the part of a message of this protocol in a quoted fragment. ICMPv6 messages in fragments are not translated (RFC
+-- 7915, section 1.2). A later fragment has no transport header. `flags` is the flags and the offset.
 abbrev pub part_refusal : Option ℕ → ℕ → List ℕ → Option PacketTranslationError
 part_refusal flags protocol message = first_of (
     refused_if (protocol == icmpv6_number) IcmpFragment
@@ -101,8 +101,8 @@ direct_packet prefixes fields header message =
 abbrev pub quoted_payload : List ℕ → List ℕ → List ℕ
 quoted_payload header quote = drop 40 (take (40 + payload_len header) quote)
 
--- The error of a quoted packet with an extension header that is refused, or that ends after the quote. The error contains the next header of
--- the quoted packet.
+-- The error of a quoted packet with an extension header that is refused, or that ends after the quote. The error contains the next header
+-- of the quoted packet.
 abbrev pub extension_refusal : List ℕ → Result SkippedHeaders PacketTranslationError → Option PacketTranslationError
 extension_refusal header skipped = refused_if (is_some (error_of skipped)) (QuotedHeader (ExtensionHeader (next_header header)))
 

@@ -1,5 +1,5 @@
--- The packets that ICMP errors quote, translated to IPv6 (RFC 7915, section 4.3), and the quoted packets that are not translated. A quote may
--- be a fragment, and it may end before the packet ends.
+-- The packets that ICMP errors quote, translated to IPv6 (RFC 7915, section 4.3), and the quoted packets that are not translated. A quote
+-- may be a fragment, and it may end before the packet ends.
 use Rattle.std.specs.Prelude.{◌≡◌, ◌≤◌, ℕ, ◌-◌, ◌==◌, nat_lt, if◌then◌else◌, List, [], ◌∷◌, ◌++◌, drop, length, slice_index, take, Option, None}
 use Rattle.std.specs.Option.{option_map, unwrap_or}
 use Rattle.net_base.specs.IpHeaders.{ipv4_header_len, ipv4_is_fragment}
@@ -39,8 +39,8 @@ message_room header = max_packet_len - quoted_headers_len header
 abbrev pub quoted_message : List ℕ → List ℕ → List ℕ
 quoted_message header quote = take (message_room header) (drop (ipv4_header_len header) (take (total_len header) quote))
 
--- The error of a quoted message of this protocol. An ICMP error quotes at least eight bytes of a message (RFC 792), and it must not be about
--- an ICMP error. So an ICMP message must be an echo message.
+-- The error of a quoted message of this protocol. An ICMP error quotes at least eight bytes of a message (RFC 792), and it must not be
+-- about an ICMP error. So an ICMP message must be an echo message.
 abbrev pub quoted_message_refusal : ℕ → List ℕ → Option PacketTranslationError
 quoted_message_refusal protocol message =
     if protocol == icmpv4_number then quoted_echo_refusal type_over_ipv6 message

@@ -107,8 +107,8 @@ fn check_fields(header: &Ipv6HeaderSlice<'_>) -> Result<u16, TranslationError>
     Ok(total_len)
 }
 
-/// Translates the header of a packet that an ICMPv6 error quotes, without further extension headers. These fields describe the fragment. The
-/// time to live is the hop limit, and it is not lowered.
+/// Translates the header of a packet that an ICMPv6 error quotes, without further extension headers. These fields describe the fragment.
+/// The time to live is the hop limit, and it is not lowered.
 pub(crate) fn quoted_header_to_ipv4(
     header: &Ipv6HeaderSlice<'_>,
     prefixes: &Prefixes,

@@ -66,9 +66,10 @@ const IPV4_LEN: usize = 20;
 /// - `IcmpExtension` if the length field of "destination unreachable" or "time exceeded" (RFC 4884) is not 0, and states fewer than 128 bytes or
 ///   more than there are.
 /// - `NoQuotedHeader` if the packet that an ICMPv6 error quotes does not begin with a whole IPv6 header.
-/// - `QuotedHeader` with `ExtensionHeader` and the next header of the quoted packet if one of its extension headers is not skipped, as above,
-///   or ends after the quote.
-/// - `QuotedHeader` if the quoted header has no translation. The call checks its payload length and its addresses, as `header_to_ipv4` does.
+/// - `QuotedHeader` with `ExtensionHeader` and the next header of the quoted packet if one of its extension headers is not skipped, as
+///   above, or ends after the quote.
+/// - `QuotedHeader` if the quoted header has no translation. The call checks its payload length and its addresses, as `header_to_ipv4`
+///   does.
 /// - `IcmpFragment` if the quoted packet is one of several fragments of an ICMPv6 message (section 1.2).
 /// - `TransportHeader` or `QuotedIcmp` if the quoted message of ICMPv6, UDP or TCP is shorter than 8 bytes, or is no echo message of ICMPv6.
 ///   This is not checked in a later fragment.

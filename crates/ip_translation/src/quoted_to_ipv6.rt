@@ -22,7 +22,8 @@ use crate::{PacketTranslationError, Prefixes, pseudo_header_change};
 use arrayvec::ArrayVec;
 use net_base::{IpNumber, Ipv4HeaderSlice, ip_number};
 
-/// Translates a packet that an ICMP error quotes, with this header (RFC 7915, section 4.3). `quote` is the bytes of the packet that are there.
+/// Translates a packet that an ICMP error quotes, with this header (RFC 7915, section 4.3). `quote` is the bytes of the packet that are
+/// there.
 pub(crate) fn quoted_to_ipv6(
     header: &Ipv4HeaderSlice<'_>,
     quote: &[u8],
@@ -60,7 +61,8 @@ fn quoted_headers(
     }
 }
 
-/// The headers of the translated packet, with this length of the payload: an IPv6 header, and a fragment header if the packet is a fragment.
+/// The headers of the translated packet, with this length of the payload: an IPv6 header, and a fragment header if the packet is a
+/// fragment.
 fn headers_for(
     header: &Ipv4HeaderSlice<'_>,
     prefixes: &Prefixes,
