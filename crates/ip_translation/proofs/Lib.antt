@@ -7,9 +7,12 @@ pub mod ExtensionExamples
 pub mod HeaderBackLemmas
 pub mod IcmpErrorExamples
 pub mod Ipv4HeaderLemmas
+pub mod Ipv4PacketBackLemmas
 pub mod Ipv4PacketExamples
+pub mod Ipv6PacketBackLemmas
 pub mod ListedLemmas
 pub mod MessageLemmas
+pub mod PacketBackLemmas
 pub mod PacketExamples
 pub mod PseudoHeaderLemmas
 pub mod RuleLemmas

@@ -1,11 +1,18 @@
 -- A message and a header that are translated to IPv6 and then back to IPv4, with the same prefixes.
-use Rattle.std.specs.Prelude.{ℕ, ◌-◌, List, slice_set}
+use Rattle.std.specs.Prelude.{◌≡◌, ◌≢◌, ℕ, ◌-◌, false, List, ◌++◌, slice_set}
+use Rattle.ip_part.specs.Ip.{ipv4_header, ipv6_header}
+use Rattle.net_base.specs.IpHeaders.{ipv4_header_len, ipv4_is_fragment}
+use Rattle.net_base.specs.IpNumbers.{icmpv4_number, icmpv6_number, tcp_number, udp_number}
 use Rattle.net_base.specs.StoredChecksum.{with_checksum as with_number}
-use Rattle.word_sum.specs.Checksum.{checksum_of, total}
-use Rattle.ip_translation.specs.Fragments.{flags}
-use Rattle.ip_translation.specs.HeadersToIpv6.{time_to_live, total_len, translated_header}
+use Rattle.word_sum.specs.Checksum.{all_ones, checksum_of, total}
+use Rattle.ip_translation.specs.Fragments.{flags, is_part}
+use Rattle.ip_translation.specs.HeadersToIpv4 as back
+use Rattle.ip_translation.specs.HeadersToIpv4.{is_extension}
+use Rattle.ip_translation.specs.HeadersToIpv6.{protocol, time_to_live, total_len, translated_header}
 use Rattle.ip_translation.specs.PacketsToIpv4 as ipv4
 use Rattle.ip_translation.specs.PacketsToIpv6 as ipv6
+use Rattle.ip_translation.specs.Prefixes.{with_zero_suffix}
+use Rattle.ip_translation.specs.declared.prefix64.Prefix64.{Prefix64}
 use Rattle.ip_translation.specs.declared.prefixes.Prefixes.{Prefixes}
 
 -- this UDP packet, translated to IPv6 and back; it is the payload of a packet with this IPv4 header
@@ -40,3 +47,45 @@ with_right_checksum header = with_number 10 header (checksum_of (total (with_num
 abbrev pub header_back : ℕ → List ℕ → List ℕ
 header_back identification header =
     with_right_checksum (lowered_twice (with_flags (with_identification identification header)))
+
+-- ---- whole packets
+
+-- A message of this protocol is the same after the way back. It is no ICMP message. A UDP packet has a checksum, and the checksum of a TCP
+-- segment is not 65535.
+pub record IsRestored (protocol : ℕ) (message : List ℕ) : Type 0 where
+  pub no_icmp : protocol ≢ icmpv4_number
+  pub no_icmpv6 : protocol ≢ icmpv6_number
+  pub udp : protocol ≡ udp_number → ipv6.udp_checksum message ≢ 0
+  pub tcp : protocol ≡ tcp_number → ipv6.tcp_checksum message ≢ all_ones
+
+-- A whole IPv4 packet without options, whose message is the same after the way back. Its protocol is not the number of an extension header
+-- of IPv6, since an extension header is left out on the way back.
+pub record IsRestoredPacket (packet : List ℕ) : Type 0 where
+  pub no_options : ipv4_header_len packet ≡ 20
+  pub whole : ipv4_is_fragment (ipv4_header packet) ≡ false
+  pub no_extension : is_extension (protocol (ipv4_header packet)) ≡ false
+  pub message : IsRestored (protocol (ipv4_header packet)) (ipv6.message_of packet)
+
+-- The IPv4 packet after the way back: `header_back` lists the fields of the header that are other ones. The bytes that the total length does
+-- not count are left out.
+abbrev pub packet_back : ℕ → List ℕ → List ℕ
+packet_back identification packet = header_back identification (ipv4_header packet) ++ ipv6.message_of packet
+
+-- ---- whole packets over IPv6
+
+-- This IPv6 address is the same after the way back: its suffix, which the way to IPv4 leaves out, consists of zeros.
+abbrev pub ComesBack : Prefix64 → List ℕ → Type 0
+ComesBack prefix address = with_zero_suffix prefix address ≡ address
+
+-- A whole IPv6 packet or an atomic fragment, whose addresses and whose message are the same after the way back.
+pub record IsRestoredIpv6Packet (prefixes : Prefixes) (packet : List ℕ) : Type 0 where
+  pub source : ComesBack prefixes.source (back.source (ipv6_header packet))
+  pub destination : ComesBack prefixes.destination (back.destination (ipv6_header packet))
+  pub whole : is_part (ipv4.flags_in (ipv6_header packet) (ipv4.payload_of packet)) ≡ false
+  pub message : IsRestored (back.next_header (ipv4.direct_header packet)) (ipv4.message_of packet)
+
+-- The IPv6 packet after the way back. It has no extension headers, its flow label is 0, and its hop limit is lowered by 1 on each way. The
+-- bytes that the payload length does not count are left out.
+abbrev pub ipv6_packet_back : List ℕ → List ℕ
+ipv6_packet_back packet =
+    slice_set (ipv4.direct_header packet) 7 (back.hop_limit (ipv6_header packet) - 2) ++ ipv4.message_of packet

@@ -1,17 +1,20 @@
 //! Laws of the definitions. Each law is the contract of a function, so that it is checked with the calls.
 
-ghost use Rattle.std.specs.Prelude.{◌≡◌, ◌≢◌, ◌≤◌, List, ℕ, length, slice_index};
+ghost use Rattle.std.specs.Prelude.{◌≡◌, ◌≢◌, ◌≤◌, List, ℕ, None, length, slice_index};
 ghost use Rattle.net_base.specs.Bytes.{IsBytes};
 ghost use Rattle.net_base.specs.IpNumbers.{icmpv6_number};
 ghost use Rattle.word_sum.specs.Checksum.{all_ones};
 ghost use Rattle.ip_translation.specs.Fragments.{whole};
+ghost use Rattle.ip_translation.specs.FragmentsToIpv6 as parts;
 ghost use Rattle.ip_translation.specs.HeadersToIpv4 as back;
 ghost use Rattle.ip_translation.specs.HeadersToIpv6.{destination, protocol, source, total_len, translated_header};
 ghost use Rattle.ip_translation.specs.Prefixes.{extracted};
+ghost use Rattle.ip_translation.specs.PacketsToIpv4 as ipv4;
 ghost use Rattle.ip_translation.specs.PacketsToIpv6.{tcp_checksum, udp_checksum};
-ghost use Rattle.ip_translation.specs.ThereAndBack.{header_back, tcp_back, udp_back};
+ghost use Rattle.ip_translation.specs.ThereAndBack.{IsRestoredIpv6Packet, IsRestoredPacket, header_back, ipv6_packet_back, packet_back, tcp_back, udp_back};
 
 use crate::Prefixes;
+use crate::packet_translation::front_header;
 use net_base::Ipv4HeaderSlice;
 
 /// Assume a UDP packet with a checksum, or a TCP segment whose checksum is not 65535. If it is translated to IPv6 and back with the same
@@ -41,6 +44,48 @@ pub fn header_there_and_back(header: &Ipv4HeaderSlice<'_>, prefixes: &Prefixes)
     expect_bytes(header.slice());
     let _ = prefixes.source.embed(header.source());
     let _ = prefixes.destination.embed(header.destination());
+}
+
+/// Assume a packet that the translation to the other version of IP accepts, and that is translated back with the same prefixes. It is a whole
+/// packet, and its message is one that `IsRestored` describes. An IPv4 packet has no options and no number of an IPv6 extension header, and the
+/// addresses of an IPv6 packet have suffixes of zeros. Then only these fields are other ones:
+/// - of an IPv4 packet: identification, flags, time to live and header checksum
+/// - of an IPv6 packet: flow label and hop limit, and its extension headers are left out
+pub fn packet_there_and_back(packet: &[u8], prefixes: &Prefixes)
+    ensures from_ipv4 { (identification room : ℕ) → parts.packet_refusal prefixes.now packet.now room ≡ None → IsRestoredPacket packet.now →
+        ipv4.translated_packet prefixes.now identification (parts.translated_packet prefixes.now packet.now)
+        ≡ packet_back identification packet.now }
+    ensures from_ipv6 { (identification room : ℕ) → ipv4.packet_refusal prefixes.now packet.now room ≡ None →
+        IsRestoredIpv6Packet prefixes.now packet.now →
+        parts.translated_packet prefixes.now (ipv4.translated_packet prefixes.now identification packet.now) ≡ ipv6_packet_back packet.now }
+{
+    ipv4_packet_there_and_back(packet, prefixes);
+    ipv6_packet_there_and_back(packet, prefixes);
+}
+
+/// The law of packets over IPv4.
+fn ipv4_packet_there_and_back(packet: &[u8], prefixes: &Prefixes)
+    ensures from_ipv4 { (identification room : ℕ) → parts.packet_refusal prefixes.now packet.now room ≡ None → IsRestoredPacket packet.now →
+        ipv4.translated_packet prefixes.now identification (parts.translated_packet prefixes.now packet.now)
+        ≡ packet_back identification packet.now }
+{
+    if let Some(header) = front_header(packet) {
+        expect_bytes(packet);
+        let _ = prefixes.source.embed(header.source());
+        let _ = prefixes.destination.embed(header.destination());
+        header_there_and_back(&header, prefixes);
+        message_there_and_back(&header, prefixes);
+    }
+}
+
+/// The law of packets over IPv6.
+fn ipv6_packet_there_and_back(packet: &[u8], prefixes: &Prefixes)
+    ensures from_ipv6 { (identification room : ℕ) → ipv4.packet_refusal prefixes.now packet.now room ≡ None →
+        IsRestoredIpv6Packet prefixes.now packet.now →
+        parts.translated_packet prefixes.now (ipv4.translated_packet prefixes.now identification packet.now) ≡ ipv6_packet_back packet.now }
+{
+    let _ = prefixes;
+    expect_bytes(packet);
 }
 
 /// The elements of a slice of bytes are bytes.
