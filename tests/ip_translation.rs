@@ -503,6 +503,56 @@ fn extension_headers_are_skipped(rt: HostRuntime) {
     expect_equal(&rt, &buffer[79], &0xEE);
 }
 
+/// The rows of `PACKETS` that the way back restores, each with the row of `PACKETS_BACK` that contains the packet after the way back: UDP,
+/// TCP, an echo request, an echo reply of zeros, and ESP.
+static RESTORED: [(usize, usize); 5] = [(0, 0), (3, 1), (4, 2), (5, 3), (6, 4)];
+
+#[test]
+fn packets_are_restored(rt: HostRuntime) {
+    for (row, row_back) in &RESTORED {
+        let padded = joined(&rt, &[PACKETS[*row].0, &[1, 2]]);
+        let mut there = [0xEE; 80];
+        let len = expect_ok(
+            &rt,
+            ipv4_to_ipv6(padded.as_slice(), &PREFIXES, &mut there),
+        );
+        let mut back = [0xEE; 80];
+        let len = expect_ok(
+            &rt,
+            ipv6_to_ipv4(&there[..len], &PREFIXES, 0xBEEF, &mut back),
+        );
+        expect_bytes(&rt, bytes_to(&rt, &back, len), PACKETS_BACK[*row_back].1);
+    }
+}
+
+/// After the way back, the packet is the expected packet, but its hop limit is lower by 2.
+fn expect_restored(rt: &(impl Abort + AllocGlobal), packet: &[u8], expected: &[u8]) {
+    let padded = joined(rt, &[packet, &[1, 2]]);
+    let mut there = [0xEE; 100];
+    let len = expect_ok(
+        rt,
+        ipv6_to_ipv4(padded.as_slice(), &PREFIXES, 0xBEEF, &mut there),
+    );
+    let mut back = [0xEE; 100];
+    let len = expect_ok(rt, ipv4_to_ipv6(&there[..len], &PREFIXES, &mut back));
+    let hops = [expected[7] - 2];
+    let lowered = joined(rt, &[&expected[..7], &hops, &expected[8..]]);
+    expect_bytes(rt, bytes_to(rt, &back, len), lowered.as_slice());
+}
+
+#[test]
+fn packets_are_restored_over_ipv6(rt: HostRuntime) {
+    for (packet, _) in &PACKETS_BACK {
+        expect_restored(&rt, packet, packet);
+    }
+    // The flow label and the extension headers are left out.
+    let mut labelled = EXTENDED;
+    labelled[1] = 0x91;
+    labelled[2] = 0x23;
+    labelled[3] = 0x45;
+    expect_restored(&rt, &labelled, PACKETS_BACK[0].0);
+}
+
 /// Changes of `EXTENDED` that are refused: the place of a byte, and its new value.
 #[rattlefmt::skip]
 static NO_EXTENDED: [(usize, u8, PacketTranslationError, &str); 5] = [

@@ -1,17 +1,18 @@
 -- An IPv4 packet that is translated to IPv6 and back.
-use Rattle.std.proofs.Common.{◌≡◌, ◌≢◌, ℕ, ◌-◌, ◌/◌, ◌==◌, ◌<◌, ◌≤◌, true, false, ◌&&◌, not, if◌then◌else◌, List, [], ◌∷◌, ◌++◌, length, take, slice_index, None, refl, sym, subst, ap, ap₂, ◌∙◌, length-take, arith}
+use Rattle.std.proofs.Common.{◌≡◌, ◌≢◌, ℕ, ◌-◌, ◌/◌, ◌==◌, ◌<◌, ◌≤◌, true, false, not, if◌then◌else◌, List, [], ◌∷◌, ◌++◌, length, take, slice_index, Some, None, refl, sym, subst, ap, ap₂, ◌∙◌, length-take, arith}
 use Rattle.std.specs.Prelude.{is_none, nat_le, nat_lt}
-use Rattle.std.specs.Option.{option_map}
+use Rattle.std.specs.Option.{option_map, unwrap_or}
 use Rattle.std.proofs.lemmas.Bool.{not-false}
 use Rattle.std.proofs.lemmas.List.{get_or-take}
 use Rattle.ip_part.specs.Ip.{ipv4_header}
 use Rattle.net_base.specs.Bytes.{IsBytes}
 use Rattle.net_base.specs.IpHeaders.{ipv4_header_len, ipv4_is_fragment, version}
-use Rattle.net_base.specs.IpNumbers.{tcp_number, udp_number}
+use Rattle.net_base.specs.IpNumbers.{icmpv4_number, icmpv6_number, tcp_number, udp_number}
+use Rattle.net_base.specs.PseudoHeader.{ipv6_pseudo_header}
 use Rattle.net_base.specs.Refusals.{refused_if}
 use Rattle.net_base.proofs.StoredChecksumLemmas.{length-with_checksum}
 use Rattle.word_sum.specs.Checksum.{all_ones}
-use Rattle.ip_translation.specs.EchoMessages.{type_over_ipv4, type_over_ipv6}
+use Rattle.ip_translation.specs.EchoMessages.{translated_echo, type_over_ipv4, type_over_ipv6}
 use Rattle.ip_translation.specs.Fragments.{whole}
 use Rattle.ip_translation.specs.FragmentsToIpv6 as parts
 use Rattle.ip_translation.specs.HeadersToIpv4 as back
@@ -19,11 +20,13 @@ use Rattle.ip_translation.specs.HeadersToIpv6 as headers
 use Rattle.ip_translation.specs.PacketsToIpv4 as ipv4
 use Rattle.ip_translation.specs.PacketsToIpv6 as ipv6
 use Rattle.ip_translation.specs.Prefixes.{embedded}
-use Rattle.ip_translation.specs.ThereAndBack.{IsRestoredPacket, header_back, packet_back, tcp_back, udp_back}
+use Rattle.ip_translation.specs.ThereAndBack.{IsRestored, IsRestoredPacket, header_back, packet_back, tcp_back, udp_back}
 use Rattle.ip_translation.specs.declared.packet_translation_error.PacketTranslationError.TheVariants.{Header, NoIpv4Header}
 use Rattle.ip_translation.specs.declared.prefixes.Prefixes.{Prefixes}
 use Rattle.ip_translation.specs.declared.translation_error.TranslationError.TheVariants.{Fragment, TotalLength}
-use Rattle.ip_translation.proofs.PacketBackLemmas.{all_none, at_least, at_most, both, bytes_range, bytes_take, by_protocol, chosen, equal, first_rule, not_mapped, not_refused, packet_to_ipv4, range_len, unequal}
+use Rattle.ip_translation.proofs.BackLemmas.{destination_of, source_of}
+use Rattle.ip_translation.proofs.EchoBackLemmas.{echo_len, echo_over_ipv4, echo_type, some_pseudo_header, type_over_ipv4_back}
+use Rattle.ip_translation.proofs.PacketBackLemmas.{AreAlike, IsLong, all_none, at_least, at_most, both, bytes_range, bytes_take, by_protocol, chosen, equal, first_rule, is_at_least, is_echo, is_no_error, next_alike, no_extension_next, not_mapped, not_refused, one_of, packet_to_ipv4, range_len}
 
 -- ---- what the translation accepts
 
@@ -73,74 +76,139 @@ accepted prefixes packet room none is_whole =
 
 -- ---- the message
 
-udp_there : (prefixes : Prefixes) (protocol : ℕ) (message : List ℕ) (room : ℕ) → ipv6.refusal_of protocol prefixes message room ≡ None
-    → protocol ≡ udp_number → 8 ≤ length message
-udp_there prefixes protocol message room none is =
-    let other : ipv6.other_refusal udp_number message room ≡ None =
-    subst (λ protocol. ipv6.refusal_of protocol prefixes message room ≡ None) is none in
-    let udp : ipv6.udp_refusal message ≡ None = first_rule (ipv6.udp_refusal message) _ other in
-    let long : ipv6.header_len_refusal 8 message ≡ None = first_rule _ _ udp in
-    at_most 8 (length message) (not_refused _ _ long)
+refusal_by : (prefixes : Prefixes) (protocol known : ℕ) (message : List ℕ) (room : ℕ)
+    → ipv6.refusal_of protocol prefixes message room ≡ None → protocol ≡ known → ipv6.refusal_of known prefixes message room ≡ None
+refusal_by prefixes protocol known message room none is =
+    subst (λ protocol. ipv6.refusal_of protocol prefixes message room ≡ None) is none
 
-tcp_there : (prefixes : Prefixes) (protocol : ℕ) (message : List ℕ) (room : ℕ) → ipv6.refusal_of protocol prefixes message room ≡ None
-    → protocol ≡ tcp_number → 20 ≤ length message
-tcp_there prefixes protocol message room none is =
-    let other : ipv6.other_refusal tcp_number message room ≡ None =
-    subst (λ protocol. ipv6.refusal_of protocol prefixes message room ≡ None) is none in
-    let long : ipv6.header_len_refusal 20 message ≡ None = first_rule (ipv6.header_len_refusal 20 message) _ other in
-    at_most 20 (length message) (not_refused _ _ long)
+-- a message that the translation accepts and that is no ICMP error
+pub is_long : (prefixes : Prefixes) (protocol : ℕ) (message : List ℕ) (room : ℕ) → ipv6.refusal_of protocol prefixes message room ≡ None
+    → ipv6.is_icmp_error protocol message ≡ false → IsLong icmpv4_number protocol message
+is_long prefixes protocol message room none no_error = record {
+  icmp = λ is.
+      let other : ipv6.other_refusal protocol message room ≡ None =
+      sym (ap (λ test. if test then ipv6.error_packet_refusal prefixes message room else ipv6.other_refusal protocol message room) no_error)
+      ∙ none in
+      let icmp : ipv6.other_refusal icmpv4_number message room ≡ None =
+      subst (λ protocol. ipv6.other_refusal protocol message room ≡ None) is other in
+      let long : ipv6.header_len_refusal 8 message ≡ None = first_rule (ipv6.header_len_refusal 8 message) _ icmp in
+      at_most 8 (length message) (not_refused _ _ long);
+  udp = λ is.
+      let udp : ipv6.udp_refusal message ≡ None =
+      first_rule (ipv6.udp_refusal message) _ (refusal_by prefixes protocol udp_number message room none is) in
+      let long : ipv6.header_len_refusal 8 message ≡ None = first_rule _ _ udp in
+      at_most 8 (length message) (not_refused _ _ long);
+  tcp = λ is.
+      let long : ipv6.header_len_refusal 20 message ≡ None =
+      first_rule (ipv6.header_len_refusal 20 message) _ (refusal_by prefixes protocol tcp_number message room none is) in
+      at_most 20 (length message) (not_refused _ _ long);
+}
 
 module _ (prefixes : Prefixes) (header message : List ℕ) (fits : IsBytes message)
-    (no_icmp : headers.protocol header ≢ 1) (no_icmpv6 : headers.protocol header ≢ 58)
-    (udp_long : headers.protocol header ≡ udp_number → 8 ≤ length message)
-    (tcp_long : headers.protocol header ≡ tcp_number → 20 ≤ length message) where
+    (restored : IsRestored (headers.protocol header) message) (long : IsLong icmpv4_number (headers.protocol header) message)
+    (sixteen : length (embedded prefixes.source (headers.source header)) ≡ 16)
+    (sixteen_too : length (embedded prefixes.destination (headers.destination header)) ≡ 16) where
+  abbrev pub protocol : ℕ
+  protocol = headers.protocol header
+
+  abbrev pub number : ℕ
+  number = headers.next_header protocol
+
   abbrev pub translated : List ℕ
   translated = ipv6.updated_message prefixes header message
 
   abbrev pub ipv6_header : List ℕ
   ipv6_header = headers.translated_header prefixes header
 
-  not_icmp : (headers.protocol header == 1) ≡ false
-  not_icmp = unequal (headers.protocol header) 1 no_icmp
+  abbrev pub pseudo_header : List ℕ
+  pseudo_header = headers.new_pseudo_header prefixes header icmpv6_number (length message)
 
-  same_number : headers.next_header (headers.protocol header) ≡ headers.protocol header
-  same_number = ap (λ test. if test then 58 else headers.protocol header) not_icmp
+  abbrev pub type : ℕ
+  type = slice_index message 0
 
-  not_icmpv6 : (headers.next_header (headers.protocol header) == 58) ≡ false
-  not_icmpv6 = ap (λ number. number == 58) same_number ∙ unequal (headers.protocol header) 58 no_icmpv6
+  -- the type of the translated echo message
+  abbrev pub new_type : ℕ
+  new_type = unwrap_or (type_over_ipv6 type) type
 
-  -- the message before the test for ICMP
-  no_echo : translated ≡ (if headers.protocol header == udp_number then ipv6.translated_udp prefixes header message
-      else if headers.protocol header == tcp_number then ipv6.translated_tcp prefixes header message else message)
-  no_echo = ap (λ test. if test then ipv6.translated_icmp prefixes header message
-      else if headers.protocol header == udp_number then ipv6.translated_udp prefixes header message
-      else if headers.protocol header == tcp_number then ipv6.translated_tcp prefixes header message else message) not_icmp
+  alike : AreAlike icmpv6_number number icmpv4_number protocol
+  alike = next_alike protocol restored.no_icmpv6
+
+  enough : (protocol == icmpv4_number) ≡ true → 4 ≤ length message
+  enough is = omega (arith, long.icmp (equal protocol icmpv4_number is))
+
+  type_back : (protocol == icmpv4_number) ≡ true → type_over_ipv4 new_type ≡ Some type
+  type_back is =
+      type_over_ipv4_back type
+      (is_echo (protocol == icmpv4_number) (nat_le 8 (length message)) (is_none (type_over_ipv6 type)) restored.no_error is
+      (is_at_least 8 (length message) (long.icmp (equal protocol icmpv4_number is))))
+
+  echo_type_is : (protocol == icmpv4_number) ≡ true → slice_index (ipv6.translated_icmp prefixes header message) 0 ≡ new_type
+  echo_type_is is = echo_type new_type [] pseudo_header message (enough is)
+
+  pub no_error_back : ipv4.is_icmp_error number translated ≡ false
+  no_error_back =
+      is_no_error (number == icmpv6_number) (nat_le 8 (length translated)) (is_none (type_over_ipv4 (slice_index translated 0)))
+      (λ is.
+      let icmp : (protocol == icmpv4_number) ≡ true = sym alike.icmp ∙ is in
+      ap (λ test. is_none (type_over_ipv4 (slice_index (one_of test (protocol == udp_number) (protocol == tcp_number)
+      (ipv6.translated_icmp prefixes header message) (ipv6.translated_udp prefixes header message)
+      (ipv6.translated_tcp prefixes header message) message) 0))) icmp
+      ∙ ap (λ type. is_none (type_over_ipv4 type)) (echo_type_is icmp)
+      ∙ ap is_none (type_back icmp))
 
   pub translated_len : length translated ≡ length message
   translated_len =
-      ap length no_echo
-      ∙ chosen (λ part. length part ≡ length message) (headers.protocol header == udp_number) (headers.protocol header == tcp_number)
-      (ipv6.translated_udp prefixes header message) (ipv6.translated_tcp prefixes header message) message
+      chosen (λ part. length part ≡ length message) (protocol == icmpv4_number) (protocol == udp_number) (protocol == tcp_number)
+      (ipv6.translated_icmp prefixes header message) (ipv6.translated_udp prefixes header message)
+      (ipv6.translated_tcp prefixes header message) message
+      (λ is. echo_len new_type [] pseudo_header message (enough is))
       (λ is. length-with_checksum 6 message (ipv6.new_udp_checksum prefixes header message)
-      (omega (arith, udp_long (equal (headers.protocol header) udp_number is))))
+      (omega (arith, long.udp (equal protocol udp_number is))))
       (λ is. length-with_checksum 16 message (ipv6.new_tcp_checksum prefixes header message)
-      (omega (arith, tcp_long (equal (headers.protocol header) tcp_number is))))
+      (omega (arith, long.tcp (equal protocol tcp_number is))))
       refl
 
-  pub message_same : (headers.protocol header ≡ udp_number → udp_back prefixes header message ≡ message)
-      → (headers.protocol header ≡ tcp_number → tcp_back prefixes header message ≡ message)
+  source_is : back.source ipv6_header ≡ embedded prefixes.source (headers.source header)
+  source_is =
+      source_of (headers.type_of_service header) (headers.payload_len header) number (headers.time_to_live header - 1)
+      (embedded prefixes.source (headers.source header)) (embedded prefixes.destination (headers.destination header)) sixteen
+
+  destination_is : back.destination ipv6_header ≡ embedded prefixes.destination (headers.destination header)
+  destination_is =
+      destination_of (headers.type_of_service header) (headers.payload_len header) number (headers.time_to_live header - 1)
+      (embedded prefixes.source (headers.source header)) (embedded prefixes.destination (headers.destination header)) sixteen sixteen_too
+
+  echo_same : (protocol == icmpv4_number) ≡ true
+      → ipv4.translated_icmp ipv6_header (ipv6.translated_icmp prefixes header message) ≡ message
+  echo_same is =
+      let there : List ℕ = ipv6.translated_icmp prefixes header message in
+      ap (λ type. translated_echo (unwrap_or (type_over_ipv4 type) type)
+      (back.old_pseudo_header ipv6_header icmpv6_number (length there)) [] there) (echo_type_is is)
+      ∙ ap (λ type. translated_echo (unwrap_or type new_type) (back.old_pseudo_header ipv6_header icmpv6_number (length there)) [] there)
+      (type_back is)
+      ∙ ap₂ (λ source destination. translated_echo type (ipv6_pseudo_header source destination icmpv6_number (length there)) [] there)
+      source_is destination_is
+      ∙ ap (λ len. translated_echo type (headers.new_pseudo_header prefixes header icmpv6_number len) [] there)
+      (echo_len new_type [] pseudo_header message (enough is))
+      ∙ echo_over_ipv4 message new_type pseudo_header fits (enough is)
+      (some_pseudo_header (embedded prefixes.source (headers.source header)) (embedded prefixes.destination (headers.destination header))
+      icmpv6_number (length message) sixteen)
+      (restored.echo (equal protocol icmpv4_number is))
+
+  pub message_same : (protocol ≡ udp_number → udp_back prefixes header message ≡ message)
+      → (protocol ≡ tcp_number → tcp_back prefixes header message ≡ message)
       → ipv4.updated_message prefixes ipv6_header translated ≡ message
   message_same udp tcp =
-      ap (λ test. if test then ipv4.translated_icmp ipv6_header translated
-      else if headers.next_header (headers.protocol header) == udp_number then ipv4.translated_udp prefixes ipv6_header translated
-      else if headers.next_header (headers.protocol header) == tcp_number then ipv4.translated_tcp prefixes ipv6_header translated
-      else translated) not_icmpv6
-      ∙ ap₂ (λ number part. if number == udp_number then ipv4.translated_udp prefixes ipv6_header part
-      else if number == tcp_number then ipv4.translated_tcp prefixes ipv6_header part else part) same_number no_echo
-      ∙ by_protocol (headers.protocol header == udp_number) (headers.protocol header == tcp_number) message
-      (ipv6.translated_udp prefixes header message) (ipv6.translated_tcp prefixes header message)
-      (ipv4.translated_udp prefixes ipv6_header) (ipv4.translated_tcp prefixes ipv6_header)
-      (λ is. udp (equal (headers.protocol header) udp_number is)) (λ is. tcp (equal (headers.protocol header) tcp_number is))
+      ap₂ (λ icmp udp. one_of icmp udp (number == tcp_number) (ipv4.translated_icmp ipv6_header translated)
+      (ipv4.translated_udp prefixes ipv6_header translated) (ipv4.translated_tcp prefixes ipv6_header translated) translated)
+      alike.icmp alike.udp
+      ∙ ap (λ tcp. one_of (protocol == icmpv4_number) (protocol == udp_number) tcp (ipv4.translated_icmp ipv6_header translated)
+      (ipv4.translated_udp prefixes ipv6_header translated) (ipv4.translated_tcp prefixes ipv6_header translated) translated) alike.tcp
+      ∙ by_protocol (protocol == icmpv4_number) (protocol == udp_number) (protocol == tcp_number) message
+      (ipv6.translated_icmp prefixes header message) (ipv6.translated_udp prefixes header message)
+      (ipv6.translated_tcp prefixes header message)
+      (ipv4.translated_icmp ipv6_header) (ipv4.translated_udp prefixes ipv6_header) (ipv4.translated_tcp prefixes ipv6_header)
+      echo_same (λ is. udp (equal protocol udp_number is)) (λ is. tcp (equal protocol tcp_number is))
 
 -- ---- the packet
 
@@ -183,35 +251,27 @@ module _ (prefixes : Prefixes) (packet : List ℕ) (identification room : ℕ) (
       → ipv4.translated_packet prefixes identification (parts.translated_packet prefixes packet) ≡ packet_back identification packet
   there_and_back header_law udp_law tcp_law =
       let protocol : ℕ = headers.protocol header in
-      let no_icmp = restored.message.no_icmp in
-      let no_icmpv6 = restored.message.no_icmpv6 in
-      let udp_long : protocol ≡ udp_number → 8 ≤ length message = udp_there prefixes protocol message room is.message in
-      let tcp_long : protocol ≡ tcp_number → 20 ≤ length message = tcp_there prefixes protocol message room is.message in
+      let restored_message : IsRestored protocol message = restored.message in
+      let long : IsLong icmpv4_number protocol message =
+      is_long prefixes protocol message room is.message restored_message.no_error in
       let there : List ℕ = ipv6.updated_message prefixes header message in
       let ipv6_header : List ℕ = headers.translated_header prefixes header in
       let there_len : length there ≡ headers.payload_len header =
-      translated_len prefixes header message fits_message no_icmp no_icmpv6 udp_long tcp_long ∙ message_len in
-      let number_same : headers.next_header protocol ≡ protocol =
-      same_number prefixes header message fits_message no_icmp no_icmpv6 udp_long tcp_long in
-      let other : back.is_extension (headers.next_header protocol) ≡ false =
-      ap back.is_extension number_same ∙ restored.no_extension in
+      translated_len prefixes header message fits_message restored_message long sixteen sixteen_too ∙ message_len in
       let short : length there < 65536 = omega (arith, there_len, fits_header 2, fits_header 3) in
       ap (λ test. ipv4.translated_packet prefixes identification
       (if test then parts.translated_part prefixes header message else ipv6.translation_of header prefixes message)) restored.whole
       ∙ ap (λ test. ipv4.translated_packet prefixes identification
-      (if test && (nat_le 8 (length message) && is_none (type_over_ipv6 (slice_index message 0)))
-      then ipv6.error_packet header prefixes message else ipv6_header ++ there))
-      (not_icmp prefixes header message fits_message no_icmp no_icmpv6 udp_long tcp_long)
+      (if test then ipv6.error_packet header prefixes message else ipv6_header ++ there)) restored_message.no_error
       ∙ packet_to_ipv4 (headers.type_of_service header) (headers.payload_len header) (headers.next_header protocol)
       (headers.time_to_live header - 1) (embedded prefixes.source (headers.source header))
-      (embedded prefixes.destination (headers.destination header)) there (fits_header 1) short there_len sixteen sixteen_too other
-      prefixes identification
-      ∙ ap (λ test. if test && (nat_le 8 (length there) && is_none (type_over_ipv4 (slice_index there 0)))
-      then ipv4.error_packet ipv6_header prefixes (whole identification) there
+      (embedded prefixes.destination (headers.destination header)) there (fits_header 1) short there_len sixteen sixteen_too
+      (no_extension_next protocol restored.no_extension) prefixes identification
+      ∙ ap (λ test. if test then ipv4.error_packet ipv6_header prefixes (whole identification) there
       else back.translated_header prefixes (whole identification) ipv6_header ++ ipv4.updated_message prefixes ipv6_header there)
-      (not_icmpv6 prefixes header message fits_message no_icmp no_icmpv6 udp_long tcp_long)
+      (no_error_back prefixes header message fits_message restored_message long sixteen sixteen_too)
       ∙ ap₂ (λ header message. header ++ message)
-      (header_law header_len first counted no_icmpv6)
-      (message_same prefixes header message fits_message no_icmp no_icmpv6 udp_long tcp_long
-      (λ is. udp_law fits_message (udp_long is) (restored.message.udp is))
-      (λ is. tcp_law fits_message (tcp_long is) (restored.message.tcp is)))
+      (header_law header_len first counted restored_message.no_icmpv6)
+      (message_same prefixes header message fits_message restored_message long sixteen sixteen_too
+      (λ is. udp_law fits_message (long.udp is) (restored_message.udp is))
+      (λ is. tcp_law fits_message (long.tcp is) (restored_message.tcp is)))

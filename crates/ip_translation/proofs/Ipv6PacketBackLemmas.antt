@@ -1,15 +1,16 @@
 -- An IPv6 packet that is translated to IPv4 and back.
-use Rattle.std.proofs.Common.{◌≡◌, ◌≢◌, ◌⊎◌, inl, inr, ℕ, ◌+◌, ◌-◌, ◌==◌, ◌<◌, ◌≤◌, Bool, true, false, ◌&&◌, not, if◌then◌else◌, List, [], ◌∷◌, ◌++◌, length, drop, take, slice_index, Option, Some, None, refl, sym, subst, ap, ap₂, ◌∙◌, length-append, length-drop, length-take, arith}
+use Rattle.std.proofs.Common.{◌≡◌, ◌≢◌, ◌⊎◌, inl, inr, ℕ, ◌+◌, ◌-◌, ◌==◌, ◌<◌, ◌≤◌, Bool, true, false, not, if◌then◌else◌, List, [], ◌∷◌, ◌++◌, length, drop, take, slice_index, Option, Some, None, refl, sym, subst, ap, ap₂, ◌∙◌, length-append, length-drop, length-take, arith}
 use Rattle.std.specs.Prelude.{is_none, nat_eq, nat_le, nat_lt, slice_set}
 use Rattle.std.specs.Cmp.Lexicographic.{pointwise}
 use Rattle.std.specs.Int.{to_be_bytes, w16}
-use Rattle.std.specs.Option.{option_map}
+use Rattle.std.specs.Option.{option_map, unwrap_or}
 use Rattle.std.proofs.lemmas.Bool.{not-false}
 use Rattle.std.proofs.lemmas.List.{drop_at, take_all, take_at}
 use Rattle.ip_part.specs.Ip.{error_of, ipv6_header}
 use Rattle.net_base.specs.Bytes.{IsBytes}
 use Rattle.net_base.specs.IpHeaders.{ipv4_is_fragment, version}
-use Rattle.net_base.specs.IpNumbers.{tcp_number, udp_number}
+use Rattle.net_base.specs.IpNumbers.{icmpv4_number, icmpv6_number, tcp_number, udp_number}
+use Rattle.net_base.specs.PseudoHeader.{ipv6_pseudo_header}
 use Rattle.net_base.specs.Refusals.{refused_if}
 use Rattle.net_base.specs.StoredChecksum.{with_checksum}
 use Rattle.net_base.proofs.StoredChecksumLemmas.{length-with_checksum, stored_checksum}
@@ -17,7 +18,7 @@ use Rattle.word_sum.specs.Checksum.{all_ones, checksum_of, complement, folded, t
 use Rattle.word_sum.specs.UpdatedChecksum.{updated_udp_checksum_of}
 use Rattle.word_sum.proofs.ChecksumLemmas.{folded-lt}
 use Rattle.word_sum.proofs.ChecksumChangeLemmas.{updated_udp_reversed}
-use Rattle.ip_translation.specs.EchoMessages.{type_over_ipv4, type_over_ipv6}
+use Rattle.ip_translation.specs.EchoMessages.{translated_echo, type_over_ipv4, type_over_ipv6}
 use Rattle.ip_translation.specs.Fragments.{dont_fragment, flags, flags_and_offset, is_part, whole}
 use Rattle.ip_translation.specs.FragmentsToIpv6 as parts
 use Rattle.ip_translation.specs.HeadersToIpv4 as back
@@ -26,18 +27,19 @@ use Rattle.ip_translation.specs.PacketsToIpv4 as ipv4
 use Rattle.ip_translation.specs.PacketsToIpv6 as ipv6
 use Rattle.ip_translation.specs.Prefixes.{embedded, extracted, is_embedded, octet_count, octets, to_ipv4_refusal, without_reserved}
 use Rattle.ip_translation.specs.SkippedHeaders.{unless_err}
-use Rattle.ip_translation.specs.ThereAndBack.{ComesBack, IsRestored, IsRestoredIpv6Packet, ipv6_packet_back}
+use Rattle.ip_translation.specs.ThereAndBack.{ComesBack, IsRestoredIpv6Packet, IsRestoredOverIpv6, ipv6_packet_back}
 use Rattle.ip_translation.specs.declared.address_error.AddressError.TheVariants.{NotEmbedded}
 use Rattle.ip_translation.specs.declared.fragment_fields.FragmentFields.{FragmentFields}
-use Rattle.ip_translation.specs.declared.packet_translation_error.PacketTranslationError.TheVariants.{Header, NoIpv6Header}
+use Rattle.ip_translation.specs.declared.packet_translation_error.PacketTranslationError.TheVariants.{Header, NoIpv6Header, NoUdpChecksum}
 use Rattle.ip_translation.specs.declared.prefix64.Prefix64.{Prefix64}
 use Rattle.ip_translation.specs.declared.prefix64.Prefix64.TheVariants.{Bits32, Bits40, Bits48, Bits56, Bits64, Bits96}
 use Rattle.ip_translation.specs.declared.prefixes.Prefixes.{Prefixes}
 use Rattle.ip_translation.specs.declared.translation_error.TranslationError.TheVariants.{Destination, ExtensionHeader, IllegalDestination, IllegalSource, PayloadLength, Source}
 use Rattle.ip_translation.proofs.BackLemmas.{checksum_small, destination_of, source_of, tcp_same, udp_same}
 use Rattle.ip_translation.proofs.DirectLemmas.{flags_of}
+use Rattle.ip_translation.proofs.EchoBackLemmas.{echo_len, echo_over_ipv6, echo_type, some_pseudo_header, type_over_ipv6_back}
 use Rattle.ip_translation.proofs.EmbeddedLemmas.{begins_with, embedded_again}
-use Rattle.ip_translation.proofs.PacketBackLemmas.{all_none, at_least, at_most, both, by_protocol, bytes_drop, bytes_range, bytes_take, chosen, equal, first_rule, not_mapped, not_refused, range_len, unequal}
+use Rattle.ip_translation.proofs.PacketBackLemmas.{AreAlike, IsLong, all_none, at_least, at_most, both, by_protocol, bytes_drop, bytes_range, bytes_take, chosen, different, equal, first_rule, is_at_least, is_echo, is_no_error, not_mapped, not_refused, number_back, one_of, protocol_alike, range_len, unequal}
 
 -- ---- addresses
 
@@ -136,7 +138,8 @@ module _ (prefixes : Prefixes) (fields : FragmentFields) (direct : List ℕ)
       let message_is : ipv6.message_after header (header ++ message) ≡ message =
       ap (take (headers.total_len header - 20)) (drop_at header message 20 header_len)
       ∙ take_all (headers.total_len header - 20) message (omega (arith, total_is small, counted)) in
-      ap (λ front. parts.translation_with front prefixes (ipv6.message_after front (header ++ message))) (take_at header message 20 header_len)
+      ap (λ front. parts.translation_with front prefixes (ipv6.message_after front (header ++ message)))
+      (take_at header message 20 header_len)
       ∙ ap (parts.translation_with header prefixes) message_is
       ∙ ap (λ test. if test then parts.translated_part prefixes header message else ipv6.translation_of header prefixes message)
       (no_fragment whole)
@@ -165,10 +168,75 @@ updated_small checksum removed added = tested (checksum == 0) (checksum_of sum =
 module _ (prefixes : Prefixes) (ipv6_header ipv4_header message : List ℕ) (fits : IsBytes message)
     (removed_same : ipv6.removed_addresses ipv4_header ≡ back.added_addresses prefixes ipv6_header)
     (added_same : ipv6.added_addresses prefixes ipv4_header ≡ back.removed_addresses ipv6_header)
-    (protocol : ℕ) (protocol_is : back.next_header ipv6_header ≡ protocol) (protocol_same : headers.protocol ipv4_header ≡ protocol)
-    (restored : IsRestored protocol message)
-    (udp_long : protocol ≡ udp_number → 8 ≤ length message)
-    (tcp_long : protocol ≡ tcp_number → 20 ≤ length message) where
+    (protocol_is : headers.protocol ipv4_header ≡ back.protocol_of (back.next_header ipv6_header))
+    (restored : IsRestoredOverIpv6 (back.next_header ipv6_header) message)
+    (some_udp : back.next_header ipv6_header ≡ udp_number → ipv6.udp_checksum message ≢ 0)
+    (long : IsLong icmpv6_number (back.next_header ipv6_header) message)
+    (sixteen : length (back.source ipv6_header) ≡ 16)
+    (source_again : embedded prefixes.source (headers.source ipv4_header) ≡ back.source ipv6_header)
+    (destination_again : embedded prefixes.destination (headers.destination ipv4_header) ≡ back.destination ipv6_header) where
+  abbrev pub next_number : ℕ
+  next_number = back.next_header ipv6_header
+
+  abbrev pub protocol : ℕ
+  protocol = back.protocol_of next_number
+
+  abbrev pub translated : List ℕ
+  translated = ipv4.updated_message prefixes ipv6_header message
+
+  abbrev pub pseudo_header : List ℕ
+  pseudo_header = back.old_pseudo_header ipv6_header icmpv6_number (length message)
+
+  abbrev pub type : ℕ
+  type = slice_index message 0
+
+  -- the type of the translated echo message
+  abbrev pub new_type : ℕ
+  new_type = unwrap_or (type_over_ipv4 type) type
+
+  alike : AreAlike icmpv4_number protocol icmpv6_number next_number
+  alike = protocol_alike next_number restored.no_icmp
+
+  enough : (next_number == icmpv6_number) ≡ true → 4 ≤ length message
+  enough is = omega (arith, long.icmp (equal next_number icmpv6_number is))
+
+  type_back : (next_number == icmpv6_number) ≡ true → (type_over_ipv6 new_type ≡ Some type) × (0 < type)
+  type_back is =
+      type_over_ipv6_back type
+      (is_echo (next_number == icmpv6_number) (nat_le 8 (length message)) (is_none (type_over_ipv4 type)) restored.no_error is
+      (is_at_least 8 (length message) (long.icmp (equal next_number icmpv6_number is))))
+
+  echo_type_is : (next_number == icmpv6_number) ≡ true → slice_index (ipv4.translated_icmp ipv6_header message) 0 ≡ new_type
+  echo_type_is is = echo_type new_type pseudo_header [] message (enough is)
+
+  pub no_error_back : ipv6.is_icmp_error (headers.protocol ipv4_header) translated ≡ false
+  no_error_back =
+      ap (λ protocol. ipv6.is_icmp_error protocol translated) protocol_is
+      ∙ is_no_error (protocol == icmpv4_number) (nat_le 8 (length translated)) (is_none (type_over_ipv6 (slice_index translated 0)))
+      (λ is.
+      let icmp : (next_number == icmpv6_number) ≡ true = sym alike.icmp ∙ is in
+      ap (λ test. is_none (type_over_ipv6 (slice_index (one_of test (next_number == udp_number) (next_number == tcp_number)
+      (ipv4.translated_icmp ipv6_header message) (ipv4.translated_udp prefixes ipv6_header message)
+      (ipv4.translated_tcp prefixes ipv6_header message) message) 0))) icmp
+      ∙ ap (λ type. is_none (type_over_ipv6 type)) (echo_type_is icmp)
+      ∙ ap is_none (type_back icmp).0)
+
+  echo_same : (next_number == icmpv6_number) ≡ true
+      → ipv6.translated_icmp prefixes ipv4_header (ipv4.translated_icmp ipv6_header message) ≡ message
+  echo_same is =
+      let there : List ℕ = ipv4.translated_icmp ipv6_header message in
+      ap (λ type. translated_echo (unwrap_or (type_over_ipv6 type) type) []
+      (headers.new_pseudo_header prefixes ipv4_header icmpv6_number (length there)) there) (echo_type_is is)
+      ∙ ap (λ type. translated_echo (unwrap_or type new_type) []
+      (headers.new_pseudo_header prefixes ipv4_header icmpv6_number (length there)) there) (type_back is).0
+      ∙ ap₂ (λ source destination. translated_echo type [] (ipv6_pseudo_header source destination icmpv6_number (length there)) there)
+      source_again destination_again
+      ∙ ap (λ len. translated_echo type [] (back.old_pseudo_header ipv6_header icmpv6_number len) there)
+      (echo_len new_type pseudo_header [] message (enough is))
+      ∙ echo_over_ipv6 message new_type pseudo_header fits (enough is)
+      (some_pseudo_header (back.source ipv6_header) (back.destination ipv6_header) icmpv6_number (length message) sixteen)
+      (type_back is).1 (restored.echo (equal next_number icmpv6_number is))
+
   udp_there_and_back : 8 ≤ length message → ipv6.udp_checksum message ≢ 0
       → ipv6.translated_udp prefixes ipv4_header (ipv4.translated_udp prefixes ipv6_header message) ≡ message
   udp_there_and_back there some =
@@ -189,7 +257,8 @@ module _ (prefixes : Prefixes) (ipv6_header ipv4_header message : List ℕ) (fit
       ∙ unequal between 0 (some_checksum checksum removed added (checksum_small message 6 fits) removed_small added_small some) in
       let length_field : ℕ = ipv6.udp_length translated in
       ap (λ test. with_checksum 6 translated (if test
-      then udp_checksum_of (total (headers.new_pseudo_header prefixes ipv4_header udp_number length_field) + total (take length_field translated))
+      then udp_checksum_of (total (headers.new_pseudo_header prefixes ipv4_header udp_number length_field)
+      + total (take length_field translated))
       else updated_udp_checksum_of (ipv6.udp_checksum translated) (ipv6.removed_addresses ipv4_header)
       (ipv6.added_addresses prefixes ipv4_header))) test
       ∙ udp_same message removed added (ipv6.removed_addresses ipv4_header) (ipv6.added_addresses prefixes ipv4_header) fits there
@@ -205,45 +274,34 @@ module _ (prefixes : Prefixes) (ipv6_header ipv4_header message : List ℕ) (fit
       + total (extracted prefixes.destination (back.destination ipv6_header))))
       removed_same added_same
 
-  -- the message before the test for ICMPv6
-  no_echo : ipv4.updated_message prefixes ipv6_header message
-      ≡ (if protocol == udp_number then ipv4.translated_udp prefixes ipv6_header message
-      else if protocol == tcp_number then ipv4.translated_tcp prefixes ipv6_header message else message)
-  no_echo =
-      ap (λ number. if number == 58 then ipv4.translated_icmp ipv6_header message
-      else if number == udp_number then ipv4.translated_udp prefixes ipv6_header message
-      else if number == tcp_number then ipv4.translated_tcp prefixes ipv6_header message else message) protocol_is
-      ∙ ap (λ test. if test then ipv4.translated_icmp ipv6_header message
-      else if protocol == udp_number then ipv4.translated_udp prefixes ipv6_header message
-      else if protocol == tcp_number then ipv4.translated_tcp prefixes ipv6_header message else message)
-      (unequal protocol 58 restored.no_icmpv6)
-
-  pub translated_len : length (ipv4.updated_message prefixes ipv6_header message) ≡ length message
+  pub translated_len : length translated ≡ length message
   translated_len =
-      ap length no_echo
-      ∙ chosen (λ part. length part ≡ length message) (protocol == udp_number) (protocol == tcp_number)
-      (ipv4.translated_udp prefixes ipv6_header message) (ipv4.translated_tcp prefixes ipv6_header message) message
-      (λ is. length-with_checksum 6 message _ (omega (arith, udp_long (equal protocol udp_number is))))
-      (λ is. length-with_checksum 16 message _ (omega (arith, tcp_long (equal protocol tcp_number is))))
+      chosen (λ part. length part ≡ length message) (next_number == icmpv6_number) (next_number == udp_number) (next_number == tcp_number)
+      (ipv4.translated_icmp ipv6_header message) (ipv4.translated_udp prefixes ipv6_header message)
+      (ipv4.translated_tcp prefixes ipv6_header message) message
+      (λ is. echo_len new_type pseudo_header [] message (enough is))
+      (λ is. length-with_checksum 6 message _ (omega (arith, long.udp (equal next_number udp_number is))))
+      (λ is. length-with_checksum 16 message _ (omega (arith, long.tcp (equal next_number tcp_number is))))
       refl
 
-  pub message_same : ipv6.updated_message prefixes ipv4_header (ipv4.updated_message prefixes ipv6_header message) ≡ message
+  pub message_same : ipv6.updated_message prefixes ipv4_header translated ≡ message
   message_same =
-      let translated : List ℕ = ipv4.updated_message prefixes ipv6_header message in
-      ap (λ number. if number == 1 then ipv6.translated_icmp prefixes ipv4_header translated
-      else if number == udp_number then ipv6.translated_udp prefixes ipv4_header translated
-      else if number == tcp_number then ipv6.translated_tcp prefixes ipv4_header translated else translated) protocol_same
-      ∙ ap (λ test. if test then ipv6.translated_icmp prefixes ipv4_header translated
-      else if protocol == udp_number then ipv6.translated_udp prefixes ipv4_header translated
-      else if protocol == tcp_number then ipv6.translated_tcp prefixes ipv4_header translated else translated)
-      (unequal protocol 1 restored.no_icmp)
-      ∙ ap (λ part. if protocol == udp_number then ipv6.translated_udp prefixes ipv4_header part
-      else if protocol == tcp_number then ipv6.translated_tcp prefixes ipv4_header part else part) no_echo
-      ∙ by_protocol (protocol == udp_number) (protocol == tcp_number) message
-      (ipv4.translated_udp prefixes ipv6_header message) (ipv4.translated_tcp prefixes ipv6_header message)
-      (ipv6.translated_udp prefixes ipv4_header) (ipv6.translated_tcp prefixes ipv4_header)
-      (λ is. let udp : protocol ≡ udp_number = equal protocol udp_number is in udp_there_and_back (udp_long udp) (restored.udp udp))
-      (λ is. let tcp : protocol ≡ tcp_number = equal protocol tcp_number is in tcp_there_and_back (tcp_long tcp) (restored.tcp tcp))
+      ap (λ protocol. one_of (protocol == icmpv4_number) (protocol == udp_number) (protocol == tcp_number)
+      (ipv6.translated_icmp prefixes ipv4_header translated) (ipv6.translated_udp prefixes ipv4_header translated)
+      (ipv6.translated_tcp prefixes ipv4_header translated) translated) protocol_is
+      ∙ ap₂ (λ icmp udp. one_of icmp udp (protocol == tcp_number) (ipv6.translated_icmp prefixes ipv4_header translated)
+      (ipv6.translated_udp prefixes ipv4_header translated) (ipv6.translated_tcp prefixes ipv4_header translated) translated)
+      alike.icmp alike.udp
+      ∙ ap (λ tcp. one_of (next_number == icmpv6_number) (next_number == udp_number) tcp
+      (ipv6.translated_icmp prefixes ipv4_header translated)
+      (ipv6.translated_udp prefixes ipv4_header translated) (ipv6.translated_tcp prefixes ipv4_header translated) translated) alike.tcp
+      ∙ by_protocol (next_number == icmpv6_number) (next_number == udp_number) (next_number == tcp_number) message
+      (ipv4.translated_icmp ipv6_header message) (ipv4.translated_udp prefixes ipv6_header message)
+      (ipv4.translated_tcp prefixes ipv6_header message)
+      (ipv6.translated_icmp prefixes ipv4_header) (ipv6.translated_udp prefixes ipv4_header) (ipv6.translated_tcp prefixes ipv4_header)
+      echo_same
+      (λ is. let udp : next_number ≡ udp_number = equal next_number udp_number is in udp_there_and_back (long.udp udp) (some_udp udp))
+      (λ is. let tcp : next_number ≡ tcp_number = equal next_number tcp_number is in tcp_there_and_back (long.tcp tcp) (restored.tcp tcp))
 
 -- ---- the packet without its extension headers
 
@@ -259,9 +317,9 @@ pub record IsSame (prefixes : Prefixes) (class len number hop : ℕ) (source des
   pub source_back : embedded prefixes.source (extracted prefixes.source source) ≡ source
   pub destination_back : embedded prefixes.destination (extracted prefixes.destination destination) ≡ destination
   pub whole : is_part fields.flags_and_offset ≡ false
-  pub restored : IsRestored number message
-  pub udp_long : number ≡ udp_number → 8 ≤ length message
-  pub tcp_long : number ≡ tcp_number → 20 ≤ length message
+  pub restored : IsRestoredOverIpv6 number message
+  pub some_udp : number ≡ udp_number → ipv6.udp_checksum message ≢ 0
+  pub long : IsLong icmpv6_number number message
 
 module _ (prefixes : Prefixes) (class len number hop : ℕ) (source destination message : List ℕ) (fields : FragmentFields)
     (is : IsSame prefixes class len number hop source destination message fields) where
@@ -310,14 +368,8 @@ module _ (prefixes : Prefixes) (class len number hop : ℕ) (source destination 
       ap₂ (λ source destination. folded (total source + total destination))
       (source_again ∙ sym source_same) (destination_again ∙ sym destination_same)
 
-  protocol_same : headers.protocol ipv4_header ≡ number
-  protocol_same = ap (λ test. if test then 1 else number) (unequal number 58 is.restored.no_icmpv6)
-
-  not_icmp : (headers.protocol ipv4_header == 1) ≡ false
-  not_icmp = ap (λ number. number == 1) protocol_same ∙ unequal number 1 is.restored.no_icmp
-
   number_same : headers.next_header (headers.protocol ipv4_header) ≡ number
-  number_same = ap (λ test. if test then 58 else headers.protocol ipv4_header) not_icmp ∙ protocol_same
+  number_same = number_back number is.restored.no_icmp
 
   payload_same : headers.payload_len ipv4_header ≡ len
   payload_same =
@@ -343,43 +395,64 @@ module _ (prefixes : Prefixes) (class len number hop : ℕ) (source destination 
       ≡ slice_set direct 7 (hop - 2) ++ message
   direct_there_and_back =
       let translated : List ℕ = ipv4.updated_message prefixes direct message in
+      let source_kept = source_again ∙ sym source_same in
+      let destination_kept = destination_again ∙ sym destination_same in
       let translated_long : length translated ≡ back.payload_len direct =
-      translated_len prefixes direct ipv4_header message is.fits removed_same added_same number refl protocol_same is.restored is.udp_long
-      is.tcp_long
+      translated_len prefixes direct ipv4_header message is.fits removed_same added_same refl is.restored is.some_udp is.long sixteen
+      source_kept destination_kept
       ∙ is.counted ∙ sym len_same in
       ap (λ test. parts.translated_packet prefixes (if test
       then ipv4_header ++ ipv4.translated_part direct prefixes fields message
       else ipv4.translation_of direct prefixes fields message)) is.whole
       ∙ ap (λ test. parts.translated_packet prefixes
-      (if test && (nat_le 8 (length message) && is_none (type_over_ipv4 (slice_index message 0)))
-      then ipv4.error_packet direct prefixes fields message else ipv4_header ++ translated))
-      (unequal number 58 is.restored.no_icmpv6)
+      (if test then ipv4.error_packet direct prefixes fields message else ipv4_header ++ translated)) is.restored.no_error
       ∙ packet_to_ipv6 prefixes fields direct sixteen sixteen_too translated is.whole translated_long (omega (arith, len_same, is.short))
-      ∙ ap (λ test. if test && (nat_le 8 (length translated) && is_none (type_over_ipv6 (slice_index translated 0)))
-      then ipv6.error_packet ipv4_header prefixes translated
-      else headers.translated_header prefixes ipv4_header ++ ipv6.updated_message prefixes ipv4_header translated) not_icmp
+      ∙ ap (λ test. if test then ipv6.error_packet ipv4_header prefixes translated
+      else headers.translated_header prefixes ipv4_header ++ ipv6.updated_message prefixes ipv4_header translated)
+      (no_error_back prefixes direct ipv4_header message is.fits removed_same added_same refl is.restored is.some_udp is.long sixteen
+      source_kept destination_kept)
       ∙ ap₂ (λ header message. header ++ message) header_same
-      (message_same prefixes direct ipv4_header message is.fits removed_same added_same number refl protocol_same is.restored is.udp_long
-      is.tcp_long)
+      (message_same prefixes direct ipv4_header message is.fits removed_same added_same refl is.restored is.some_udp is.long sixteen
+      source_kept destination_kept)
 
 -- ---- what the translation accepts
 
-udp_there : (prefixes : Prefixes) (protocol : ℕ) (message : List ℕ) (room : ℕ) → ipv4.refusal_of protocol prefixes message room ≡ None
-    → protocol ≡ udp_number → 8 ≤ length message
-udp_there prefixes protocol message room none is =
+udp_accepted : (prefixes : Prefixes) (number : ℕ) (message : List ℕ) (room : ℕ) → ipv4.refusal_of number prefixes message room ≡ None
+    → number ≡ udp_number → ipv4.udp_refusal message ≡ None
+udp_accepted prefixes number message room none is =
     let other : ipv4.other_refusal udp_number message room ≡ None =
-    subst (λ protocol. ipv4.refusal_of protocol prefixes message room ≡ None) is none in
-    let udp : ipv4.udp_refusal message ≡ None = first_rule (ipv4.udp_refusal message) _ other in
-    let long : ipv6.header_len_refusal 8 message ≡ None = first_rule _ _ udp in
-    at_most 8 (length message) (not_refused _ _ long)
+    subst (λ number. ipv4.refusal_of number prefixes message room ≡ None) is none in
+    first_rule (ipv4.udp_refusal message) _ other
 
-tcp_there : (prefixes : Prefixes) (protocol : ℕ) (message : List ℕ) (room : ℕ) → ipv4.refusal_of protocol prefixes message room ≡ None
-    → protocol ≡ tcp_number → 20 ≤ length message
-tcp_there prefixes protocol message room none is =
-    let other : ipv4.other_refusal tcp_number message room ≡ None =
-    subst (λ protocol. ipv4.refusal_of protocol prefixes message room ≡ None) is none in
-    let long : ipv6.header_len_refusal 20 message ≡ None = first_rule (ipv6.header_len_refusal 20 message) _ other in
-    at_most 20 (length message) (not_refused _ _ long)
+-- an accepted UDP packet has a checksum
+has_checksum : (prefixes : Prefixes) (number : ℕ) (message : List ℕ) (room : ℕ) → ipv4.refusal_of number prefixes message room ≡ None
+    → number ≡ udp_number → ipv6.udp_checksum message ≢ 0
+has_checksum prefixes number message room none is =
+    let rules = all_none (ipv6.header_len_refusal 8 message ∷ refused_if (ipv6.udp_checksum message == 0) NoUdpChecksum ∷ [])
+    (udp_accepted prefixes number message room none is) in
+    different (ipv6.udp_checksum message) 0 (not_refused _ _ rules.1.0)
+
+-- a message that the translation accepts and that is no ICMPv6 error
+is_long : (prefixes : Prefixes) (number : ℕ) (message : List ℕ) (room : ℕ) → ipv4.refusal_of number prefixes message room ≡ None
+    → ipv4.is_icmp_error number message ≡ false → IsLong icmpv6_number number message
+is_long prefixes number message room none no_error = record {
+  icmp = λ is.
+      let other : ipv4.other_refusal number message room ≡ None =
+      sym (ap (λ test. if test then ipv4.error_packet_refusal prefixes message room else ipv4.other_refusal number message room) no_error)
+      ∙ none in
+      let icmp : ipv4.other_refusal icmpv6_number message room ≡ None =
+      subst (λ number. ipv4.other_refusal number message room ≡ None) is other in
+      let long : ipv6.header_len_refusal 8 message ≡ None = first_rule (ipv6.header_len_refusal 8 message) _ icmp in
+      at_most 8 (length message) (not_refused _ _ long);
+  udp = λ is.
+      let long : ipv6.header_len_refusal 8 message ≡ None = first_rule _ _ (udp_accepted prefixes number message room none is) in
+      at_most 8 (length message) (not_refused _ _ long);
+  tcp = λ is.
+      let other : ipv4.other_refusal tcp_number message room ≡ None =
+      subst (λ number. ipv4.refusal_of number prefixes message room ≡ None) is none in
+      let long : ipv6.header_len_refusal 20 message ≡ None = first_rule (ipv6.header_len_refusal 20 message) _ other in
+      at_most 20 (length message) (not_refused _ _ long);
+}
 
 -- the parts of a whole packet that the translation accepts
 pub record IsAccepted (prefixes : Prefixes) (packet : List ℕ) (room : ℕ) : Type 0 where
@@ -479,6 +552,6 @@ there_and_back prefixes packet identification room fits restored accepted =
           (ap (to_ipv4_refusal prefixes.destination) (sym destination_same) ∙ accepted.destination) restored.destination;
       whole = whole;
       restored = restored.message;
-      udp_long = udp_there prefixes number message room accepted.message;
-      tcp_long = tcp_there prefixes number message room accepted.message;
+      some_udp = has_checksum prefixes number message room accepted.message;
+      long = is_long prefixes number message room accepted.message restored.message.no_error;
     })

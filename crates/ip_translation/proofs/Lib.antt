@@ -1,5 +1,6 @@
 pub mod BackLemmas
 pub mod DirectLemmas
+pub mod EchoBackLemmas
 pub mod EchoLemmas
 pub mod EmbeddedLemmas
 pub mod ErrorLemmas

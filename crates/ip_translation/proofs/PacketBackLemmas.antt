@@ -7,10 +7,11 @@ use Rattle.std.proofs.lemmas.Bool.{cases_lt}
 use Rattle.std.proofs.lemmas.Bool.Decides.{nat_tests}
 use Rattle.std.proofs.lemmas.List.{drop_at, get_or-drop, get_or-take, get_or_past, take_all, take_at}
 use Rattle.net_base.specs.Bytes.{IsBytes}
+use Rattle.net_base.specs.IpNumbers.{icmpv4_number, icmpv6_number, tcp_number, udp_number}
 use Rattle.net_base.specs.Refusals.{first_of, refused_if}
 use Rattle.ip_translation.specs.Fragments.{whole}
 use Rattle.ip_translation.specs.HeadersToIpv4 as back
-use Rattle.ip_translation.specs.HeadersToIpv6.{ipv6_header}
+use Rattle.ip_translation.specs.HeadersToIpv6.{ipv6_header, next_header}
 use Rattle.ip_translation.specs.PacketsToIpv4 as ipv4
 use Rattle.ip_translation.specs.SkippedHeaders.{fragment_after, fragment_header_refusal, none_skipped, skipped_headers, with_fragment_header}
 use Rattle.ip_part.specs.Ip.{unless_refused}
@@ -55,8 +56,14 @@ at_most a b is = grind (arith, nat_tests, is)
 pub at_least : (a b : ℕ) → nat_le a b ≡ true → a ≤ b
 at_least a b is = grind (arith, nat_tests, is)
 
+pub is_at_least : (a b : ℕ) → a ≤ b → nat_le a b ≡ true
+is_at_least a b there = grind (arith, nat_tests, there)
+
 pub equal : (a b : ℕ) → (a == b) ≡ true → a ≡ b
 equal a b is = grind (arith, nat_tests, is)
+
+pub different : (a b : ℕ) → (a == b) ≡ false → a ≢ b
+different a b is = grind (arith, nat_tests, is)
 
 pub unequal : (a b : ℕ) → a ≢ b → (a == b) ≡ false
 unequal a b other = grind (arith, nat_tests, other)
@@ -80,23 +87,96 @@ bytes_range from to bytes fits = bytes_take (to - from) (drop from bytes) (bytes
 pub range_len : (from to : ℕ) (bytes : List ℕ) → to ≤ length bytes → length (slice_range bytes from to) ≡ to - from
 range_len from to bytes within = grind (arith, length-take, length-drop)
 
--- ---- one of three messages, by the protocol
+-- ---- one of four messages, by the protocol
 
-pub chosen : (P : List ℕ → Type 0) (udp tcp : Bool) (first second third : List ℕ) → (udp ≡ true → P first) → (tcp ≡ true → P second)
-    → P third → P (if udp then first else if tcp then second else third)
-chosen P true tcp first second third is_first is_second is_third = is_first refl
-chosen P false true first second third is_first is_second is_third = is_second refl
-chosen P false false first second third is_first is_second is_third = is_third
+abbrev pub one_of : Bool → Bool → Bool → List ℕ → List ℕ → List ℕ → List ℕ → List ℕ
+one_of icmp udp tcp first second third fourth = if icmp then first else if udp then second else if tcp then third else fourth
+
+pub chosen : (P : List ℕ → Type 0) (icmp udp tcp : Bool) (first second third fourth : List ℕ) → (icmp ≡ true → P first)
+    → (udp ≡ true → P second) → (tcp ≡ true → P third) → P fourth → P (one_of icmp udp tcp first second third fourth)
+chosen P true udp tcp first second third fourth is_first is_second is_third is_fourth = is_first refl
+chosen P false true tcp first second third fourth is_first is_second is_third is_fourth = is_second refl
+chosen P false false true first second third fourth is_first is_second is_third is_fourth = is_third refl
+chosen P false false false first second third fourth is_first is_second is_third is_fourth = is_fourth
 
 -- each message is the same after the way back
-pub by_protocol : (udp tcp : Bool) (message udp_there tcp_there : List ℕ) (udp_back tcp_back : List ℕ → List ℕ)
-    → (udp ≡ true → udp_back udp_there ≡ message) → (tcp ≡ true → tcp_back tcp_there ≡ message)
-    → (if udp then udp_back (if udp then udp_there else if tcp then tcp_there else message)
-    else if tcp then tcp_back (if udp then udp_there else if tcp then tcp_there else message)
-    else if udp then udp_there else if tcp then tcp_there else message) ≡ message
-by_protocol true tcp message udp_there tcp_there udp_back tcp_back is_udp is_tcp = is_udp refl
-by_protocol false true message udp_there tcp_there udp_back tcp_back is_udp is_tcp = is_tcp refl
-by_protocol false false message udp_there tcp_there udp_back tcp_back is_udp is_tcp = refl
+pub by_protocol : (icmp udp tcp : Bool) (message icmp_there udp_there tcp_there : List ℕ) (icmp_back udp_back tcp_back : List ℕ → List ℕ)
+    → (icmp ≡ true → icmp_back icmp_there ≡ message) → (udp ≡ true → udp_back udp_there ≡ message)
+    → (tcp ≡ true → tcp_back tcp_there ≡ message)
+    → one_of icmp udp tcp (icmp_back (one_of icmp udp tcp icmp_there udp_there tcp_there message))
+    (udp_back (one_of icmp udp tcp icmp_there udp_there tcp_there message))
+    (tcp_back (one_of icmp udp tcp icmp_there udp_there tcp_there message))
+    (one_of icmp udp tcp icmp_there udp_there tcp_there message) ≡ message
+by_protocol true udp tcp message icmp_there udp_there tcp_there icmp_back udp_back tcp_back is_icmp is_udp is_tcp = is_icmp refl
+by_protocol false true tcp message icmp_there udp_there tcp_there icmp_back udp_back tcp_back is_icmp is_udp is_tcp = is_udp refl
+by_protocol false false true message icmp_there udp_there tcp_there icmp_back udp_back tcp_back is_icmp is_udp is_tcp = is_tcp refl
+by_protocol false false false message icmp_there udp_there tcp_there icmp_back udp_back tcp_back is_icmp is_udp is_tcp = refl
+
+-- the tests of the protocol after a translation
+pub record AreAlike (icmp_number number old_icmp_number old_number : ℕ) : Type 0 where
+  pub icmp : (number == icmp_number) ≡ (old_number == old_icmp_number)
+  pub udp : (number == udp_number) ≡ (old_number == udp_number)
+  pub tcp : (number == tcp_number) ≡ (old_number == tcp_number)
+
+-- ICMP and ICMPv6 are exchanged; no other protocol has the new number
+exchanged : (is_icmp : Bool) (number old_icmp icmp : ℕ) → (number == old_icmp) ≡ is_icmp → number ≢ icmp
+    → (old_icmp == udp_number) ≡ false → (old_icmp == tcp_number) ≡ false → (icmp == udp_number) ≡ false → (icmp == tcp_number) ≡ false
+    → AreAlike icmp (if is_icmp then icmp else number) old_icmp number
+exchanged true number old_icmp icmp is other old_udp old_tcp udp tcp =
+    let same : number ≡ old_icmp = equal number old_icmp is in
+    record {
+      icmp = same_self icmp ∙ sym is;
+      udp = udp ∙ sym (ap (λ number. number == udp_number) same ∙ old_udp);
+      tcp = tcp ∙ sym (ap (λ number. number == tcp_number) same ∙ old_tcp);
+    }
+  where
+    same_self : (n : ℕ) → (n == n) ≡ true
+    same_self n = grind (arith, nat_tests)
+exchanged false number old_icmp icmp is other old_udp old_tcp udp tcp =
+    record { icmp = unequal number icmp other ∙ sym is; udp = refl; tcp = refl }
+
+pub next_alike : (protocol : ℕ) → protocol ≢ icmpv6_number → AreAlike icmpv6_number (next_header protocol) icmpv4_number protocol
+next_alike protocol other = exchanged (protocol == icmpv4_number) protocol icmpv4_number icmpv6_number refl other refl refl refl refl
+
+pub protocol_alike : (number : ℕ) → number ≢ icmpv4_number → AreAlike icmpv4_number (back.protocol_of number) icmpv6_number number
+protocol_alike number other = exchanged (number == icmpv6_number) number icmpv6_number icmpv4_number refl other refl refl refl refl
+
+-- the number of the protocol, translated to IPv4 and back
+pub number_back : (number : ℕ) → number ≢ icmpv4_number → next_header (back.protocol_of number) ≡ number
+number_back number other = cases (number == icmpv6_number) refl
+  where
+    cases : (test : Bool) → (number == icmpv6_number) ≡ test → next_header (back.protocol_of number) ≡ number
+    cases true is =
+        let same : number ≡ icmpv6_number = equal number icmpv6_number is in
+        ap (λ number. next_header (back.protocol_of number)) same ∙ sym same
+    cases false is =
+        ap next_header (ap (λ test. if test then icmpv4_number else number) is)
+        ∙ ap (λ test. if test then icmpv6_number else number) (unequal number icmpv4_number other)
+
+-- the next header is no extension header if the protocol is no extension header
+pub no_extension_next : (protocol : ℕ) → back.is_extension protocol ≡ false → back.is_extension (next_header protocol) ≡ false
+no_extension_next protocol other = cases (protocol == icmpv4_number)
+  where
+    cases : (test : Bool) → back.is_extension (if test then icmpv6_number else protocol) ≡ false
+    cases true = refl
+    cases false = other
+
+-- the message is at least as long as its header
+pub record IsLong (icmp_number protocol : ℕ) (message : List ℕ) : Type 0 where
+  pub icmp : protocol ≡ icmp_number → 8 ≤ length message
+  pub udp : protocol ≡ udp_number → 8 ≤ length message
+  pub tcp : protocol ≡ tcp_number → 20 ≤ length message
+
+-- an echo message is no error
+pub is_no_error : (icmp long other : Bool) → (icmp ≡ true → other ≡ false) → (icmp && (long && other)) ≡ false
+is_no_error false long other echo = refl
+is_no_error true false other echo = refl
+is_no_error true true other echo = echo refl
+
+pub is_echo : (icmp long other : Bool) → (icmp && (long && other)) ≡ false → icmp ≡ true → long ≡ true → other ≡ false
+is_echo true true other none is is_long = none
+is_echo false long other none is is_long = absurd (true≢false (sym is))
+is_echo true false other none is is_long = absurd (true≢false (sym is_long))
 
 -- ---- a message without extension headers
 

@@ -5,6 +5,7 @@ use Rattle.net_base.specs.IpHeaders.{ipv4_header_len, ipv4_is_fragment}
 use Rattle.net_base.specs.IpNumbers.{icmpv4_number, icmpv6_number, tcp_number, udp_number}
 use Rattle.net_base.specs.StoredChecksum.{with_checksum as with_number}
 use Rattle.word_sum.specs.Checksum.{all_ones, checksum_of, total}
+use Rattle.ip_translation.specs.EchoMessages.{icmp_checksum}
 use Rattle.ip_translation.specs.Fragments.{flags, is_part}
 use Rattle.ip_translation.specs.HeadersToIpv4 as back
 use Rattle.ip_translation.specs.HeadersToIpv4.{is_extension}
@@ -50,39 +51,48 @@ header_back identification header =
 
 -- ---- whole packets
 
--- A message of this protocol is the same after the way back. It is no ICMP message. A UDP packet has a checksum, and the checksum of a TCP
--- segment is not 65535.
+-- The message of an IPv4 packet with this protocol is the same after the way back. It is no ICMP error and no ICMPv6 message. The checksum of
+-- an echo message and of a UDP packet is not 0, and the checksum of a TCP segment is not 65535.
 pub record IsRestored (protocol : ℕ) (message : List ℕ) : Type 0 where
-  pub no_icmp : protocol ≢ icmpv4_number
+  pub no_error : ipv6.is_icmp_error protocol message ≡ false
   pub no_icmpv6 : protocol ≢ icmpv6_number
+  pub echo : protocol ≡ icmpv4_number → icmp_checksum message ≢ 0
   pub udp : protocol ≡ udp_number → ipv6.udp_checksum message ≢ 0
   pub tcp : protocol ≡ tcp_number → ipv6.tcp_checksum message ≢ all_ones
 
--- A whole IPv4 packet without options, whose message is the same after the way back. Its protocol is not the number of an extension header
--- of IPv6, since an extension header is left out on the way back.
+-- A whole IPv4 packet without options, whose message is the same after the way back. Its protocol is not the number of an IPv6 extension
+-- header, which would be left out on the way back.
 pub record IsRestoredPacket (packet : List ℕ) : Type 0 where
   pub no_options : ipv4_header_len packet ≡ 20
   pub whole : ipv4_is_fragment (ipv4_header packet) ≡ false
   pub no_extension : is_extension (protocol (ipv4_header packet)) ≡ false
   pub message : IsRestored (protocol (ipv4_header packet)) (ipv6.message_of packet)
 
--- The IPv4 packet after the way back: `header_back` lists the fields of the header that are other ones. The bytes that the total length does
--- not count are left out.
+-- The IPv4 packet after the way back: `header_back` lists the fields of the header that are other ones. The bytes that the total length
+-- does not count are left out.
 abbrev pub packet_back : ℕ → List ℕ → List ℕ
 packet_back identification packet = header_back identification (ipv4_header packet) ++ ipv6.message_of packet
 
 -- ---- whole packets over IPv6
 
--- This IPv6 address is the same after the way back: its suffix, which the way to IPv4 leaves out, consists of zeros.
+-- This IPv6 address is the same after the way back. Its suffix, which the way to IPv4 leaves out, consists of zeros.
 abbrev pub ComesBack : Prefix64 → List ℕ → Type 0
 ComesBack prefix address = with_zero_suffix prefix address ≡ address
 
--- A whole IPv6 packet or an atomic fragment, whose addresses and whose message are the same after the way back.
+-- The message of an IPv6 packet with this next header is the same after the way back. It is no ICMPv6 error and no ICMP message. The
+-- checksum of an echo message and of a TCP segment is not 65535.
+pub record IsRestoredOverIpv6 (number : ℕ) (message : List ℕ) : Type 0 where
+  pub no_error : ipv4.is_icmp_error number message ≡ false
+  pub no_icmp : number ≢ icmpv4_number
+  pub echo : number ≡ icmpv6_number → icmp_checksum message ≢ all_ones
+  pub tcp : number ≡ tcp_number → ipv6.tcp_checksum message ≢ all_ones
+
+-- a whole IPv6 packet or an atomic fragment, whose addresses and whose message are the same after the way back
 pub record IsRestoredIpv6Packet (prefixes : Prefixes) (packet : List ℕ) : Type 0 where
   pub source : ComesBack prefixes.source (back.source (ipv6_header packet))
   pub destination : ComesBack prefixes.destination (back.destination (ipv6_header packet))
   pub whole : is_part (ipv4.flags_in (ipv6_header packet) (ipv4.payload_of packet)) ≡ false
-  pub message : IsRestored (back.next_header (ipv4.direct_header packet)) (ipv4.message_of packet)
+  pub message : IsRestoredOverIpv6 (back.next_header (ipv4.direct_header packet)) (ipv4.message_of packet)
 
 -- The IPv6 packet after the way back. It has no extension headers, its flow label is 0, and its hop limit is lowered by 1 on each way. The
 -- bytes that the payload length does not count are left out.

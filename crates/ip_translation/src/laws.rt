@@ -46,11 +46,19 @@ pub fn header_there_and_back(header: &Ipv4HeaderSlice<'_>, prefixes: &Prefixes)
     let _ = prefixes.destination.embed(header.destination());
 }
 
-/// Assume a packet that the translation to the other version of IP accepts, and that is translated back with the same prefixes. It is a whole
-/// packet, and its message is one that `IsRestored` describes. An IPv4 packet has no options and no number of an IPv6 extension header, and the
-/// addresses of an IPv6 packet have suffixes of zeros. Then only these fields are other ones:
+/// Assume a packet with these properties, which is translated to the other version of IP and back with the same prefixes:
+/// - The first translation accepts the packet. It is no fragment, except for an atomic fragment of IPv6.
+/// - An IPv4 packet has no options, and its protocol is not the number of an IPv6 extension header.
+/// - The addresses of an IPv6 packet have suffixes of zeros.
+/// - The message is no ICMP error, no ICMPv6 message over IPv4, and no ICMP message over IPv6.
+/// - The checksum is not the one that becomes another one: 0 of an IPv4 echo message or UDP packet, 65535 of an ICMPv6 echo message or TCP
+///   segment.
+///
+/// Then only these fields are other ones:
 /// - of an IPv4 packet: identification, flags, time to live and header checksum
-/// - of an IPv6 packet: flow label and hop limit, and its extension headers are left out
+/// - of an IPv6 packet: flow label and hop limit; its extension headers are left out, and the payload length does not count them
+///
+/// Each way lowers the time to live, so the way back may refuse the packet.
 pub fn packet_there_and_back(packet: &[u8], prefixes: &Prefixes)
     ensures from_ipv4 { (identification room : ℕ) → parts.packet_refusal prefixes.now packet.now room ≡ None → IsRestoredPacket packet.now →
         ipv4.translated_packet prefixes.now identification (parts.translated_packet prefixes.now packet.now)
