@@ -1,4 +1,4 @@
--- A message and a header that are translated to IPv6 and then back to IPv4, with the same prefixes.
+-- A message, a header and a whole packet that are translated to the other version of IP and back, with the same prefixes.
 use Rattle.std.specs.Prelude.{◌≡◌, ◌≢◌, ℕ, ◌-◌, false, List, ◌++◌, slice_set}
 use Rattle.ip_part.specs.Ip.{ipv4_header, ipv6_header}
 use Rattle.net_base.specs.IpHeaders.{ipv4_header_len, ipv4_is_fragment}

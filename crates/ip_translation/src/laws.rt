@@ -51,14 +51,13 @@ pub fn header_there_and_back(header: &Ipv4HeaderSlice<'_>, prefixes: &Prefixes)
 /// - An IPv4 packet has no options, and its protocol is not the number of an IPv6 extension header.
 /// - The addresses of an IPv6 packet have suffixes of zeros.
 /// - The message is no ICMP error, no ICMPv6 message over IPv4, and no ICMP message over IPv6.
-/// - The checksum is not the one that becomes another one: 0 of an IPv4 echo message or UDP packet, 65535 of an ICMPv6 echo message or TCP
-///   segment.
+/// - The checksum of an echo message or a UDP packet over IPv4 is not 0. The checksum of an ICMPv6 echo message or a TCP segment is not 65535.
 ///
 /// Then only these fields are other ones:
 /// - of an IPv4 packet: identification, flags, time to live and header checksum
 /// - of an IPv6 packet: flow label and hop limit; its extension headers are left out, and the payload length does not count them
 ///
-/// Each way lowers the time to live, so the way back may refuse the packet.
+/// Bytes after the packet are left out. Each way lowers the time to live, so the way back may refuse the packet.
 pub fn packet_there_and_back(packet: &[u8], prefixes: &Prefixes)
     ensures from_ipv4 { (identification room : ℕ) → parts.packet_refusal prefixes.now packet.now room ≡ None → IsRestoredPacket packet.now →
         ipv4.translated_packet prefixes.now identification (parts.translated_packet prefixes.now packet.now)
@@ -67,33 +66,13 @@ pub fn packet_there_and_back(packet: &[u8], prefixes: &Prefixes)
         IsRestoredIpv6Packet prefixes.now packet.now →
         parts.translated_packet prefixes.now (ipv4.translated_packet prefixes.now identification packet.now) ≡ ipv6_packet_back packet.now }
 {
-    ipv4_packet_there_and_back(packet, prefixes);
-    ipv6_packet_there_and_back(packet, prefixes);
-}
-
-/// The law of packets over IPv4.
-fn ipv4_packet_there_and_back(packet: &[u8], prefixes: &Prefixes)
-    ensures from_ipv4 { (identification room : ℕ) → parts.packet_refusal prefixes.now packet.now room ≡ None → IsRestoredPacket packet.now →
-        ipv4.translated_packet prefixes.now identification (parts.translated_packet prefixes.now packet.now)
-        ≡ packet_back identification packet.now }
-{
+    expect_bytes(packet);
     if let Some(header) = front_header(packet) {
-        expect_bytes(packet);
         let _ = prefixes.source.embed(header.source());
         let _ = prefixes.destination.embed(header.destination());
         header_there_and_back(&header, prefixes);
         message_there_and_back(&header, prefixes);
     }
-}
-
-/// The law of packets over IPv6.
-fn ipv6_packet_there_and_back(packet: &[u8], prefixes: &Prefixes)
-    ensures from_ipv6 { (identification room : ℕ) → ipv4.packet_refusal prefixes.now packet.now room ≡ None →
-        IsRestoredIpv6Packet prefixes.now packet.now →
-        parts.translated_packet prefixes.now (ipv4.translated_packet prefixes.now identification packet.now) ≡ ipv6_packet_back packet.now }
-{
-    let _ = prefixes;
-    expect_bytes(packet);
 }
 
 /// The elements of a slice of bytes are bytes.
