@@ -1,11 +1,11 @@
 -- An IPv6 packet that is translated to IPv4 and back.
-use Rattle.std.proofs.Common.{◌≡◌, ◌≢◌, ◌⊎◌, inl, inr, ℕ, ◌+◌, ◌-◌, ◌==◌, ◌<◌, ◌≤◌, Bool, true, false, not, if◌then◌else◌, List, [], ◌∷◌, ◌++◌, length, drop, take, slice_index, Option, Some, None, refl, sym, subst, ap, ap₂, ◌∙◌, length-append, length-drop, length-take, arith}
+use Rattle.std.proofs.Common.{◌≡◌, ◌≢◌, ◌⊎◌, inl, inr, ℕ, ◌+◌, ◌-◌, ◌/◌, ◌%◌, ◌*◌, ◌==◌, ◌<◌, ◌≤◌, Bool, true, false, not, if◌then◌else◌, List, [], ◌∷◌, ◌++◌, length, drop, take, slice_index, Option, Some, None, refl, sym, subst, ap, ap₂, ◌∙◌, length-append, length-drop, length-take, arith}
 use Rattle.std.specs.Prelude.{is_none, nat_eq, nat_le, nat_lt, slice_set}
 use Rattle.std.specs.Cmp.Lexicographic.{pointwise}
 use Rattle.std.specs.Int.{to_be_bytes, w16}
 use Rattle.std.specs.Option.{option_map, unwrap_or}
 use Rattle.std.proofs.lemmas.Bool.{not-false}
-use Rattle.std.proofs.lemmas.List.{drop_at, take_all, take_at}
+use Rattle.std.proofs.lemmas.List.{drop_at, get_or-take, take-append-drop, take_all, take_at}
 use Rattle.ip_part.specs.Ip.{error_of, ipv6_header}
 use Rattle.net_base.specs.Bytes.{IsBytes}
 use Rattle.net_base.specs.IpHeaders.{ipv4_is_fragment, version}
@@ -13,6 +13,7 @@ use Rattle.net_base.specs.IpNumbers.{icmpv4_number, icmpv6_number, tcp_number, u
 use Rattle.net_base.specs.PseudoHeader.{ipv6_pseudo_header}
 use Rattle.net_base.specs.Refusals.{refused_if}
 use Rattle.net_base.specs.StoredChecksum.{with_checksum}
+use Rattle.net_base.proofs.BytesLemmas.{one_byte}
 use Rattle.net_base.proofs.StoredChecksumLemmas.{length-with_checksum, stored_checksum}
 use Rattle.word_sum.specs.Checksum.{all_ones, checksum_of, complement, folded, total, udp_checksum_of}
 use Rattle.word_sum.specs.UpdatedChecksum.{updated_udp_checksum_of}
@@ -27,7 +28,7 @@ use Rattle.ip_translation.specs.PacketsToIpv4 as ipv4
 use Rattle.ip_translation.specs.PacketsToIpv6 as ipv6
 use Rattle.ip_translation.specs.Prefixes.{embedded, extracted, is_embedded, octet_count, octets, to_ipv4_refusal, without_reserved}
 use Rattle.ip_translation.specs.SkippedHeaders.{unless_err}
-use Rattle.ip_translation.specs.ThereAndBack.{ComesBack, IsRestoredIpv6Packet, IsRestoredOverIpv6, ipv6_packet_back}
+use Rattle.ip_translation.specs.ThereAndBack.{ComesBack, IsRestoredIpv6Packet, IsRestoredOverIpv6, ipv6_header_back, ipv6_packet_back}
 use Rattle.ip_translation.specs.declared.address_error.AddressError.TheVariants.{NotEmbedded}
 use Rattle.ip_translation.specs.declared.fragment_fields.FragmentFields.{FragmentFields}
 use Rattle.ip_translation.specs.declared.packet_translation_error.PacketTranslationError.TheVariants.{Header, NoIpv6Header, NoUdpChecksum}
@@ -415,6 +416,52 @@ module _ (prefixes : Prefixes) (class len number hop : ℕ) (source destination 
       (message_same prefixes direct ipv4_header message is.fits removed_same added_same refl is.restored is.some_udp is.long sixteen
       source_kept destination_kept)
 
+-- ---- the header
+
+-- the first eight bytes of a header, and its addresses
+eight : (header : List ℕ) → length header ≡ 40
+    → slice_index header 0 ∷ slice_index header 1 ∷ slice_index header 2 ∷ slice_index header 3 ∷ slice_index header 4
+    ∷ slice_index header 5 ∷ slice_index header 6 ∷ slice_index header 7 ∷ drop 8 header ≡ header
+eight header len =
+    one_byte header 0 1 _ _ refl (omega (arith, len)) refl
+    (one_byte header 1 2 _ _ refl (omega (arith, len)) refl
+    (one_byte header 2 3 _ _ refl (omega (arith, len)) refl
+    (one_byte header 3 4 _ _ refl (omega (arith, len)) refl
+    (one_byte header 4 5 _ _ refl (omega (arith, len)) refl
+    (one_byte header 5 6 _ _ refl (omega (arith, len)) refl
+    (one_byte header 6 7 _ _ refl (omega (arith, len)) refl
+    (one_byte header 7 8 _ _ refl (omega (arith, len)) refl refl)))))))
+
+-- the header after the way back, if these are its bytes
+by_bytes : (len number b0 b1 b2 b3 b4 b5 b6 b7 : ℕ) (addresses : List ℕ) → b0 < 256 → b1 < 256 → b0 / 16 ≡ 6 → length addresses ≡ 32
+    → headers.ipv6_header (back.traffic_class (b0 ∷ b1 ∷ b2 ∷ b3 ∷ b4 ∷ b5 ∷ b6 ∷ b7 ∷ addresses)) len (number ∷ (b7 - 2) ∷ [])
+    (back.source (b0 ∷ b1 ∷ b2 ∷ b3 ∷ b4 ∷ b5 ∷ b6 ∷ b7 ∷ addresses))
+    (back.destination (b0 ∷ b1 ∷ b2 ∷ b3 ∷ b4 ∷ b5 ∷ b6 ∷ b7 ∷ addresses))
+    ≡ ipv6_header_back len number (b0 ∷ b1 ∷ b2 ∷ b3 ∷ b4 ∷ b5 ∷ b6 ∷ b7 ∷ addresses)
+by_bytes len number b0 b1 b2 b3 b4 b5 b6 b7 addresses small small_too is_version_6 sizes =
+    let class : ℕ = back.traffic_class (b0 ∷ b1 ∷ b2 ∷ b3 ∷ b4 ∷ b5 ∷ b6 ∷ b7 ∷ addresses) in
+    let high : 0x60 + class / 16 ≡ b0 = omega (arith, small, small_too, is_version_6) in
+    let low : class % 16 * 16 ≡ b1 / 16 * 16 = omega (arith, small, small_too) in
+    let both_addresses : take 16 addresses ++ take 16 (drop 16 addresses) ≡ addresses =
+    ap (λ destination. take 16 addresses ++ destination)
+    (take_all 16 (drop 16 addresses) (omega (arith, sizes, length-drop 16 addresses)))
+    ∙ take-append-drop 16 addresses in
+    ap₂ (λ high low. high ∷ low ∷ 0 ∷ 0 ∷ (len / 256 % 256) ∷ (len % 256) ∷ number ∷ (b7 - 2)
+    ∷ (take 16 addresses ++ take 16 (drop 16 addresses))) high low
+    ∙ ap (λ addresses. b0 ∷ (b1 / 16 * 16) ∷ 0 ∷ 0 ∷ (len / 256 % 256) ∷ (len % 256) ∷ number ∷ (b7 - 2) ∷ addresses) both_addresses
+
+header_back_is : (len number : ℕ) (header : List ℕ) → IsBytes header → length header ≡ 40 → slice_index header 0 / 16 ≡ 6
+    → headers.ipv6_header (back.traffic_class header) len (number ∷ (back.hop_limit header - 2) ∷ []) (back.source header)
+    (back.destination header)
+    ≡ ipv6_header_back len number header
+header_back_is len number header fits forty is_version_6 =
+    subst (λ header. headers.ipv6_header (back.traffic_class header) len (number ∷ (back.hop_limit header - 2) ∷ []) (back.source header)
+    (back.destination header) ≡ ipv6_header_back len number header)
+    (eight header forty)
+    (by_bytes len number (slice_index header 0) (slice_index header 1) (slice_index header 2) (slice_index header 3)
+    (slice_index header 4) (slice_index header 5) (slice_index header 6) (slice_index header 7) (drop 8 header) (fits 0) (fits 1)
+    is_version_6 (omega (arith, forty, length-drop 8 header)))
+
 -- ---- what the translation accepts
 
 udp_accepted : (prefixes : Prefixes) (number : ℕ) (message : List ℕ) (room : ℕ) → ipv4.refusal_of number prefixes message room ≡ None
@@ -457,15 +504,16 @@ is_long prefixes number message room none no_error = record {
 -- the parts of a whole packet that the translation accepts
 pub record IsAccepted (prefixes : Prefixes) (packet : List ℕ) (room : ℕ) : Type 0 where
   pub there : 40 ≤ length packet
+  pub is_version_6 : slice_index packet 0 / 16 ≡ 6
   pub counted : back.payload_len (ipv4.direct_header packet) ≤ back.max_payload_len
   pub source : to_ipv4_refusal prefixes.source (back.source (ipv4.direct_header packet)) ≡ None
   pub destination : to_ipv4_refusal prefixes.destination (back.destination (ipv4.direct_header packet)) ≡ None
   pub message : ipv4.refusal_of (back.next_header (ipv4.direct_header packet)) prefixes (ipv4.message_of packet) room ≡ None
 
 -- the header of the packet without its extension headers is accepted
-by_rules : (prefixes : Prefixes) (packet : List ℕ) (room : ℕ) → 40 ≤ length packet
+by_rules : (prefixes : Prefixes) (packet : List ℕ) (room : ℕ) → 40 ≤ length packet → slice_index packet 0 / 16 ≡ 6
     → ipv4.whole_refusal (ipv4.direct_header packet) prefixes (ipv4.message_of packet) room ≡ None → IsAccepted prefixes packet room
-by_rules prefixes packet room there none =
+by_rules prefixes packet room there is_version_6 none =
     let header : List ℕ = ipv4.direct_header packet in
     let rules = all_none (option_map Header (back.header_refusal prefixes header)
     ∷ ipv4.refusal_of (back.next_header header) prefixes (ipv4.message_of packet) room ∷ []) none in
@@ -480,6 +528,7 @@ by_rules prefixes packet room there none =
     ∷ refused_if (headers.is_illegal (extracted prefixes.destination (back.destination header))) IllegalDestination ∷ []) parts.1.0 in
     record {
       there = there;
+      is_version_6 = is_version_6;
       counted = at_most (back.payload_len header) back.max_payload_len (not_refused _ _ lens.1.0);
       source = not_mapped Source (to_ipv4_refusal prefixes.source (back.source header)) addresses.0;
       destination = not_mapped Destination (to_ipv4_refusal prefixes.destination (back.destination header)) addresses.1.0;
@@ -506,7 +555,7 @@ accepted prefixes packet room none is_whole =
     sym (ap (λ test. if test then ipv4.part_refusal direct prefixes flags message room
     else ipv4.whole_refusal direct prefixes message room) is_whole)
     ∙ inner.1.0 in
-    by_rules prefixes packet room (at_least 40 (length packet) long.0) after
+    by_rules prefixes packet room (at_least 40 (length packet) long.0) (equal (version packet) 6 long.1) after
 
 -- ---- the packet
 
@@ -555,3 +604,5 @@ there_and_back prefixes packet identification room fits restored accepted =
       some_udp = has_checksum prefixes number message room accepted.message;
       long = is_long prefixes number message room accepted.message restored.message.no_error;
     })
+    ∙ ap (λ header. header ++ message) (header_back_is (length message) number header fits_header header_len
+    (ap (λ byte. byte / 16) (get_or-take 40 packet 0 0 (omega arith)) ∙ accepted.is_version_6))

@@ -1,5 +1,5 @@
 -- A message, a header and a whole packet that are translated to the other version of IP and back, with the same prefixes.
-use Rattle.std.specs.Prelude.{◌≡◌, ◌≢◌, ℕ, ◌-◌, false, List, ◌++◌, slice_set}
+use Rattle.std.specs.Prelude.{◌≡◌, ◌≢◌, ℕ, ◌-◌, ◌*◌, ◌/◌, false, List, ◌++◌, length, slice_index, slice_set}
 use Rattle.ip_part.specs.Ip.{ipv4_header, ipv6_header}
 use Rattle.net_base.specs.IpHeaders.{ipv4_header_len, ipv4_is_fragment}
 use Rattle.net_base.specs.IpNumbers.{icmpv4_number, icmpv6_number, tcp_number, udp_number}
@@ -94,8 +94,25 @@ pub record IsRestoredIpv6Packet (prefixes : Prefixes) (packet : List ℕ) : Type
   pub whole : is_part (ipv4.flags_in (ipv6_header packet) (ipv4.payload_of packet)) ≡ false
   pub message : IsRestoredOverIpv6 (back.next_header (ipv4.direct_header packet)) (ipv4.message_of packet)
 
--- The IPv6 packet after the way back. It has no extension headers, its flow label is 0, and its hop limit is lowered by 1 on each way. The
--- bytes that the payload length does not count are left out.
+-- this IPv6 header with flow label 0; the flow label is the low 20 bits of the first four bytes (RFC 8200, section 3)
+abbrev pub without_flow_label : List ℕ → List ℕ
+without_flow_label header = slice_set (slice_set (slice_set header 1 (slice_index header 1 / 16 * 16)) 2 0) 3 0
+
+-- this IPv6 header with this payload length, and this number of the header or protocol after it
+abbrev pub with_payload : ℕ → ℕ → List ℕ → List ℕ
+with_payload len number header = slice_set (with_number 4 header len) 6 number
+
+-- this IPv6 header with a hop limit that is lowered by 1 on each way
+abbrev pub ipv6_lowered_twice : List ℕ → List ℕ
+ipv6_lowered_twice header = slice_set header 7 (back.hop_limit header - 2)
+
+-- This IPv6 header after the way back: flow label and hop limit are other ones. Payload length and next header are other ones only if
+-- extension headers are left out.
+abbrev pub ipv6_header_back : ℕ → ℕ → List ℕ → List ℕ
+ipv6_header_back len number header = ipv6_lowered_twice (with_payload len number (without_flow_label header))
+
+-- The IPv6 packet after the way back. The bytes that the payload length does not count are left out.
 abbrev pub ipv6_packet_back : List ℕ → List ℕ
 ipv6_packet_back packet =
-    slice_set (ipv4.direct_header packet) 7 (back.hop_limit (ipv6_header packet) - 2) ++ ipv4.message_of packet
+    ipv6_header_back (length (ipv4.message_of packet)) (back.next_header (ipv4.direct_header packet)) (ipv6_header packet)
+    ++ ipv4.message_of packet

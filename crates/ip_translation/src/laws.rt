@@ -51,7 +51,8 @@ pub fn header_there_and_back(header: &Ipv4HeaderSlice<'_>, prefixes: &Prefixes)
 /// - An IPv4 packet has no options, and its protocol is not the number of an IPv6 extension header.
 /// - The addresses of an IPv6 packet have suffixes of zeros.
 /// - The message is no ICMP error, no ICMPv6 message over IPv4, and no ICMP message over IPv6.
-/// - The checksum of an echo message or a UDP packet over IPv4 is not 0. The checksum of an ICMPv6 echo message or a TCP segment is not 65535.
+/// - The checksum of an echo message or a UDP packet over IPv4 is not 0. The checksum of an ICMPv6 echo message or a TCP segment is not
+///   65535.
 ///
 /// Then only these fields are other ones:
 /// - of an IPv4 packet: identification, flags, time to live and header checksum
