@@ -51,8 +51,8 @@ header_back identification header =
 
 -- ---- whole packets
 
--- The message of an IPv4 packet with this protocol is the same after the way back. It is no ICMP error and no ICMPv6 message. The checksum of
--- an echo message and of a UDP packet is not 0, and the checksum of a TCP segment is not 65535.
+-- The message of an IPv4 packet with this protocol is the same after the way back. It is no ICMP error and no ICMPv6 message. The checksum
+-- of an echo message and of a UDP packet is not 0, and the checksum of a TCP segment is not 65535.
 pub record IsRestored (protocol : ℕ) (message : List ℕ) : Type 0 where
   pub no_error : ipv6.is_icmp_error protocol message ≡ false
   pub no_icmpv6 : protocol ≢ icmpv6_number
