@@ -512,10 +512,7 @@ fn packets_are_restored(rt: HostRuntime) {
     for (row, row_back) in &RESTORED {
         let padded = joined(&rt, &[PACKETS[*row].0, &[1, 2]]);
         let mut there = [0xEE; 80];
-        let len = expect_ok(
-            &rt,
-            ipv4_to_ipv6(padded.as_slice(), &PREFIXES, &mut there),
-        );
+        let len = expect_ok(&rt, ipv4_to_ipv6(padded.as_slice(), &PREFIXES, &mut there));
         let mut back = [0xEE; 80];
         let len = expect_ok(
             &rt,
