@@ -88,11 +88,12 @@ fn no_prefixes(rt: HostRuntime) {
 
 /// Addresses next to the ends of a block, and whether the well-known prefix may represent them.
 #[rattlefmt::skip]
-static GLOBAL: [([u8; 4], bool); 26] = [
+static GLOBAL: [([u8; 4], bool); 28] = [
     ([0, 255, 255, 255], false), ([1, 0, 0, 0], true), ([9, 255, 255, 255], true), ([10, 0, 0, 0], false), ([11, 0, 0, 0], true),
     ([100, 63, 255, 255], true), ([100, 64, 0, 0], false), ([100, 127, 255, 255], false), ([100, 128, 0, 0], true), ([127, 0, 0, 1], false),
-    ([169, 254, 1, 1], false), ([172, 15, 255, 255], true), ([172, 16, 0, 0], false), ([172, 31, 255, 255], false), ([172, 32, 0, 0], true),
-    ([192, 0, 0, 255], false), ([192, 0, 1, 0], true), ([192, 0, 2, 33], false), ([192, 88, 99, 1], false), ([192, 168, 0, 1], false),
+    ([169, 253, 255, 255], true), ([169, 254, 0, 0], false), ([169, 255, 0, 0], true),
+    ([172, 15, 255, 255], true), ([172, 16, 0, 0], false), ([172, 31, 255, 255], false), ([172, 32, 0, 0], true),
+    ([192, 0, 0, 255], false), ([192, 0, 1, 0], true), ([192, 0, 2, 33], false), ([192, 88, 99, 1], true), ([192, 168, 0, 1], false),
     ([198, 19, 255, 255], false), ([198, 20, 0, 0], true), ([198, 51, 100, 7], false), ([203, 0, 113, 1], false),
     ([223, 255, 255, 255], true), ([255, 255, 255, 255], false),
 ];

@@ -106,7 +106,7 @@ reserved_bit = refl
 
 -- ---- global addresses
 
--- 192.0.2.33 is an address of TEST-NET-1 (RFC 5735, section 4)
+-- 192.0.2.33 is an address of TEST-NET-1 (RFC 5735, section 3)
 test_net_refused : to_ipv6_refusal (Bits96 well_known_octets) test_net ≡ Some NotGlobal
 unfolding test_net
 test_net_refused = refl
@@ -121,6 +121,14 @@ first_private = refl
 
 after_private : is_not_global (172 ∷ 32 ∷ 0 ∷ 0 ∷ []) ≡ false
 after_private = refl
+
+-- 169.254.0.0/16 is link local (RFC 3927)
+link_local : is_not_global (169 ∷ 254 ∷ 1 ∷ 1 ∷ []) ≡ true
+link_local = refl
+
+-- 192.88.99.0/24 is the anycast block of 6to4 relays (RFC 3068), whose addresses are global
+relay_of_6to4 : is_not_global (192 ∷ 88 ∷ 99 ∷ 1 ∷ []) ≡ false
+relay_of_6to4 = refl
 
 -- ---- a header
 

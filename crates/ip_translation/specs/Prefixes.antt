@@ -119,8 +119,9 @@ with_zero_suffix prefix address =
 abbrev pub is_in : List ℕ → ℕ → List ℕ → Bool
 is_in block bits ipv4 = from_be_bytes w32 ipv4 / 2 ^ (32 - bits) == from_be_bytes w32 block / 2 ^ (32 - bits)
 
--- The address is special (RFC 5735, section 4) or shared (RFC 6598, which updates RFC 5735). So it is not global in the sense of RFC 6052,
--- section 3.1.
+-- The address is not global in the sense of RFC 6052, section 3.1. It is private (RFC 1918), listed in section 3 of RFC 5735, or shared
+-- (RFC 6598, which updates RFC 5735). Section 3 of RFC 5735 also lists 192.88.99.0/24, but states that packets to these addresses do appear
+-- in the public Internet.
 abbrev pub is_not_global : List ℕ → Bool
 is_not_global ipv4 =
     is_in (0 ∷ 0 ∷ 0 ∷ 0 ∷ []) 8 ipv4
@@ -131,13 +132,12 @@ is_not_global ipv4 =
     || (is_in (172 ∷ 16 ∷ 0 ∷ 0 ∷ []) 12 ipv4
     || (is_in (192 ∷ 0 ∷ 0 ∷ 0 ∷ []) 24 ipv4
     || (is_in (192 ∷ 0 ∷ 2 ∷ 0 ∷ []) 24 ipv4
-    || (is_in (192 ∷ 88 ∷ 99 ∷ 0 ∷ []) 24 ipv4
     || (is_in (192 ∷ 168 ∷ 0 ∷ 0 ∷ []) 16 ipv4
     || (is_in (198 ∷ 18 ∷ 0 ∷ 0 ∷ []) 15 ipv4
     || (is_in (198 ∷ 51 ∷ 100 ∷ 0 ∷ []) 24 ipv4
     || (is_in (203 ∷ 0 ∷ 113 ∷ 0 ∷ []) 24 ipv4
     || (is_in (224 ∷ 0 ∷ 0 ∷ 0 ∷ []) 4 ipv4
-    || is_in (240 ∷ 0 ∷ 0 ∷ 0 ∷ []) 4 ipv4)))))))))))))
+    || is_in (240 ∷ 0 ∷ 0 ∷ 0 ∷ []) 4 ipv4))))))))))))
 
 -- the prefix is the well-known prefix, which must not embed this address (RFC 6052, section 3.1)
 abbrev pub is_excluded : Prefix64 → List ℕ → Bool

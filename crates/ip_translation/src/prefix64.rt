@@ -219,7 +219,8 @@ fn prefix_of(address: &[u8; 16], len: u8) -> Option<Prefix64>
 /// The octets of 64:ff9b::/96 (RFC 6052, section 2.1).
 const WELL_KNOWN_OCTETS: [u8; 11] = [0, 0x64, 0xff, 0x9b, 0, 0, 0, 0, 0, 0, 0];
 
-/// Whether an address is special (RFC 5735, section 4) or shared (RFC 6598).
+/// Whether an address is private (RFC 1918), listed in section 3 of RFC 5735, or shared (RFC 6598). Section 3 also lists 192.88.99.0/24, but
+/// RFC 6052, section 3.1, does not exclude these addresses, since they are global.
 fn is_not_global(ipv4: [u8; 4]) -> bool
     ensures { result ≡ specs.is_not_global ipv4 }
 {
@@ -231,7 +232,6 @@ fn is_not_global(ipv4: [u8; 4]) -> bool
         || is_in([172, 16, 0, 0], 12, ipv4)
         || is_in([192, 0, 0, 0], 24, ipv4)
         || is_in([192, 0, 2, 0], 24, ipv4)
-        || is_in([192, 88, 99, 0], 24, ipv4)
         || is_in([192, 168, 0, 0], 16, ipv4)
         || is_in([198, 18, 0, 0], 15, ipv4)
         || is_in([198, 51, 100, 0], 24, ipv4)
