@@ -5,9 +5,10 @@ use crate::expect::{
 };
 use etherparse_transport::{Ipv4HeaderSlice, Ipv6Header, UdpHeader};
 use ip_translation::{
-    AddressError, PacketTranslationError, Prefix64, Prefix64Error, Prefixes, TranslationError,
-    header_to_ipv6, icmpv4_error, icmpv4_mtu, icmpv4_pointer, icmpv6_error, icmpv6_mtu,
-    icmpv6_pointer, ipv4_to_ipv6, ipv6_to_ipv4, pseudo_header_change,
+    AddressError, AddressMapping, AddressMappingError, AddressTable, PacketTranslationError,
+    Prefix64, Prefix64Error, Prefixes, TranslationError, header_to_ipv6, icmpv4_error, icmpv4_mtu,
+    icmpv4_pointer, icmpv6_error, icmpv6_mtu, icmpv6_pointer, ipv4_to_ipv6, ipv6_to_ipv4,
+    pseudo_header_change,
 };
 use std::process::Abort;
 
@@ -164,12 +165,126 @@ fn errors(rt: HostRuntime) {
     );
 }
 
+// ---- explicit mappings
+
+/// The mappings of RFC 7757, section 3.2, in another order, after a mapping with a shorter prefix.
+#[rattlefmt::skip]
+static MAPPINGS: [([u8; 4], u8, [u8; 16], u8); 7] = [
+    ([192, 0, 2, 0], 24, [0x20, 0x01, 0x0D, 0xB8, 0xFF, 0xFF, 0, 0, 0, 0, 0, 0, 0, 0, 0, 0], 120),
+    ([192, 0, 2, 1], 32, [0x20, 0x01, 0x0D, 0xB8, 0xAA, 0xAA, 0, 0, 0, 0, 0, 0, 0, 0, 0, 0], 128),
+    ([192, 0, 2, 2], 32, [0x20, 0x01, 0x0D, 0xB8, 0xBB, 0xBB, 0, 0, 0, 0, 0, 0, 0, 0, 0, 0x0B], 128),
+    ([192, 0, 2, 16], 28, [0x20, 0x01, 0x0D, 0xB8, 0xCC, 0xCC, 0, 0, 0, 0, 0, 0, 0, 0, 0, 0], 124),
+    ([192, 0, 2, 128], 26, [0x20, 0x01, 0x0D, 0xB8, 0xDD, 0xDD, 0, 0, 0, 0, 0, 0, 0, 0, 0, 0], 64),
+    ([192, 0, 2, 192], 29, [0x20, 0x01, 0x0D, 0xB8, 0xEE, 0xEE, 0, 0x08, 0, 0, 0, 0, 0, 0, 0, 0], 62),
+    ([192, 0, 2, 224], 31, [0x00, 0x64, 0xFF, 0x9B, 0, 0, 0, 0, 0, 0, 0, 0, 0, 0, 0, 0], 127),
+];
+
+/// Addresses that these mappings translate to each other. The last row has no mapping.
+#[rattlefmt::skip]
+static MAPPED: [([u8; 4], [u8; 16]); 9] = [
+    ([192, 0, 2, 1], [0x20, 0x01, 0x0D, 0xB8, 0xAA, 0xAA, 0, 0, 0, 0, 0, 0, 0, 0, 0, 0]),
+    ([192, 0, 2, 2], [0x20, 0x01, 0x0D, 0xB8, 0xBB, 0xBB, 0, 0, 0, 0, 0, 0, 0, 0, 0, 0x0B]),
+    ([192, 0, 2, 24], [0x20, 0x01, 0x0D, 0xB8, 0xCC, 0xCC, 0, 0, 0, 0, 0, 0, 0, 0, 0, 0x08]),
+    ([192, 0, 2, 152], [0x20, 0x01, 0x0D, 0xB8, 0xDD, 0xDD, 0, 0, 0x60, 0, 0, 0, 0, 0, 0, 0]),
+    ([192, 0, 2, 191], [0x20, 0x01, 0x0D, 0xB8, 0xDD, 0xDD, 0, 0, 0xFC, 0, 0, 0, 0, 0, 0, 0]),
+    ([192, 0, 2, 195], [0x20, 0x01, 0x0D, 0xB8, 0xEE, 0xEE, 0, 0x09, 0x80, 0, 0, 0, 0, 0, 0, 0]),
+    ([192, 0, 2, 225], [0x00, 0x64, 0xFF, 0x9B, 0, 0, 0, 0, 0, 0, 0, 0, 0, 0, 0, 0x01]),
+    ([192, 0, 2, 3], [0x20, 0x01, 0x0D, 0xB8, 0xFF, 0xFF, 0, 0, 0, 0, 0, 0, 0, 0, 0, 0x03]),
+    ([198, 41, 0, 4], [0x00, 0x64, 0xFF, 0x9B, 0, 0, 0, 0, 0, 0, 0, 0, 198, 41, 0, 4]),
+];
+
+/// The mappings.
+fn mappings(rt: &impl Abort) -> [AddressMapping; 7] {
+    let [all, a, b, c, d, e, well_known] = MAPPINGS;
+    [
+        expect_ok(rt, AddressMapping::new(all.0, all.1, all.2, all.3)),
+        expect_ok(rt, AddressMapping::new(a.0, a.1, a.2, a.3)),
+        expect_ok(rt, AddressMapping::new(b.0, b.1, b.2, b.3)),
+        expect_ok(rt, AddressMapping::new(c.0, c.1, c.2, c.3)),
+        expect_ok(rt, AddressMapping::new(d.0, d.1, d.2, d.3)),
+        expect_ok(rt, AddressMapping::new(e.0, e.1, e.2, e.3)),
+        expect_ok(
+            rt,
+            AddressMapping::new(well_known.0, well_known.1, well_known.2, well_known.3),
+        ),
+    ]
+}
+
+#[test]
+fn addresses_follow_the_longest_prefix(rt: HostRuntime) {
+    let mappings = mappings(&rt);
+    let prefixes =
+        Prefixes::with_mappings(Prefix64::WELL_KNOWN, Prefix64::WELL_KNOWN, &mappings);
+    let table = prefixes.source;
+    for (ipv4, ipv6) in &MAPPED {
+        expect_at(&rt, ipv4, &table.to_ipv6(*ipv4), &Ok(*ipv6));
+        expect_at(&rt, ipv4, &table.to_ipv4(ipv6), &Ok(*ipv4));
+    }
+    // The bits after the suffix of six bits are ignored.
+    let mut other = MAPPED[3].1;
+    other[15] = 1;
+    expect_equal(&rt, &table.to_ipv4(&other), &Ok(MAPPED[3].0));
+    // This address has no mapping, and the well-known prefix does not embed it.
+    expect_equal(
+        &rt,
+        &table.to_ipv6([10, 0, 0, 1]),
+        &Err(AddressError::NotGlobal),
+    );
+    other[5] = 0;
+    expect_equal(&rt, &table.to_ipv4(&other), &Err(AddressError::NotEmbedded));
+}
+
+#[test]
+fn headers_follow_the_mappings(rt: HostRuntime) {
+    let address = [0x20, 0x01, 0x0D, 0xB8, 0, 0, 0, 0, 0, 0, 0, 0, 0, 0, 0, 0x21];
+    let mapping = expect_ok(
+        &rt,
+        AddressMapping::new([192, 0, 2, 33], 32, address, 128),
+    );
+    let mappings = [mapping];
+    let prefixes = Prefixes::with_mappings(
+        PREFIXES.source.prefix,
+        PREFIXES.destination.prefix,
+        &mappings,
+    );
+    let header = expect_some(&rt, Ipv4HeaderSlice::from_slice(&HEADER));
+    let translated = expect_ok(&rt, header_to_ipv6(&header, &prefixes));
+    expect_bytes(&rt, &translated.as_slice()[8..24], &address);
+    expect_bytes(&rt, &translated.as_slice()[24..40], &TRANSLATED[24..40]);
+}
+
+/// What is no mapping.
+#[rattlefmt::skip]
+static NO_MAPPINGS: [(u8, u8, AddressMappingError, &str); 5] = [
+    (33, 128, AddressMappingError::Ipv4Len(33), "Mapping Error: the length of the IPv4 prefix is 33 bits, and at most 32 are allowed."),
+    (32, 129, AddressMappingError::Ipv6Len(129), "Mapping Error: the length of the IPv6 prefix is 129 bits, and at most 128 are allowed."),
+    (26, 123, AddressMappingError::Suffix, "Mapping Error: the IPv6 prefix leaves fewer bits than the IPv4 prefix."),
+    (26, 122, AddressMappingError::Ipv4Bits, "Mapping Error: a bit after the IPv4 prefix is not 0."),
+    (32, 127, AddressMappingError::Ipv6Bits, "Mapping Error: a bit after the IPv6 prefix is not 0."),
+];
+
+#[test]
+fn no_mappings(rt: HostRuntime) {
+    let address = [0x20, 0x01, 0x0D, 0xB8, 0, 0, 0, 0, 0, 0, 0, 0, 0, 0, 0, 1];
+    for (ipv4_len, ipv6_len, error, text) in &NO_MAPPINGS {
+        let outcome = AddressMapping::new([192, 0, 2, 33], *ipv4_len, address, *ipv6_len);
+        expect_at(&rt, text, &outcome.err().as_ref(), &Some(error));
+        expect_text(&rt, error, text);
+    }
+}
+
 // ---- headers
 
 /// 2001:db8::/32 for the source, and 2001:db8:122:344::/96 for the destination.
 static PREFIXES: Prefixes = Prefixes {
-    source: Prefix64::Bits32([0x20, 0x01, 0x0D, 0xB8]),
-    destination: Prefix64::Bits96([0x20, 0x01, 0x0D, 0xB8, 0x01, 0x22, 0x03, 0x44, 0, 0, 0]),
+    source: AddressTable {
+        mappings: &[],
+        prefix: Prefix64::Bits32([0x20, 0x01, 0x0D, 0xB8]),
+    },
+    destination: AddressTable {
+        mappings: &[],
+        prefix: Prefix64::Bits96([0x20, 0x01, 0x0D, 0xB8, 0x01, 0x22, 0x03, 0x44, 0, 0, 0]),
+    },
 };
 
 /// From 192.0.2.33 to 198.51.100.7: type of service B9, total length 31, "don't fragment", time to live 64 and protocol UDP.
@@ -234,11 +349,11 @@ static NO_HEADERS: [(&[u8], TranslationError, &str); 10] = [
 ];
 
 /// The prefixes of a row: the last two rows have the well-known prefix.
-fn prefixes_of(error: &TranslationError) -> Prefixes {
+fn prefixes_of(error: &TranslationError) -> Prefixes<'static> {
     let mut prefixes = PREFIXES;
     match error {
-        TranslationError::Source(_) => prefixes.source = Prefix64::WELL_KNOWN,
-        TranslationError::Destination(_) => prefixes.destination = Prefix64::WELL_KNOWN,
+        TranslationError::Source(_) => prefixes.source.prefix = Prefix64::WELL_KNOWN,
+        TranslationError::Destination(_) => prefixes.destination.prefix = Prefix64::WELL_KNOWN,
         _ => {}
     }
     prefixes

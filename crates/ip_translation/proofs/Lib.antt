@@ -1,3 +1,4 @@
+pub mod AddressTableLemmas
 pub mod BackLemmas
 pub mod DirectLemmas
 pub mod EchoLemmas
@@ -9,6 +10,7 @@ pub mod IcmpErrorExamples
 pub mod Ipv4HeaderLemmas
 pub mod Ipv4PacketExamples
 pub mod ListedLemmas
+pub mod MappingLemmas
 pub mod MessageLemmas
 pub mod PacketExamples
 pub mod PseudoHeaderLemmas

@@ -11,7 +11,7 @@ use Rattle.net_base.specs.Refusals.{first_of, refused_if}
 use Rattle.ip_translation.specs.HeadersToIpv6.{any_header_refusal, destination, ipv6_header, next_header, payload_len, protocol, source, time_to_live, type_of_service}
 use Rattle.ip_translation.specs.Ipv4Packets.{begins_with_header, header_len_refusal, message_after, message_of, udp_checksum}
 use Rattle.ip_translation.specs.PacketsToIpv6.{AreAcceptedAlike, IsAcceptedAlike, cut_off_refusal, refusal_after, translated_len, translation_of, updated_message}
-use Rattle.ip_translation.specs.Prefixes.{embedded}
+use Rattle.ip_translation.specs.AddressTables.{embedded}
 use Rattle.ip_translation.specs.declared.packet_translation_error.PacketTranslationError.{PacketTranslationError}
 use Rattle.ip_translation.specs.declared.packet_translation_error.PacketTranslationError.TheVariants.{FragmentChecksum, Header, IcmpFragment, NoIpv4Header, Space}
 use Rattle.ip_translation.specs.declared.prefixes.Prefixes.{Prefixes}

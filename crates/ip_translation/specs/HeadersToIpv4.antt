@@ -9,7 +9,7 @@ use Rattle.net_base.specs.Refusals.{first_of, refused_if}
 use Rattle.word_sum.specs.Checksum.{checksum_of, folded, total}
 use Rattle.ip_translation.specs.Fragments.{flags_and_offset, whole}
 use Rattle.ip_translation.specs.HeadersToIpv6.{is_illegal}
-use Rattle.ip_translation.specs.Prefixes.{extracted, to_ipv4_refusal}
+use Rattle.ip_translation.specs.AddressTables.{extracted, to_ipv4_refusal}
 use Rattle.ip_translation.specs.declared.fragment_fields.FragmentFields.{FragmentFields}
 use Rattle.ip_translation.specs.declared.prefixes.Prefixes.{Prefixes}
 use Rattle.ip_translation.specs.declared.translation_error.TranslationError.{TranslationError}

@@ -10,7 +10,7 @@ use Rattle.net_base.specs.IpNumbers.{icmpv4_number, icmpv6_number}
 use Rattle.net_base.specs.PseudoHeader.{ipv4_pseudo_header, ipv6_pseudo_header}
 use Rattle.net_base.specs.Refusals.{first_of, refused_if}
 use Rattle.word_sum.specs.Checksum.{all_ones, folded, total}
-use Rattle.ip_translation.specs.Prefixes.{embedded, to_ipv6_refusal}
+use Rattle.ip_translation.specs.AddressTables.{embedded, to_ipv6_refusal}
 use Rattle.ip_translation.specs.declared.prefixes.Prefixes.{Prefixes}
 use Rattle.ip_translation.specs.declared.translation_error.TranslationError.{TranslationError}
 use Rattle.ip_translation.specs.declared.translation_error.TranslationError.TheVariants.{Destination, Fragment, HeaderChecksum, IllegalDestination, IllegalSource, Source, SourceRoute, TimeExceeded, TotalLength}

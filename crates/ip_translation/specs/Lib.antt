@@ -1,4 +1,6 @@
 pub use Rattle.net_base.specs.Refusals
+pub mod AddressMappings
+pub mod AddressTables
 pub mod EchoMessages
 pub mod ErrorTexts
 pub mod ErrorsToIpv4

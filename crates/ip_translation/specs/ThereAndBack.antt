@@ -2,11 +2,17 @@
 use Rattle.std.specs.Prelude.{ℕ, ◌-◌, List, slice_set}
 use Rattle.net_base.specs.StoredChecksum.{with_checksum as with_number}
 use Rattle.word_sum.specs.Checksum.{checksum_of, total}
+use Rattle.ip_translation.specs.AddressTables.{ComesBack}
 use Rattle.ip_translation.specs.Fragments.{flags}
-use Rattle.ip_translation.specs.HeadersToIpv6.{time_to_live, total_len, translated_header}
+use Rattle.ip_translation.specs.HeadersToIpv6.{destination, source, time_to_live, total_len, translated_header}
 use Rattle.ip_translation.specs.PacketsToIpv4 as ipv4
 use Rattle.ip_translation.specs.PacketsToIpv6 as ipv6
 use Rattle.ip_translation.specs.declared.prefixes.Prefixes.{Prefixes}
+
+-- both addresses of this IPv4 header are the same after they are translated to IPv6 and back
+pub record AddressesComeBack (prefixes : Prefixes) (header : List ℕ) : Type 0 where
+  pub source_back : ComesBack prefixes.source (source header)
+  pub destination_back : ComesBack prefixes.destination (destination header)
 
 -- this UDP packet, translated to IPv6 and back; it is the payload of a packet with this IPv4 header
 abbrev pub udp_back : Prefixes → List ℕ → List ℕ → List ℕ

@@ -87,8 +87,8 @@ pub fn pseudo_header_change_to_ipv4(
 {
     let source = header.source();
     let destination = header.destination();
-    let (_, new_source) = prefixes.source.front(&source);
-    let (_, new_destination) = prefixes.destination.front(&destination);
+    let new_source = prefixes.source.ipv4_of(&source);
+    let new_destination = prefixes.destination.ipv4_of(&destination);
     ChecksumChange::new()
         .replace_slice(&new_source, &source)
         .replace_slice(&new_destination, &destination)
@@ -152,8 +152,8 @@ pub(crate) fn header_with(
     ensures verifies { Verifies [] result.items }
     ensures len { length result.items ≡ 20 }
 {
-    let (_, source) = prefixes.source.front(&header.source());
-    let (_, destination) = prefixes.destination.front(&header.destination());
+    let source = prefixes.source.ipv4_of(&header.source());
+    let destination = prefixes.destination.ipv4_of(&header.destination());
     let [total_high, total_low] = total_len.to_be_bytes();
     let [high, low] = fields.identification.to_be_bytes();
     let [flags, offset] = fields.flags_and_offset(total_len).to_be_bytes();

@@ -1,16 +1,19 @@
 //! Translation between IPv4 and IPv6 (RFC 7915), with IPv4 addresses embedded in IPv6 addresses (RFC 6052).
 //!
-//! A `Prefix64` embeds IPv4 addresses in IPv6 addresses, and extracts them again. `ipv4_to_ipv6` and `ipv6_to_ipv4` translate
-//! packets. No call allocates or has a precondition.
+//! A `Prefix64` embeds IPv4 addresses in IPv6 addresses, and extracts them again. An `AddressMapping` translates the addresses of one network
+//! to another network (RFC 7757). `ipv4_to_ipv6` and `ipv6_to_ipv4` translate packets. No call allocates or has a precondition.
 //!
 //! ```
 //! let prefix = Prefix64::Bits32([0x20, 0x01, 0x0d, 0xb8]);
-//! let prefixes = Prefixes { source: prefix, destination: Prefix64::WELL_KNOWN };
+//! let prefixes = Prefixes::new(prefix, Prefix64::WELL_KNOWN);
 //! let len = ipv4_to_ipv6(packet, &prefixes, buffer)?;
 //! ```
 #![tactic(auto)]
 
 mod address_error;
+mod address_mapping;
+mod address_mapping_error;
+mod address_table;
 mod changed_message;
 mod echo_translation;
 mod error_to_ipv4;
@@ -36,6 +39,9 @@ mod translation_error;
 mod updated_message;
 
 pub use address_error::AddressError;
+pub use address_mapping::AddressMapping;
+pub use address_mapping_error::AddressMappingError;
+pub use address_table::AddressTable;
 pub use header_translation::{header_to_ipv6, pseudo_header_change};
 pub use icmp_errors::{
     icmpv4_error, icmpv4_mtu, icmpv4_pointer, icmpv6_error, icmpv6_mtu, icmpv6_pointer,
