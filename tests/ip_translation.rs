@@ -5,7 +5,7 @@ use crate::expect::{
 };
 use etherparse_transport::{Ipv4HeaderSlice, Ipv6Header, UdpHeader};
 use ip_translation::{
-    AddressError, AddressMapping, AddressMappingError, AddressTable, PacketTranslationError,
+    AddressError, AddressMapping, AddressMappingError, PacketTranslationError,
     Prefix64, Prefix64Error, Prefixes, TranslationError, header_to_ipv6, icmpv4_error, icmpv4_mtu,
     icmpv4_pointer, icmpv6_error, icmpv6_mtu, icmpv6_pointer, ipv4_to_ipv6, ipv6_to_ipv4,
     pseudo_header_change,
@@ -243,8 +243,8 @@ fn headers_follow_the_mappings(rt: HostRuntime) {
     );
     let mappings = [mapping];
     let prefixes = Prefixes::with_mappings(
-        PREFIXES.source.prefix,
-        PREFIXES.destination.prefix,
+        two_prefixes().source.prefix,
+        two_prefixes().destination.prefix,
         &mappings,
     );
     let header = expect_some(&rt, Ipv4HeaderSlice::from_slice(&HEADER));
@@ -276,16 +276,12 @@ fn no_mappings(rt: HostRuntime) {
 // ---- headers
 
 /// 2001:db8::/32 for the source, and 2001:db8:122:344::/96 for the destination.
-static PREFIXES: Prefixes = Prefixes {
-    source: AddressTable {
-        mappings: &[],
-        prefix: Prefix64::Bits32([0x20, 0x01, 0x0D, 0xB8]),
-    },
-    destination: AddressTable {
-        mappings: &[],
-        prefix: Prefix64::Bits96([0x20, 0x01, 0x0D, 0xB8, 0x01, 0x22, 0x03, 0x44, 0, 0, 0]),
-    },
-};
+fn two_prefixes() -> Prefixes<'static> {
+    Prefixes::new(
+        Prefix64::Bits32([0x20, 0x01, 0x0D, 0xB8]),
+        Prefix64::Bits96([0x20, 0x01, 0x0D, 0xB8, 0x01, 0x22, 0x03, 0x44, 0, 0, 0]),
+    )
+}
 
 /// From 192.0.2.33 to 198.51.100.7: type of service B9, total length 31, "don't fragment", time to live 64 and protocol UDP.
 static HEADER: [u8; 20] = [
@@ -303,20 +299,20 @@ static TRANSLATED: [u8; 40] = [
 #[test]
 fn headers_are_translated(rt: HostRuntime) {
     let header = expect_some(&rt, Ipv4HeaderSlice::from_slice(&HEADER));
-    let translated = expect_ok(&rt, header_to_ipv6(&header, &PREFIXES));
+    let translated = expect_ok(&rt, header_to_ipv6(&header, &two_prefixes()));
     expect_bytes(&rt, translated.as_slice(), &TRANSLATED);
     // ICMP, and then three options of one byte.
     let mut icmp = HEADER;
     icmp[9] = 1;
     icmp[11] = 0x95;
     let header = expect_some(&rt, Ipv4HeaderSlice::from_slice(&icmp));
-    let translated = expect_ok(&rt, header_to_ipv6(&header, &PREFIXES));
+    let translated = expect_ok(&rt, header_to_ipv6(&header, &two_prefixes()));
     expect_equal(&rt, &translated.as_slice()[6], &58);
     let options = [
         0x46, 0, 0, 32, 0, 0, 0, 0, 64, 6, 0x41, 0x99, 10, 1, 2, 3, 198, 51, 100, 7, 1, 1, 1, 0,
     ];
     let header = expect_some(&rt, Ipv4HeaderSlice::from_slice(&options));
-    let translated = expect_ok(&rt, header_to_ipv6(&header, &PREFIXES));
+    let translated = expect_ok(&rt, header_to_ipv6(&header, &two_prefixes()));
     expect_equal(&rt, &translated.as_slice()[5], &8);
 }
 
@@ -350,7 +346,7 @@ static NO_HEADERS: [(&[u8], TranslationError, &str); 10] = [
 
 /// The prefixes of a row: the last two rows have the well-known prefix.
 fn prefixes_of(error: &TranslationError) -> Prefixes<'static> {
-    let mut prefixes = PREFIXES;
+    let mut prefixes = two_prefixes();
     match error {
         TranslationError::Source(_) => prefixes.source.prefix = Prefix64::WELL_KNOWN,
         TranslationError::Destination(_) => prefixes.destination.prefix = Prefix64::WELL_KNOWN,
@@ -372,11 +368,11 @@ fn headers_are_refused(rt: HostRuntime) {
 #[test]
 fn checksums_follow_the_pseudo_header(rt: HostRuntime) {
     let header = expect_some(&rt, Ipv4HeaderSlice::from_slice(&HEADER));
-    let change = pseudo_header_change(&header, &PREFIXES);
+    let change = pseudo_header_change(&header, &two_prefixes());
     let old = UdpHeader::with_ipv4_checksum(21, 1234, &header.to_header(), b"abc");
     let addresses = Ipv6Header {
-        source: PREFIXES.source.embed(header.source()),
-        destination: PREFIXES.destination.embed(header.destination()),
+        source: two_prefixes().source.embed(header.source()),
+        destination: two_prefixes().destination.embed(header.destination()),
     };
     let new = UdpHeader::with_ipv6_checksum(21, 1234, &addresses, b"abc");
     let checksum = change.apply_udp(expect_ok(&rt, old).checksum);
@@ -452,7 +448,7 @@ static PACKETS: [(&[u8], &[u8]); 7] = [
 /// The buffer has 80 bytes of 0xEE, and the bytes after the packet stay.
 fn expect_translated(rt: &impl Abort, packet: &[u8], expected: &[u8]) {
     let mut buffer = [0xEE; 80];
-    let len = expect_ok(rt, ipv4_to_ipv6(packet, &PREFIXES, &mut buffer));
+    let len = expect_ok(rt, ipv4_to_ipv6(packet, &two_prefixes(), &mut buffer));
     expect_equal(rt, &len, &expected.len());
     expect_bytes(rt, bytes_to(rt, &buffer, len), expected);
     expect_equal(rt, &buffer[79], &0xEE);
@@ -529,7 +525,7 @@ static NO_PACKETS: [(&[u8], PacketTranslationError, &str); 9] = [
 fn packets_are_refused(rt: HostRuntime) {
     for (packet, error, text) in &NO_PACKETS {
         let mut buffer = [0xEE; 50];
-        let outcome = ipv4_to_ipv6(packet, &PREFIXES, &mut buffer);
+        let outcome = ipv4_to_ipv6(packet, &two_prefixes(), &mut buffer);
         expect_at(&rt, text, &outcome.err().as_ref(), &Some(error));
         expect_bytes(&rt, &buffer, &[0xEE; 50]);
         expect_text(&rt, error, text);
@@ -593,7 +589,7 @@ fn packets_are_translated_back(rt: HostRuntime) {
         let mut buffer = [0xEE; 80];
         let len = expect_ok(
             &rt,
-            ipv6_to_ipv4(padded.as_slice(), &PREFIXES, 0xBEEF, &mut buffer),
+            ipv6_to_ipv4(padded.as_slice(), &two_prefixes(), 0xBEEF, &mut buffer),
         );
         expect_bytes(&rt, bytes_to(&rt, &buffer, len), expected);
         expect_equal(&rt, &buffer[79], &0xEE);
@@ -614,7 +610,7 @@ static EXTENDED: [u8; 91] = [
 #[test]
 fn extension_headers_are_skipped(rt: HostRuntime) {
     let mut buffer = [0xEE; 80];
-    let len = expect_ok(&rt, ipv6_to_ipv4(&EXTENDED, &PREFIXES, 0xBEEF, &mut buffer));
+    let len = expect_ok(&rt, ipv6_to_ipv4(&EXTENDED, &two_prefixes(), 0xBEEF, &mut buffer));
     expect_bytes(&rt, bytes_to(&rt, &buffer, len), PACKETS_BACK[0].1);
     expect_equal(&rt, &buffer[79], &0xEE);
 }
@@ -640,7 +636,7 @@ fn extension_headers_are_refused(rt: HostRuntime) {
         let mut packet = EXTENDED;
         packet[*place] = *value;
         let mut buffer = [0xEE; 80];
-        let outcome = ipv6_to_ipv4(&packet, &PREFIXES, 0, &mut buffer);
+        let outcome = ipv6_to_ipv4(&packet, &two_prefixes(), 0, &mut buffer);
         expect_at(&rt, text, &outcome.err().as_ref(), &Some(error));
         expect_bytes(&rt, &buffer, &[0xEE; 80]);
         expect_text(&rt, error, text);
@@ -654,14 +650,14 @@ fn long_payloads_are_refused(rt: HostRuntime) {
     packet[..40].copy_from_slice(&TRANSLATED);
     packet[4..7].copy_from_slice(&[0xFF, 0xEC, 50]);
     let mut buffer = [0; 65_535];
-    let outcome = ipv6_to_ipv4(&packet, &PREFIXES, 0, &mut buffer);
+    let outcome = ipv6_to_ipv4(&packet, &two_prefixes(), 0, &mut buffer);
     let error = PacketTranslationError::Header(TranslationError::PayloadLength(65_516));
     expect_equal(&rt, &outcome, &Err(error));
     packet[6] = 60;
     packet[40] = 50;
     expect_equal(
         &rt,
-        &ipv6_to_ipv4(&packet, &PREFIXES, 0, &mut buffer),
+        &ipv6_to_ipv4(&packet, &two_prefixes(), 0, &mut buffer),
         &Ok(65_528),
     );
 }
@@ -744,7 +740,7 @@ static NO_PACKETS_BACK: [(&[u8], PacketTranslationError, &str); 10] = [
 fn packets_are_refused_back(rt: HostRuntime) {
     for (packet, error, text) in &NO_PACKETS_BACK {
         let mut buffer = [0xEE; 30];
-        let outcome = ipv6_to_ipv4(packet, &PREFIXES, 0, &mut buffer);
+        let outcome = ipv6_to_ipv4(packet, &two_prefixes(), 0, &mut buffer);
         expect_at(&rt, text, &outcome.err().as_ref(), &Some(error));
         expect_bytes(&rt, &buffer, &[0xEE; 30]);
         expect_text(&rt, error, text);
@@ -760,7 +756,7 @@ fn long_packets_are_not_fragmented(rt: HostRuntime) {
     let mut buffer = [0; 1261];
     for (payload_len, flags) in [(1240u16, 0), (1241, 0x40)] {
         packet[4..6].copy_from_slice(&payload_len.to_be_bytes());
-        let outcome = ipv6_to_ipv4(&packet, &PREFIXES, 1, &mut buffer);
+        let outcome = ipv6_to_ipv4(&packet, &two_prefixes(), 1, &mut buffer);
         expect_ok(&rt, outcome);
         expect_at(&rt, &payload_len, &buffer[6], &flags);
     }
@@ -880,7 +876,7 @@ static FRAGMENTS_BACK: [(&[u8], &[u8]); 7] = [
 fn fragments_are_translated(rt: HostRuntime) {
     for (packet, expected) in &FRAGMENTS {
         let mut buffer = [0xEE; 80];
-        let len = expect_ok(&rt, ipv4_to_ipv6(packet, &PREFIXES, &mut buffer));
+        let len = expect_ok(&rt, ipv4_to_ipv6(packet, &two_prefixes(), &mut buffer));
         expect_bytes(&rt, bytes_to(&rt, &buffer, len), expected);
         expect_equal(&rt, &buffer[79], &0xEE);
     }
@@ -890,7 +886,7 @@ fn fragments_are_translated(rt: HostRuntime) {
 fn fragments_are_translated_back(rt: HostRuntime) {
     for (packet, expected) in &FRAGMENTS_BACK {
         let mut buffer = [0xEE; 80];
-        let len = expect_ok(&rt, ipv6_to_ipv4(packet, &PREFIXES, 0xBEEF, &mut buffer));
+        let len = expect_ok(&rt, ipv6_to_ipv4(packet, &two_prefixes(), 0xBEEF, &mut buffer));
         expect_bytes(&rt, bytes_to(&rt, &buffer, len), expected);
         expect_equal(&rt, &buffer[79], &0xEE);
     }
@@ -912,12 +908,12 @@ fn fragments_are_refused(rt: HostRuntime) {
         let mut packet = joined(&rt, &[FRAGMENTS_BACK[0].0]);
         packet.as_mut_slice()[*place] = *value;
         let mut buffer = [0xEE; 80];
-        let outcome = ipv6_to_ipv4(packet.as_slice(), &PREFIXES, 0, &mut buffer);
+        let outcome = ipv6_to_ipv4(packet.as_slice(), &two_prefixes(), 0, &mut buffer);
         expect_at(&rt, place, &outcome.err().as_ref(), &Some(error));
         expect_bytes(&rt, &buffer, &[0xEE; 80]);
     }
     let mut buffer = [0xEE; 63];
-    let outcome = ipv4_to_ipv6(FRAGMENTS[0].0, &PREFIXES, &mut buffer);
+    let outcome = ipv4_to_ipv6(FRAGMENTS[0].0, &two_prefixes(), &mut buffer);
     let error = PacketTranslationError::Space {
         required_len: 64,
         len: 63,
@@ -925,7 +921,7 @@ fn fragments_are_refused(rt: HostRuntime) {
     expect_equal(&rt, &outcome, &Err(error));
     let mut udp = joined(&rt, &[FRAGMENTS[0].0]);
     udp.as_mut_slice()[26..28].copy_from_slice(&[0, 0]);
-    let outcome = ipv4_to_ipv6(udp.as_slice(), &PREFIXES, &mut buffer);
+    let outcome = ipv4_to_ipv6(udp.as_slice(), &two_prefixes(), &mut buffer);
     expect_equal(
         &rt,
         &outcome,
@@ -933,7 +929,7 @@ fn fragments_are_refused(rt: HostRuntime) {
     );
     // ICMP, with the checksum of the header.
     udp.as_mut_slice()[9..12].copy_from_slice(&[1, 0x5B, 0x90]);
-    let outcome = ipv4_to_ipv6(udp.as_slice(), &PREFIXES, &mut buffer);
+    let outcome = ipv4_to_ipv6(udp.as_slice(), &two_prefixes(), &mut buffer);
     expect_equal(&rt, &outcome, &Err(PacketTranslationError::IcmpFragment));
     expect_bytes(&rt, &buffer, &[0xEE; 63]);
     expect_text(
@@ -1179,7 +1175,7 @@ static ERROR_PACKETS_BACK: [(&[u8], &[u8]); 5] = [
 fn icmp_errors_are_translated(rt: HostRuntime) {
     for (packet, expected) in &ERROR_PACKETS {
         let mut buffer = [0xEE; 120];
-        let len = expect_ok(&rt, ipv4_to_ipv6(packet, &PREFIXES, &mut buffer));
+        let len = expect_ok(&rt, ipv4_to_ipv6(packet, &two_prefixes(), &mut buffer));
         expect_bytes(&rt, bytes_to(&rt, &buffer, len), expected);
         expect_equal(&rt, &buffer[119], &0xEE);
     }
@@ -1189,7 +1185,7 @@ fn icmp_errors_are_translated(rt: HostRuntime) {
 fn icmp_errors_are_translated_back(rt: HostRuntime) {
     for (packet, expected) in &ERROR_PACKETS_BACK {
         let mut buffer = [0xEE; 80];
-        let len = expect_ok(&rt, ipv6_to_ipv4(packet, &PREFIXES, 0xBEEF, &mut buffer));
+        let len = expect_ok(&rt, ipv6_to_ipv4(packet, &two_prefixes(), 0xBEEF, &mut buffer));
         expect_bytes(&rt, bytes_to(&rt, &buffer, len), expected);
         expect_equal(&rt, &buffer[79], &0xEE);
     }
@@ -1204,7 +1200,7 @@ fn long_quotes_are_cut(rt: HostRuntime) {
     packet[10..12].copy_from_slice(&[0x37, 0x3D]);
     packet[30..32].copy_from_slice(&[5, 0xDC]);
     let mut buffer = [0xEE; 1400];
-    let outcome = ipv4_to_ipv6(&packet, &PREFIXES, &mut buffer);
+    let outcome = ipv4_to_ipv6(&packet, &two_prefixes(), &mut buffer);
     expect_equal(&rt, &outcome, &Ok(1280));
     // The payload lengths of the error and of the quoted packet.
     expect_bytes(&rt, &buffer[4..6], &[4, 0xD8]);
@@ -1247,15 +1243,15 @@ fn extensions_are_kept(rt: HostRuntime) {
     let over_ipv6 = joined(&rt, &[&WITH_EXTENSION_IPV6, &[0; 77], &EXTENSION]);
     let back = joined(&rt, &[&WITH_EXTENSION_BACK, &[0; 97], &EXTENSION]);
     let mut buffer = [0xEE; 200];
-    let len = expect_ok(&rt, ipv4_to_ipv6(packet.as_slice(), &PREFIXES, &mut buffer));
+    let len = expect_ok(&rt, ipv4_to_ipv6(packet.as_slice(), &two_prefixes(), &mut buffer));
     expect_bytes(&rt, bytes_to(&rt, &buffer, len), over_ipv6.as_slice());
-    let outcome = ipv6_to_ipv4(over_ipv6.as_slice(), &PREFIXES, 0xBEEF, &mut buffer);
+    let outcome = ipv6_to_ipv4(over_ipv6.as_slice(), &two_prefixes(), 0xBEEF, &mut buffer);
     let len = expect_ok(&rt, outcome);
     expect_bytes(&rt, bytes_to(&rt, &buffer, len), back.as_slice());
     // A length field that counts one unit more than the message has.
     let mut wrong = joined(&rt, &[packet.as_slice()]);
     wrong.as_mut_slice()[25] = 36;
-    let outcome = ipv4_to_ipv6(wrong.as_slice(), &PREFIXES, &mut buffer);
+    let outcome = ipv4_to_ipv6(wrong.as_slice(), &two_prefixes(), &mut buffer);
     expect_equal(
         &rt,
         &outcome,
@@ -1269,7 +1265,7 @@ fn extensions_are_left_out(rt: HostRuntime) {
     let mut packet = joined(&rt, &[&WITH_EXTENSION, &[0; 97], &EXTENSION]);
     packet.as_mut_slice()[20..22].copy_from_slice(&[3, 4]);
     let mut buffer = [0xEE; 200];
-    let outcome = ipv4_to_ipv6(packet.as_slice(), &PREFIXES, &mut buffer);
+    let outcome = ipv4_to_ipv6(packet.as_slice(), &two_prefixes(), &mut buffer);
     expect_equal(&rt, &outcome, &Ok(99));
     expect_bytes(&rt, &buffer[40..42], &[2, 0]);
 }
@@ -1302,13 +1298,13 @@ fn icmp_errors_are_refused(rt: HostRuntime) {
         let mut packet = joined(&rt, &[ERROR_PACKETS[*row].0]);
         packet.as_mut_slice()[*place] = *value;
         let mut buffer = [0xEE; 120];
-        let outcome = ipv4_to_ipv6(packet.as_slice(), &PREFIXES, &mut buffer);
+        let outcome = ipv4_to_ipv6(packet.as_slice(), &two_prefixes(), &mut buffer);
         expect_at(&rt, text, &outcome.err().as_ref(), &Some(error));
         expect_bytes(&rt, &buffer, &[0xEE; 120]);
         expect_text(&rt, error, text);
     }
     let mut buffer = [0xEE; 98];
-    let outcome = ipv4_to_ipv6(ERROR_PACKETS[0].0, &PREFIXES, &mut buffer);
+    let outcome = ipv4_to_ipv6(ERROR_PACKETS[0].0, &two_prefixes(), &mut buffer);
     let error = PacketTranslationError::Space {
         required_len: 99,
         len: 98,
@@ -1336,12 +1332,12 @@ fn icmp_errors_are_refused_back(rt: HostRuntime) {
         let mut packet = joined(&rt, &[ERROR_PACKETS_BACK[*row].0]);
         packet.as_mut_slice()[*place] = *value;
         let mut buffer = [0xEE; 80];
-        let outcome = ipv6_to_ipv4(packet.as_slice(), &PREFIXES, 0, &mut buffer);
+        let outcome = ipv6_to_ipv4(packet.as_slice(), &two_prefixes(), 0, &mut buffer);
         expect_at(&rt, place, &outcome.err().as_ref(), &Some(error));
         expect_bytes(&rt, &buffer, &[0xEE; 80]);
     }
     let mut buffer = [0xEE; 58];
-    let outcome = ipv6_to_ipv4(ERROR_PACKETS_BACK[0].0, &PREFIXES, 0, &mut buffer);
+    let outcome = ipv6_to_ipv4(ERROR_PACKETS_BACK[0].0, &two_prefixes(), 0, &mut buffer);
     let error = PacketTranslationError::Space {
         required_len: 59,
         len: 58,
@@ -1362,9 +1358,9 @@ fn all_messages(rt: HostRuntime) {
         for code_u8 in 0..=u8::MAX {
             over_ipv4.as_mut_slice()[20..22].copy_from_slice(&[type_u8, code_u8]);
             over_ipv6.as_mut_slice()[40..42].copy_from_slice(&[type_u8, code_u8]);
-            let outcome = ipv4_to_ipv6(over_ipv4.as_slice(), &PREFIXES, &mut buffer);
+            let outcome = ipv4_to_ipv6(over_ipv4.as_slice(), &two_prefixes(), &mut buffer);
             to_ipv6 += usize::from(outcome.is_ok());
-            let outcome = ipv6_to_ipv4(over_ipv6.as_slice(), &PREFIXES, 0, &mut buffer);
+            let outcome = ipv6_to_ipv4(over_ipv6.as_slice(), &two_prefixes(), 0, &mut buffer);
             to_ipv4 += usize::from(outcome.is_ok());
         }
     }

@@ -1,8 +1,8 @@
 -- The translation of an address by the mapping that is found for it, and back.
-use Rattle.std.proofs.Common.{◌≡◌, ◌⊎◌, inl, inr, ℕ, List, [], Option, Some, None, ap, sym, ◌∙◌, refl}
+use Rattle.std.proofs.Common.{◌≡◌, inl, inr, ℕ, List, [], Option, Some, None, ap, sym, ◌∙◌, refl}
 use Rattle.std.proofs.lemmas.Option.{none-some}
-use Rattle.std.specs.Int.{from_be_bytes, to_be_bytes, w32, w128}
-use Rattle.ip_translation.specs.AddressMappings.{longest_ipv4, longest_ipv6, mapped_to_ipv4, mapped_to_ipv6}
+use Rattle.std.specs.Int.{from_be_bytes, w32, w128}
+use Rattle.ip_translation.specs.AddressMappings.{longest_ipv4, longest_ipv6}
 use Rattle.ip_translation.specs.AddressTables.{ComesBack, embedded, embedded_by, extracted, extracted_by, mapping_of_ipv4, mapping_of_ipv6, refused_by, to_ipv4_refusal, to_ipv6_refusal}
 use Rattle.ip_translation.specs.Prefixes as prefixes
 use Rattle.ip_translation.specs.declared.address_mapping.AddressMapping.{AddressMapping}
@@ -26,8 +26,8 @@ unfolding embedded
 embedded_is table ipv4 number found is finds =
     ap (λ found. embedded_by found table.prefix ipv4) (found_ipv4 table ipv4 number found is finds)
 
-pub to_ipv6_refusal_is : (table : AddressTable) (ipv4 : List ℕ) (number : ℕ) (found : Option AddressMapping) → number ≡ from_be_bytes w32 ipv4
-    → longest_ipv4 table.mappings.now number ≡ found
+pub to_ipv6_refusal_is : (table : AddressTable) (ipv4 : List ℕ) (number : ℕ) (found : Option AddressMapping)
+    → number ≡ from_be_bytes w32 ipv4 → longest_ipv4 table.mappings.now number ≡ found
     → to_ipv6_refusal table ipv4 ≡ refused_by found (prefixes.to_ipv6_refusal table.prefix ipv4)
 unfolding to_ipv6_refusal
 to_ipv6_refusal_is table ipv4 number found is finds =
@@ -40,8 +40,8 @@ found_ipv6 : (table : AddressTable) (address : List ℕ) (number : ℕ) (found :
     → longest_ipv6 table.mappings.now number ≡ found → mapping_of_ipv6 table address ≡ found
 found_ipv6 table address number found is finds = ap (longest_ipv6 table.mappings.now) (sym is) ∙ finds
 
-pub extracted_is : (table : AddressTable) (address : List ℕ) (number : ℕ) (found : Option AddressMapping) → number ≡ from_be_bytes w128 address
-    → longest_ipv6 table.mappings.now number ≡ found → extracted table address ≡ extracted_by found table.prefix address
+pub extracted_is : (table : AddressTable) (address : List ℕ) (number : ℕ) (found : Option AddressMapping)
+    → number ≡ from_be_bytes w128 address → longest_ipv6 table.mappings.now number ≡ found → extracted table address ≡ extracted_by found table.prefix address
 unfolding extracted
 extracted_is table address number found is finds =
     ap (λ found. extracted_by found table.prefix address) (found_ipv6 table address number found is finds)
@@ -69,13 +69,15 @@ embedded_without table ipv4 empty =
 pub extracted_without : (table : AddressTable) (address : List ℕ) → table.mappings.now ≡ []
     → extracted table address ≡ prefixes.extracted table.prefix address
 extracted_without table address empty =
-    extracted_is table address (from_be_bytes w128 address) None refl (ap (λ mappings. longest_ipv6 mappings (from_be_bytes w128 address)) empty)
+    extracted_is table address (from_be_bytes w128 address) None refl
+    (ap (λ mappings. longest_ipv6 mappings (from_be_bytes w128 address)) empty)
 
 -- ---- there and back
 
 -- An address that comes back. If there are no mappings, the prefix extracts the address that it embedded.
 pub back_again : (table : AddressTable) (ipv4 address : List ℕ) → address ≡ embedded table ipv4
-    → (table.mappings.now ≡ [] → prefixes.extracted table.prefix (prefixes.embedded table.prefix ipv4) ≡ ipv4) → ComesBack table ipv4 → extracted table address ≡ ipv4
+    → (table.mappings.now ≡ [] → prefixes.extracted table.prefix (prefixes.embedded table.prefix ipv4) ≡ ipv4)
+    → ComesBack table ipv4 → extracted table address ≡ ipv4
 back_again table ipv4 address is by_prefix (inl empty) =
     extracted_without table address empty
     ∙ ap (prefixes.extracted table.prefix) (is ∙ embedded_without table ipv4 empty) ∙ by_prefix empty

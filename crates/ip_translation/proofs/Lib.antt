@@ -10,10 +10,14 @@ pub mod IcmpErrorExamples
 pub mod Ipv4HeaderLemmas
 pub mod Ipv4PacketExamples
 pub mod ListedLemmas
+pub mod LongestLemmas
+pub mod MappedBackLemmas
+pub mod MappingExamples
 pub mod MappingLemmas
 pub mod MessageLemmas
 pub mod PacketExamples
 pub mod PseudoHeaderLemmas
 pub mod RuleLemmas
 pub mod SkippedLemmas
+pub mod WideNumberLemmas
 pub mod WorkedExamples

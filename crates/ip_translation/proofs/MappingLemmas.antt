@@ -1,7 +1,7 @@
 -- Numbers that consist of a prefix and a suffix.
-use Rattle.std.proofs.Common.{ℕ, ◌≡◌, ◌≤◌, ◌<◌, ◌+◌, ◌-◌, ◌*◌, ◌/◌, ◌%◌, ◌^◌, ap, subst, sym, ◌∙◌, arith}
+use Rattle.std.proofs.Common.{ℕ, ◌≡◌, ◌≤◌, ◌<◌, ◌+◌, ◌-◌, ◌*◌, ◌/◌, ◌^◌, subst, arith}
 use Rattle.std.proofs.Math.Nat.{pow-le-pow_right, div-eq_of_lt}
-use Rattle.std.proofs.lemmas.Nat.{mod_below, mul-add-lt, pow-add, pow_pos, shl_below, shr_below}
+use Rattle.std.proofs.lemmas.Nat.{mul-add-lt, pow-add, shl_below, shr_below}
 
 -- a number of at most `w` bits has no bits before its last `len` bits, if `len` is at least `w`
 pub no_high_bits : (number w len : ℕ) → number < 2 ^ w → w ≤ len → number / 2 ^ len ≡ 0

@@ -1,10 +1,10 @@
 -- Explicit mappings of addresses (RFC 7757, section 3).
 --
--- A mapping consists of an IPv4 prefix and an IPv6 prefix. An address that begins with a prefix of the mapping is translated to the address that
--- begins with the other prefix. The bits after the prefix, the suffix, are kept. An IPv6 suffix may be longer than the IPv4 suffix: its other bits
--- are 0 in a translated address, and are ignored if the address is translated to IPv4.
-use Rattle.std.specs.Prelude.{ℕ, ◌+◌, ◌-◌, ◌*◌, ◌/◌, ◌%◌, ◌^◌, ◌==◌, Bool, ◌&&◌, not, if◌then◌else◌, List, [], ◌∷◌, nat_lt, Option, Some, None}
-use Rattle.std.specs.Int.{from_be_bytes, to_be_bytes, w32, w128}
+-- A mapping consists of an IPv4 prefix and an IPv6 prefix. An address that begins with one of these prefixes is translated to an address that
+-- begins with the other prefix. The bits after the prefix, the suffix, are kept. The IPv6 suffix may be longer than the IPv4 suffix. Then its
+-- other bits are 0 in a translated address, and they are ignored if the address is translated to IPv4.
+use Rattle.std.specs.Prelude.{ℕ, ◌≡◌, ◌≤◌, true, ◌+◌, ◌-◌, ◌*◌, ◌/◌, ◌%◌, ◌^◌, ◌==◌, Bool, ◌&&◌, not, if◌then◌else◌, List, [], ◌∷◌, nat_lt, Option, Some, None}
+use Rattle.std.specs.Int.{from_be_bytes, w32, w128}
 use Rattle.std.specs.List.{fold}
 use Rattle.net_base.specs.Refusals.{first_of, refused_if}
 use Rattle.ip_translation.specs.declared.address_mapping.AddressMapping.{AddressMapping}
@@ -21,8 +21,8 @@ ipv4_suffix_len len = 32 - len
 abbrev pub ipv6_suffix_len : ℕ → ℕ
 ipv6_suffix_len len = 128 - len
 
--- Why two addresses and two lengths do not define a mapping: a length is too great, the IPv6 suffix is shorter than the IPv4 suffix (RFC 7757,
--- section 3.1), or a bit after a prefix is not 0.
+-- Why two addresses and two lengths do not define a mapping: a length is too great, the IPv6 suffix is shorter than the IPv4 suffix (RFC
+-- 7757, section 3.1), or a bit after a prefix is not 0.
 abbrev pub mapping_refusal : List ℕ → ℕ → List ℕ → ℕ → Option AddressMappingError
 mapping_refusal ipv4 ipv4_len ipv6 ipv6_len = first_of (
     refused_if (nat_lt 32 ipv4_len) (Ipv4Len ipv4_len)
@@ -77,3 +77,8 @@ longest_ipv4 mappings address = fold (better_of (is_ipv4_of address) ipv4_len) N
 -- the mapping with the longest IPv6 prefix of those whose IPv6 prefix this address begins with; the first of them, if there are several
 abbrev pub longest_ipv6 : List AddressMapping → ℕ → Option AddressMapping
 longest_ipv6 mappings address = fold (better_of (is_ipv6_of address) ipv6_len) None mappings
+
+-- each of these mappings has a prefix of at most this length, or does not apply
+abbrev pub HasNoLonger : (AddressMapping → Bool) → (AddressMapping → ℕ) → ℕ → List AddressMapping → Type 0
+HasNoLonger applies len most [] = Unit {0}
+HasNoLonger applies len most (mapping ∷ mappings) = (applies mapping ≡ true → len mapping ≤ most) × HasNoLonger applies len most mappings

@@ -9,7 +9,7 @@ use crate::{AddressError, AddressMapping, Prefix64};
 /// How addresses are translated: by the explicit mapping with the longest prefix, or by a prefix if no mapping applies (RFC 7757, section
 /// 3.3).
 ///
-/// The IPv4 prefixes of the mappings are compared with an IPv4 address, and the IPv6 prefixes with an IPv6 address. If several mappings have
+/// An IPv4 address is compared with the IPv4 prefixes of the mappings, and an IPv6 address with the IPv6 prefixes. If several mappings have
 /// the same prefix, the first mapping applies.
 #[derive(Clone, Copy, Debug, PartialEq, Eq)]
 pub struct AddressTable<'a> {
@@ -33,8 +33,8 @@ impl<'a> AddressTable<'a> {
         }
     }
 
-    /// The IPv4 address for an IPv6 address. If no mapping applies, these are the bits after the prefix, whether the address begins with the
-    /// prefix or not.
+    /// The IPv4 address for an IPv6 address. If no mapping applies, these are the bits after the prefix, even if the address does not begin
+    /// with the prefix.
     pub(crate) fn ipv4_of(&self, address: &[u8; 16]) -> [u8; 4]
         ensures ipv4 { result ≡ tables.extracted self.now address.now }
     {

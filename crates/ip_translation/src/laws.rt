@@ -14,9 +14,9 @@ ghost use Rattle.ip_translation.specs.ThereAndBack.{AddressesComeBack, header_ba
 use crate::Prefixes;
 use net_base::Ipv4HeaderSlice;
 
-/// Assume a UDP packet with a checksum, or a TCP segment whose checksum is not 65535, whose addresses come back. If it is translated to IPv6 and back with the same
-/// prefixes, the result is the same message. A UDP packet without a checksum would get a checksum, and the TCP checksum 65535 would become
-/// 0.
+/// Assume a UDP packet with a checksum, or a TCP segment whose checksum is not 65535. Its addresses are the same after the way there and back,
+/// as all addresses are without explicit mappings. If it is translated to IPv6 and back with the same prefixes, the result is the same message.
+/// A UDP packet without a checksum would get a checksum, and the TCP checksum 65535 would become 0.
 pub fn message_there_and_back(header: &Ipv4HeaderSlice<'_>, prefixes: &Prefixes)
     ensures udp { AddressesComeBack prefixes.now header.now → (packet : List ℕ) → IsBytes packet → 8 ≤ length packet →
         udp_checksum packet ≢ 0 →
@@ -29,12 +29,13 @@ pub fn message_there_and_back(header: &Ipv4HeaderSlice<'_>, prefixes: &Prefixes)
     let _ = prefixes.destination.embed(header.destination());
 }
 
-/// Assume a header without options, whose total length counts at least the header, of a protocol that is not ICMPv6, whose addresses come
-/// back. If it is translated to IPv6
-/// and back with the same prefixes, only identification, flags, time to live and checksum are other ones.
+/// Assume a header without options, whose total length counts at least the header, of a protocol that is not ICMPv6. Its addresses are the
+/// same after the way there and back, as all addresses are without explicit mappings. If it is translated to IPv6 and back with the same
+/// prefixes, only identification, flags, time to live and checksum are other ones.
 pub fn header_there_and_back(header: &Ipv4HeaderSlice<'_>, prefixes: &Prefixes)
-    // This holds for every header whose addresses come back. Without mappings, all addresses do.
-    ensures addresses { AddressesComeBack prefixes.now header.now → (extracted prefixes.now.source (back.source (translated_header prefixes.now header.now)) ≡ source header.now)
+    // Without explicit mappings, this holds for every header.
+    ensures addresses { AddressesComeBack prefixes.now header.now →
+        (extracted prefixes.now.source (back.source (translated_header prefixes.now header.now)) ≡ source header.now)
         × (extracted prefixes.now.destination (back.destination (translated_header prefixes.now header.now)) ≡ destination header.now) }
     ensures back { AddressesComeBack prefixes.now header.now → (identification : ℕ) → length header.now ≡ 20 →
         slice_index header.now 0 ≡ 0x45 → 20 ≤ total_len header.now →

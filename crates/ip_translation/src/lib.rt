@@ -1,7 +1,7 @@
 //! Translation between IPv4 and IPv6 (RFC 7915), with IPv4 addresses embedded in IPv6 addresses (RFC 6052).
 //!
-//! A `Prefix64` embeds IPv4 addresses in IPv6 addresses, and extracts them again. An `AddressMapping` translates the addresses of one network
-//! to another network (RFC 7757). `ipv4_to_ipv6` and `ipv6_to_ipv4` translate packets. No call allocates or has a precondition.
+//! A `Prefix64` embeds IPv4 addresses in IPv6 addresses, and extracts them again. An `AddressMapping` translates the addresses of an IPv4
+//! network to an IPv6 network and back (RFC 7757). `ipv4_to_ipv6` and `ipv6_to_ipv4` translate packets. No call allocates or has a precondition.
 //!
 //! ```
 //! let prefix = Prefix64::Bits32([0x20, 0x01, 0x0d, 0xb8]);
@@ -26,6 +26,8 @@ mod icmp_errors;
 mod ipv4_header_translation;
 #[doc(hidden)]
 pub mod laws;
+#[doc(hidden)]
+pub mod mapping_laws;
 mod message_translation;
 mod packet_to_ipv4;
 mod packet_translation;

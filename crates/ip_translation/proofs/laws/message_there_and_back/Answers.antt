@@ -18,6 +18,8 @@ pub returns-clause-udp : goal.returns-clause-udp
 returns-clause-udp c = λ come packet fits there some.
     let prefixes = c.args.prefixes.now in
     let header : List ℕ = c.args.header.now in
+    let source_back = subst (ComesBack prefixes.source) (sym c.source.ensures) come.source_back in
+    let destination_back = subst (ComesBack prefixes.destination) (sym c.destination.ensures) come.destination_back in
     let is_source : c.embed.result ≡ embedded prefixes.source (headers.source header) =
     c.embed.ensures.embedded ∙ ap (embedded prefixes.source) c.source.ensures in
     let is_destination : c.embed-2.result ≡ embedded prefixes.destination (headers.destination header) =
@@ -42,8 +44,8 @@ returns-clause-udp c = λ come packet fits there some.
     ap₂ (λ source destination. folded (total (extracted prefixes.source source) + total (extracted prefixes.destination destination)))
     old_source old_destination
     ∙ ap₂ (λ source destination. folded (total source + total destination))
-    (ap (extracted prefixes.source) (sym is_source) ∙ c.embed.ensures.extracted (subst (ComesBack prefixes.source) (sym c.source.ensures) come.source_back) ∙ c.source.ensures)
-    (ap (extracted prefixes.destination) (sym is_destination) ∙ c.embed-2.ensures.extracted (subst (ComesBack prefixes.destination) (sym c.destination.ensures) come.destination_back) ∙ c.destination.ensures) in
+    (ap (extracted prefixes.source) (sym is_source) ∙ c.embed.ensures.extracted source_back ∙ c.source.ensures)
+    (ap (extracted prefixes.destination) (sym is_destination) ∙ c.embed-2.ensures.extracted destination_back ∙ c.destination.ensures) in
     let test : (udp_checksum packet == 0) ≡ false = grind (arith, nat_tests) in
     let updated : new_udp_checksum prefixes header packet
     ≡ updated_udp_checksum_of (udp_checksum packet) (removed_addresses header) (added_addresses prefixes header) =
@@ -61,6 +63,8 @@ pub returns-clause-tcp : goal.returns-clause-tcp
 returns-clause-tcp c = λ come segment fits there some.
     let prefixes = c.args.prefixes.now in
     let header : List ℕ = c.args.header.now in
+    let source_back = subst (ComesBack prefixes.source) (sym c.source.ensures) come.source_back in
+    let destination_back = subst (ComesBack prefixes.destination) (sym c.destination.ensures) come.destination_back in
     let is_source : c.embed.result ≡ embedded prefixes.source (headers.source header) =
     c.embed.ensures.embedded ∙ ap (embedded prefixes.source) c.source.ensures in
     let is_destination : c.embed-2.result ≡ embedded prefixes.destination (headers.destination header) =
@@ -85,8 +89,8 @@ returns-clause-tcp c = λ come segment fits there some.
     ap₂ (λ source destination. folded (total (extracted prefixes.source source) + total (extracted prefixes.destination destination)))
     old_source old_destination
     ∙ ap₂ (λ source destination. folded (total source + total destination))
-    (ap (extracted prefixes.source) (sym is_source) ∙ c.embed.ensures.extracted (subst (ComesBack prefixes.source) (sym c.source.ensures) come.source_back) ∙ c.source.ensures)
-    (ap (extracted prefixes.destination) (sym is_destination) ∙ c.embed-2.ensures.extracted (subst (ComesBack prefixes.destination) (sym c.destination.ensures) come.destination_back) ∙ c.destination.ensures) in
+    (ap (extracted prefixes.source) (sym is_source) ∙ c.embed.ensures.extracted source_back ∙ c.source.ensures)
+    (ap (extracted prefixes.destination) (sym is_destination) ∙ c.embed-2.ensures.extracted destination_back ∙ c.destination.ensures) in
     tcp_same segment (removed_addresses header) (added_addresses prefixes header) _ _ fits (omega (arith, there)) some
     (folded-lt (total (headers.source header) + total (headers.destination header)))
     (folded-lt (total (embedded prefixes.source (headers.source header))

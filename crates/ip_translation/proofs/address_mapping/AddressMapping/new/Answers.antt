@@ -1,4 +1,4 @@
-use Rattle.std.proofs.Common.{◌^◌, ◌<◌, arith}
+use Rattle.std.proofs.Common.{arith}
 use Rattle.ip_translation.proofs.MappingLemmas.{high_below}
 use Rattle.ip_translation.proofs.address_mapping.AddressMapping.new.Goals as goal
 

@@ -29,6 +29,7 @@ with_zeros-requires-2 c =
     let suffix = mapping.suffix_fits in
     let below = mod_below c.from.result (2 ^ len) (pow_pos len) in
     let low : c.low_bits-suffix.result < 2 ^ len = subst (λ n. n < 2 ^ len) (sym c.low_bits-suffix.ensures) below in
-    let joined = joined_fits mapping.ipv6 mapping.ipv6_len len c.low_bits-suffix.result (mapping.ipv6_len + len) mapping.ipv6_fits low (omega arith) in
+    let joined = joined_fits mapping.ipv6 mapping.ipv6_len len c.low_bits-suffix.result (mapping.ipv6_len + len) mapping.ipv6_fits low
+    (omega arith) in
     let fits = shifted_fits _ (mapping.ipv6_len + len) ((128 - mapping.ipv6_len) - len) 128 joined (omega arith) in
     grind (arith, fits)
