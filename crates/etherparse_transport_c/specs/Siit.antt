@@ -1,5 +1,5 @@
 -- Packets between IPv4 and IPv6 (RFC 7915), in the interface to C: prefixes, errors, and what the calls return and write.
-use Rattle.std.specs.Prelude.{◌≡◌, ℕ, ◌+◌, ◌*◌, List, ◌++◌, drop, Option, unwrap_or}
+use Rattle.std.specs.Prelude.{◌≡◌, ℕ, ◌+◌, ◌*◌, List, [], ◌++◌, drop, Option, unwrap_or}
 use Rattle.std.specs.Option.{option_map}
 use Rattle.ip_part.specs.Ip.{ipv4_header}
 use Rattle.ip_part.specs.declared.ip_error.IpError.TheVariants as ip
