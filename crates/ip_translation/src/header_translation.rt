@@ -22,7 +22,7 @@ use word_sum::checksum_change::ChecksumChange;
 /// | payload length | total length minus the length of the header with its options |
 /// | next header | protocol, but ICMPv6 for ICMP |
 /// | hop limit | time to live, lowered by 1, since a translator is a router |
-/// | source, destination | the IPv6 addresses that contain the IPv4 addresses, by `Prefix64::to_ipv6` |
+/// | source, destination | the IPv6 addresses that contain the IPv4 addresses, by `AddressTable::to_ipv6` |
 ///
 /// Options are left out. If the checksum of the transport covers a pseudo header, the caller updates this checksum.
 ///
@@ -34,7 +34,7 @@ use word_sum::checksum_change::ChecksumChange;
 /// - `SourceRoute` if the options contain a source route, even if no address is left in it.
 /// - `TimeExceeded` if the time to live is 0 or 1.
 /// - `IllegalSource` if the first byte of the source is 0, 127, or above 223, and `IllegalDestination` if this is true for the destination.
-/// - `Source` or `Destination` if `Prefix64::to_ipv6` refuses this address.
+/// - `Source` or `Destination` if `AddressTable::to_ipv6` refuses this address.
 pub fn header_to_ipv6(
     header: &Ipv4HeaderSlice<'_>,
     prefixes: &Prefixes,

@@ -28,7 +28,7 @@ const IPV4_LEN: u16 = 20;
 /// | time to live | hop limit, lowered by 1, since a translator is a router |
 /// | protocol | next header, but ICMP for ICMPv6 |
 /// | checksum | over this header |
-/// | source, destination | the IPv4 addresses that the IPv6 addresses contain, by `Prefix64::to_ipv4` |
+/// | source, destination | the IPv4 addresses that the IPv6 addresses contain, by `AddressTable::to_ipv4` |
 ///
 /// More fragments and the fragment offset are 0, and there are no options. A packet with a total length of at most 1260 bytes may be
 /// fragmented on its way. So two of these packets with the same addresses and protocol must not have the same identification at the same
@@ -40,7 +40,7 @@ const IPV4_LEN: u16 = 20;
 /// - `ExtensionHeader` if the next header is an extension header: hop-by-hop options, routing, fragment or destination options.
 /// - `PayloadLength` if the payload length is above 65,515.
 /// - `TimeExceeded` if the hop limit is 0 or 1.
-/// - `Source` or `Destination` if `Prefix64::to_ipv4` refuses this address.
+/// - `Source` or `Destination` if `AddressTable::to_ipv4` refuses this address.
 /// - `IllegalSource` if the first byte of the IPv4 source is 0, 127, or above 223, and `IllegalDestination` if this is true for the IPv4
 ///   destination.
 pub fn header_to_ipv4(
