@@ -5,8 +5,8 @@ use crate::expect::{
 };
 use etherparse_transport::{Ipv4HeaderSlice, Ipv6Header, UdpHeader};
 use ip_translation::{
-    AddressError, AddressMapping, AddressMappingError, PacketTranslationError,
-    Prefix64, Prefix64Error, Prefixes, TranslationError, header_to_ipv6, icmpv4_error, icmpv4_mtu,
+    AddressError, AddressMapping, AddressMappingError, PacketTranslationError, Prefix64,
+    Prefix64Error, Prefixes, TranslationError, header_to_ipv6, icmpv4_error, icmpv4_mtu,
     icmpv4_pointer, icmpv6_error, icmpv6_mtu, icmpv6_pointer, ipv4_to_ipv6, ipv6_to_ipv4,
     pseudo_header_change,
 };
@@ -167,7 +167,7 @@ fn errors(rt: HostRuntime) {
 
 // ---- explicit mappings
 
-/// The mappings of RFC 7757, section 3.2, in another order, after a mapping with a shorter prefix.
+/// A mapping with a shorter prefix, and then the example table of RFC 7757, section 3.
 #[rattlefmt::skip]
 static MAPPINGS: [([u8; 4], u8, [u8; 16], u8); 7] = [
     ([192, 0, 2, 0], 24, [0x20, 0x01, 0x0D, 0xB8, 0xFF, 0xFF, 0, 0, 0, 0, 0, 0, 0, 0, 0, 0], 120),
@@ -213,8 +213,7 @@ fn mappings(rt: &impl Abort) -> [AddressMapping; 7] {
 #[test]
 fn addresses_follow_the_longest_prefix(rt: HostRuntime) {
     let mappings = mappings(&rt);
-    let prefixes =
-        Prefixes::with_mappings(Prefix64::WELL_KNOWN, Prefix64::WELL_KNOWN, &mappings);
+    let prefixes = Prefixes::with_mappings(Prefix64::WELL_KNOWN, Prefix64::WELL_KNOWN, &mappings);
     let table = prefixes.source;
     for (ipv4, ipv6) in &MAPPED {
         expect_at(&rt, ipv4, &table.to_ipv6(*ipv4), &Ok(*ipv6));
@@ -236,11 +235,10 @@ fn addresses_follow_the_longest_prefix(rt: HostRuntime) {
 
 #[test]
 fn headers_follow_the_mappings(rt: HostRuntime) {
-    let address = [0x20, 0x01, 0x0D, 0xB8, 0, 0, 0, 0, 0, 0, 0, 0, 0, 0, 0, 0x21];
-    let mapping = expect_ok(
-        &rt,
-        AddressMapping::new([192, 0, 2, 33], 32, address, 128),
-    );
+    let address = [
+        0x20, 0x01, 0x0D, 0xB8, 0, 0, 0, 0, 0, 0, 0, 0, 0, 0, 0, 0x21,
+    ];
+    let mapping = expect_ok(&rt, AddressMapping::new([192, 0, 2, 33], 32, address, 128));
     let mappings = [mapping];
     let prefixes = Prefixes::with_mappings(
         two_prefixes().source.prefix,
@@ -610,7 +608,10 @@ static EXTENDED: [u8; 91] = [
 #[test]
 fn extension_headers_are_skipped(rt: HostRuntime) {
     let mut buffer = [0xEE; 80];
-    let len = expect_ok(&rt, ipv6_to_ipv4(&EXTENDED, &two_prefixes(), 0xBEEF, &mut buffer));
+    let len = expect_ok(
+        &rt,
+        ipv6_to_ipv4(&EXTENDED, &two_prefixes(), 0xBEEF, &mut buffer),
+    );
     expect_bytes(&rt, bytes_to(&rt, &buffer, len), PACKETS_BACK[0].1);
     expect_equal(&rt, &buffer[79], &0xEE);
 }
@@ -886,7 +887,10 @@ fn fragments_are_translated(rt: HostRuntime) {
 fn fragments_are_translated_back(rt: HostRuntime) {
     for (packet, expected) in &FRAGMENTS_BACK {
         let mut buffer = [0xEE; 80];
-        let len = expect_ok(&rt, ipv6_to_ipv4(packet, &two_prefixes(), 0xBEEF, &mut buffer));
+        let len = expect_ok(
+            &rt,
+            ipv6_to_ipv4(packet, &two_prefixes(), 0xBEEF, &mut buffer),
+        );
         expect_bytes(&rt, bytes_to(&rt, &buffer, len), expected);
         expect_equal(&rt, &buffer[79], &0xEE);
     }
@@ -1185,7 +1189,10 @@ fn icmp_errors_are_translated(rt: HostRuntime) {
 fn icmp_errors_are_translated_back(rt: HostRuntime) {
     for (packet, expected) in &ERROR_PACKETS_BACK {
         let mut buffer = [0xEE; 80];
-        let len = expect_ok(&rt, ipv6_to_ipv4(packet, &two_prefixes(), 0xBEEF, &mut buffer));
+        let len = expect_ok(
+            &rt,
+            ipv6_to_ipv4(packet, &two_prefixes(), 0xBEEF, &mut buffer),
+        );
         expect_bytes(&rt, bytes_to(&rt, &buffer, len), expected);
         expect_equal(&rt, &buffer[79], &0xEE);
     }
@@ -1243,7 +1250,10 @@ fn extensions_are_kept(rt: HostRuntime) {
     let over_ipv6 = joined(&rt, &[&WITH_EXTENSION_IPV6, &[0; 77], &EXTENSION]);
     let back = joined(&rt, &[&WITH_EXTENSION_BACK, &[0; 97], &EXTENSION]);
     let mut buffer = [0xEE; 200];
-    let len = expect_ok(&rt, ipv4_to_ipv6(packet.as_slice(), &two_prefixes(), &mut buffer));
+    let len = expect_ok(
+        &rt,
+        ipv4_to_ipv6(packet.as_slice(), &two_prefixes(), &mut buffer),
+    );
     expect_bytes(&rt, bytes_to(&rt, &buffer, len), over_ipv6.as_slice());
     let outcome = ipv6_to_ipv4(over_ipv6.as_slice(), &two_prefixes(), 0xBEEF, &mut buffer);
     let len = expect_ok(&rt, outcome);

@@ -1,4 +1,4 @@
--- Worked examples of explicit mappings: the table of RFC 7757, section 3.2, and one more mapping.
+-- Worked examples of explicit mappings: the example table of RFC 7757, section 3, and one more mapping.
 use Rattle.std.proofs.Common.{◌≡◌, [], ◌∷◌, Some, None, refl, arith}
 use Rattle.ip_translation.specs.AddressMappings.{mapping_refusal}
 use Rattle.ip_translation.specs.AddressTables.{embedded, extracted, to_ipv4_refusal, to_ipv6_refusal}

@@ -22,7 +22,7 @@ abbrev pub ipv6_suffix_len : ℕ → ℕ
 ipv6_suffix_len len = 128 - len
 
 -- Why two addresses and two lengths do not define a mapping: a length is too great, the IPv6 suffix is shorter than the IPv4 suffix (RFC
--- 7757, section 3.1), or a bit after a prefix is not 0.
+-- 7757, section 3), or a bit after a prefix is not 0.
 abbrev pub mapping_refusal : List ℕ → ℕ → List ℕ → ℕ → Option AddressMappingError
 mapping_refusal ipv4 ipv4_len ipv6 ipv6_len = first_of (
     refused_if (nat_lt 32 ipv4_len) (Ipv4Len ipv4_len)

@@ -2,7 +2,7 @@ ghost use Rattle.std.specs.Prelude.{◌≡◌, ◌≤◌, ◌<◌, ◌-◌, ◌*
 
 use crate::AddressMappingError;
 
-/// An explicit address mapping: an IPv4 prefix and an IPv6 prefix (RFC 7757, section 3.1).
+/// An explicit address mapping: an IPv4 prefix and an IPv6 prefix (RFC 7757, section 3).
 ///
 /// An address that begins with one of the prefixes is translated to the address that begins with the other prefix and has the same suffix.
 #[derive(Clone, Copy, Debug, PartialEq, Eq, Hash)]
@@ -34,7 +34,7 @@ impl AddressMapping {
     ///
     /// The call checks these cases, in this order:
     /// - `Ipv4Len` if the length of the IPv4 prefix is above 32, and `Ipv6Len` if the length of the IPv6 prefix is above 128.
-    /// - `Suffix` if fewer bits follow the IPv6 prefix than the IPv4 prefix (RFC 7757, section 3.1).
+    /// - `Suffix` if fewer bits follow the IPv6 prefix than the IPv4 prefix (RFC 7757, section 3).
     /// - `Ipv4Bits` or `Ipv6Bits` if a bit after this prefix is not 0.
     pub fn new(
         ipv4: [u8; 4],

@@ -6,7 +6,7 @@ use net_base::err::ErrorText;
 use net_base::err::TextPart::{Number, Words};
 use thiserror::Error;
 
-/// Why two prefixes do not define an explicit address mapping (RFC 7757, section 3.1).
+/// Why two prefixes do not define an explicit address mapping (RFC 7757, section 3).
 #[derive(Clone, Debug, PartialEq, Eq, Hash, Drop, Error)]
 #[error("{}", self.text())]
 pub enum AddressMappingError {
