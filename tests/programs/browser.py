@@ -14,7 +14,7 @@ import urllib.request
 SECONDS = 60
 SIZE = (1280, 1900)
 ELEMENT = "element-6066-11e4-a52e-4f735466cecf"
-END, ARROW_RIGHT = "\uE010", "\uE014"
+END, ARROW_RIGHT, ENTER, CONTROL = "\uE010", "\uE014", "\uE007", "\uE009"
 
 
 def free_port():
