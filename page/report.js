@@ -538,6 +538,28 @@ async function copyCommand() {
 
 find("copy-command").addEventListener("click", copyCommand);
 
+// ---- the lines as a file
+
+let isSaving = false;
+
+async function saveLines() {
+    if (isSaving) return;
+    isSaving = true;
+    find("command-text").textContent = "Saving the lines.";
+    try {
+        const file = await ask("linesFile", { options: lineOptions() });
+        const link = element("a", { href: URL.createObjectURL(file), download: `${state.capture.name}.txt` });
+        link.click();
+        setTimeout(() => URL.revokeObjectURL(link.href), 60_000);
+        find("command-text").textContent = `The lines were passed to the browser to save: ${sizeText(file.size)}.`;
+    } catch (reason) {
+        find("command-text").textContent = `The lines can't be saved: ${reason.message}`;
+    }
+    isSaving = false;
+}
+
+find("save-lines").addEventListener("click", saveLines);
+
 // ---- opening
 
 find("file").addEventListener("change", () => {

@@ -646,9 +646,24 @@ async function lines({ from, to, options }) {
     return found;
 }
 
+/** A file with the lines of all chosen packets. */
+async function linesFile({ options }) {
+    const saved = capture;
+    const parts = [];
+    let part = "";
+    await visitRecords(selection, (row, record) => {
+        if (capture !== saved) throw new Error("another capture was opened.");
+        part += lineOf(row, record, options);
+        if (part.length < CHUNK_LEN) return;
+        parts.push(new Blob([part]));
+        part = "";
+    });
+    return new Blob([...parts, part], { type: "text/plain" });
+}
+
 // ---- messages
 
-const answers = { load: ({ module }) => load(module), open, show, lines, count, address, stop: () => { isStopped = true; } };
+const answers = { load: ({ module }) => load(module), open, show, lines, linesFile, count, address, stop: () => { isStopped = true; } };
 
 async function answer(data) {
     try {
@@ -658,9 +673,11 @@ async function answer(data) {
     }
 }
 
-/** Questions are answered one after the other, since they change the capture or what is chosen of it. Only `stop` does not wait. */
+/** What needs no turn: `stop`, and a file of lines, which can take long. */
+const AT_ONCE = ["stop", "linesFile"];
+/** Other questions are answered one after the other, since they change the capture or what is chosen of it. */
 let last = Promise.resolve();
 onmessage = ({ data }) => {
-    if (data.kind === "stop") answer(data);
+    if (AT_ONCE.includes(data.kind)) answer(data);
     else last = last.then(() => answer(data));
 };

@@ -250,6 +250,9 @@ def check_command_forms(page):
     if stated is not None:
         page.expect("what the command for a conversation writes", stated, page.lines())
 
+    page.browser.click("#save-lines")
+    page.expect("the saved lines", page.browser.downloaded("capture.pcap.txt").decode(), page.lines())
+
     page.browser.run("Object.defineProperty((window.wrappedJSObject ?? window).navigator, 'clipboard', { value: undefined });")
     filtered(page, {"port": "80"})
     page.wait("state.filter.port === 80")
