@@ -5,22 +5,24 @@
 
 PAGE is the file capture_report.html. Screenshots go to FOLDER. A browser that is missing is left out, which a line says. What the page
 shows has to be what the program writes: the stored run of crates/capture_report, and a run of the program on each further capture if `rt ci`
-left the program. The last line is 'N passed, N failed'.
+left the program. The page is opened as a file, and from a plain web server. The last line is 'N passed, N failed'.
 """
 import base64
+import contextlib
 import gzip
 import os
 import pathlib
 import random
 import re
 import shutil
+import socket
 import struct
 import subprocess
 import sys
 import tempfile
 
 sys.path.insert(0, str(pathlib.Path(__file__).resolve().parent.parent))
-from programs.browser import ARROW_RIGHT, CONTROL, END, ENTER, Chromium, Firefox, until
+from programs.browser import ARROW_RIGHT, CONTROL, END, ENTER, Chromium, Firefox, free_port, until
 from programs.build import ETHERNET, IPV4, START, block, capture_parts, frame, ipv4, section_header, udp
 from programs.kinds import every_kind
 from programs.program import TOP, Program, Tally
@@ -43,6 +45,9 @@ FILL = """for (const field of find("filter").querySelectorAll("input, select")) 
     if (field.tagName === "SELECT") field.value = text === undefined ? "" : [...field.options].find((option) => option.textContent === text).value;
     else field.value = text ?? "";
 }"""
+# What a page with this policy may not do.
+FETCH = """const done = arguments[0];
+(window.wrappedJSObject ?? window).fetch("other").then(() => done("answered"), () => done("refused"));"""
 # The fields of a filter, the options of its command, the numbers of its packets in the stored capture, and how many others the command has.
 FILTERS = (
     ({}, [], range(1, 71), 0),
@@ -263,6 +268,37 @@ def check_command_forms(page):
     page.check_faults("after commands")
 
 
+@contextlib.contextmanager
+def served(folder):
+    """A plain web server for a folder: its address, and a call that returns its log."""
+    port = free_port()
+    words = [sys.executable, "-m", "http.server", str(port), "--bind", "127.0.0.1", "--directory", str(folder)]
+    with tempfile.TemporaryFile() as log, subprocess.Popen(words, stdout=subprocess.DEVNULL, stderr=log) as server:
+        def is_ready():
+            with contextlib.suppress(OSError), socket.create_connection(("127.0.0.1", port), timeout=5):
+                return True
+
+        def text():
+            log.seek(0)
+            return log.read().decode()
+        try:
+            until(is_ready)
+            yield f"http://127.0.0.1:{port}", text
+        finally:
+            server.kill()
+
+
+def check_server(page, path):
+    """From a web server the page shows the same, and requests nothing else."""
+    with tempfile.TemporaryDirectory() as folder:
+        shutil.copy(path, pathlib.Path(folder, path.name))
+        with served(folder) as (address, log):
+            page.start(f"{address}/{path.name}")
+            check_stored(page, None)
+            page.expect("a request is refused", page.browser.run_async(FETCH), "refused")
+            page.expect("requests to the server", re.findall(r'"(\S+ \S+) HTTP/', log()), [f"GET /{path.name}"])
+
+
 def show_all(page, button="reset"):
     page.browser.click(f"#{button}")
     page.wait("state.shown.total === state.shown.all")
@@ -323,6 +359,7 @@ def check_browser(kind, path, folder, tally):
         check_view(page, folder)
         check_commands(page, folder)
         check_command_forms(page)
+        check_server(page, path)
 
 
 def main():
