@@ -256,7 +256,7 @@ def errors_over_ipv4(ends):
     yield "an error of a router", error(ends, 3, 1, quoted, source=ROUTER)
     yield from quotes(ends, 3, 3)
     for name, place in (("first", MORE), ("later", 2)):
-        yield f"an error about a {name} fragment", error(ends, 3, 3, packet(back, UDP, udp(back), place=place))
+        yield f"an error about a {name} fragment", error(ends, 3, 3, packet(back, UDP, udp(back, bytes(8)), place=place))
     yield "an error about a packet with options", error(ends, 3, 3, packet(back, UDP, udp(back), options=bytes([1, 1, 1, 0])))
     yield "an error about a packet with a wrong header checksum", error(ends, 3, 3, packet(back, UDP, udp(back), checksum=1))
     yield "an error with an extension", error(ends, 3, 3, quoted.ljust(128, b"\0") + b"\x20\0\0\0\0\x08\1\1abcd", 32 << 16)
@@ -350,7 +350,7 @@ def errors_over_ipv6(ends, router):
     yield "an error of a router", error(ends, 1, 0, quoted, source=router)
     yield from quotes(ends, 1, 4)
     for part, offset, more in (("first", 0, 1), ("later", 16, 0), ("atomic", 0, 0)):
-        about = packet(back, FRAGMENT, udp(back), between=fragment_header(UDP, offset, more))
+        about = packet(back, FRAGMENT, udp(back, bytes(8)), between=fragment_header(UDP, offset, more))
         yield f"an error about an {part} fragment" if part == "atomic" else f"an error about a {part} fragment", error(ends, 1, 4, about)
     yield "an error about hop-by-hop options", error(ends, 1, 4, packet(back, HOP_BY_HOP, udp(back), between=option_header(UDP)))
     yield "an error with an extension", error(ends, 1, 4, quoted.ljust(128, b"\0") + b"\x20\0\0\0\0\x08\1\1abcd", 16 << 24)
@@ -448,12 +448,12 @@ def with_dont_fragment(header):
 
 
 def as_rfc_6145(data, answer):
-    """tayga sets "don't fragment" and the identification 0 in every IPv4 packet that was no fragment, and in a quoted packet (RFC 6145,
-    section 5.1). By RFC 7915, section 5.1, packets of at most 1,260 bytes may be fragmented, and have an identification."""
+    """tayga sets "don't fragment" and the identification 0 in every IPv4 packet, and quoted packet, that was no fragment (RFC 6145, section
+    5.1). By RFC 7915, section 5.1, packets of at most 1,260 bytes may be fragmented, and have an identification."""
     if data[0] >> 4 == 4 or data[6] == FRAGMENT:
         return answer
     whole = with_dont_fragment(answer[:20]) + answer[20:]
-    is_error = answer[9] == ICMP and answer[20] in (3, 11, 12)
+    is_error = answer[9] == ICMP and answer[20] in (3, 11, 12) and data[54] != FRAGMENT
     return whole[:28] + with_dont_fragment(whole[28:48]) + whole[48:] if is_error else whole
 
 
@@ -504,6 +504,15 @@ def without_extension(answer):
     return [header + with_message_checksum(answer, answer[at:at + 4] + bytes(4) + quoted)]
 
 
+def without_fragment_header(answer):
+    """An ICMPv6 error about a fragment, without the fragment header."""
+    quoted = answer[48:96]
+    length, = struct.unpack(">H", quoted[4:6])
+    quoted = quoted[:4] + struct.pack(">HB", length - 8, quoted[40]) + quoted[7:40] + answer[96:]
+    header = answer[:4] + struct.pack(">H", 8 + len(quoted)) + answer[6:40]
+    return [header + with_message_checksum(answer, answer[40:48] + quoted)]
+
+
 class Difference(NamedTuple):
     """Packets of a version of IP that both treat differently. `tayga` is what tayga does: it drops a packet that the library translates, it
     translates a packet that the library refuses, or it writes other packets, which a function makes from the packet of the library."""
@@ -520,8 +529,7 @@ DIFFERENCES = [
     Difference(6, "UDP, (the new checksum is|checksum) FFFF", without_udp_checksum, "RFC 768: 0 is written as FFFF"),
     Difference(4, "UDP without a checksum(, length field 9)?", DROPS, "section 4.5: a translator may compute the checksum"),
     Difference(4, "1281 bytes over IPv6", fragments_of_1280, "section 4: the program fragments the packet, since the call returns one"),
-    Difference(4, "options: (loose|strict) route", TRANSLATES, "section 4.1: a packet with a source route is discarded"),
-    Difference(4, "options: loose route, at its end", TRANSLATES, "section 4.1 ignores this route; the library refuses every source route"),
+    Difference(4, "options: (loose|strict) route", TRANSLATES, "section 4.1: a packet with an unexpired source route is discarded"),
     Difference(4, "(source|destination) 0[.].*", TRANSLATES, "RFC 1122, section 3.2.1.3: no host has these addresses"),
     Difference(6, "(source|destination) 0[.].*", TRANSLATES, "RFC 1122, section 3.2.1.3: no host has these addresses"),
     Difference(4, "(source|destination) 169[.].*", DROPS, "RFC 3927, section 7: no router forwards it, so the program has to drop it"),
@@ -544,9 +552,7 @@ DIFFERENCES = [
     Difference(6, "an error about an echo reply, .*", DROPS, "RFC 4443, section 2.4: only an error must not be quoted"),
     Difference(4, "an error about UDP without a checksum, .*", DROPS, "section 4.3: the quoted packet is translated"),
     Difference(6, "an error about UDP without a checksum, .*", DROPS, "section 5.3: the quoted packet is translated"),
-    Difference(4, "an error about a later fragment", TRANSLATES, "tayga loses the offset; the library refuses a quoted fragment"),
-    Difference(6, "an error about (a later|an atomic) fragment", TRANSLATES, "section 5.3: the library refuses a quoted extension header"),
-    Difference(6, "an error about hop-by-hop options", TRANSLATES, "section 5.3: the library refuses a quoted extension header"),
+    Difference(4, "an error about a (first|later) fragment", without_fragment_header, "section 4.3: a quoted fragment keeps its offset"),
     Difference(6, "an error about 1400 bytes, 1408 bytes", of_576_bytes, "RFC 1812, section 4.3.2.3; RFC 7915 states no longest error"),
     Difference(4, "an error with an extension", without_extension, "section 4.2: the extension is kept; tayga leaves it out"),
     Difference(6, "an error with an extension", without_extension, "section 5.2: the extension is kept; tayga leaves it out"),

@@ -340,14 +340,8 @@ fn expect_right(rt: &impl Abort, packet: &[u8]) {
 #[test]
 fn the_example_of_the_readme_between_versions(rt: HostRuntime) {
     let (source, destination) = (prefix_with(&rt, 1), prefix_with(&rt, 2));
-    let out = Prefixes {
-        source,
-        destination,
-    };
-    let back = Prefixes {
-        source: destination,
-        destination: source,
-    };
+    let out = Prefixes::new(source, destination);
+    let back = Prefixes::new(destination, source);
     let mut sent = [0; 51];
     expect_equal(
         &rt,

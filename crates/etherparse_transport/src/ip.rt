@@ -37,10 +37,10 @@ pub use ip_part::{
     transport_in_ip_lax,
 };
 pub use ip_translation::{
-    AddressError, PacketTranslationError, Prefix64, Prefix64Error, Prefixes, TranslationError,
-    header_to_ipv4, header_to_ipv6, icmpv4_error, icmpv4_mtu, icmpv4_pointer, icmpv6_error,
-    icmpv6_mtu, icmpv6_pointer, ipv4_to_ipv6, ipv6_to_ipv4, pseudo_header_change,
-    pseudo_header_change_to_ipv4,
+    AddressError, AddressMapping, AddressMappingError, AddressTable, PacketTranslationError,
+    Prefix64, Prefix64Error, Prefixes, TranslationError, header_to_ipv4, header_to_ipv6,
+    icmpv4_error, icmpv4_mtu, icmpv4_pointer, icmpv6_error, icmpv6_mtu, icmpv6_pointer,
+    ipv4_to_ipv6, ipv6_to_ipv4, pseudo_header_change, pseudo_header_change_to_ipv4,
 };
 pub use ipv4_translation::Ipv4Translation;
 pub use ipv6_translation::Ipv6Translation;

@@ -1,5 +1,5 @@
 -- Packets between IPv4 and IPv6 (RFC 7915), in the interface to C: prefixes, errors, and what the calls return and write.
-use Rattle.std.specs.Prelude.{◌≡◌, ℕ, ◌+◌, ◌*◌, List, ◌++◌, drop, Option, unwrap_or}
+use Rattle.std.specs.Prelude.{◌≡◌, ℕ, ◌+◌, ◌*◌, List, [], ◌++◌, drop, Option, unwrap_or}
 use Rattle.std.specs.Option.{option_map}
 use Rattle.ip_part.specs.Ip.{ipv4_header}
 use Rattle.ip_part.specs.declared.ip_error.IpError.TheVariants as ip
@@ -88,10 +88,12 @@ pub record IsPrefix (passed : EtherparsePrefix64) (prefix : Prefix64) : Type 0 w
   pub address : prefixes.prefix_address prefix ≡ passed.address
   pub len : prefixes.prefix_len prefix ≡ passed.len
 
--- these are the two prefixes
+-- these are the two prefixes, without explicit mappings
 pub record ArePrefixes (source destination : EtherparsePrefix64) (found : Prefixes) : Type 0 where
-  pub source_is : IsPrefix source found.source
-  pub destination_is : IsPrefix destination found.destination
+  pub source_is : IsPrefix source found.source.prefix
+  pub no_source_mappings : found.source.mappings.now ≡ []
+  pub destination_is : IsPrefix destination found.destination.prefix
+  pub no_destination_mappings : found.destination.mappings.now ≡ []
 
 -- the refusal of a prefix
 abbrev pub prefix_refusal : EtherparsePrefix64 → Option EtherparseError

@@ -61,17 +61,16 @@ fn of_prefix(error: &Prefix64Error) -> EtherparseError
 fn prefixes_of(
     source: &EtherparsePrefix64,
     destination: &EtherparsePrefix64,
-) -> Result<Prefixes, EtherparseError>
+) -> Result<Prefixes<'static>, EtherparseError>
     ensures refused { RefusesExactly result (prefixes_refusal source.now destination.now) }
-    ensures source { IfOk result (λ found. IsPrefix source.now found.source) }
-    ensures destination { IfOk result (λ found. IsPrefix destination.now found.destination) }
+    ensures source { IfOk result (λ found. IsPrefix source.now found.source.prefix) }
+    ensures source_mappings { IfOk result (λ found. found.source.mappings.now ≡ []) }
+    ensures destination { IfOk result (λ found. IsPrefix destination.now found.destination.prefix) }
+    ensures destination_mappings { IfOk result (λ found. found.destination.mappings.now ≡ []) }
 {
     let source = prefix_of(source)?;
     let destination = prefix_of(destination)?;
-    Ok(Prefixes {
-        source,
-        destination,
-    })
+    Ok(Prefixes::new(source, destination))
 }
 
 /// Translates an IPv4 packet to IPv6 (RFC 7915, section 4). Writes the IPv6 packet to the front of `buffer`, and its length to `written`.

@@ -53,7 +53,7 @@ if_small false first second small small_too = small_too
 complement_small : (n : ℕ) → complement n < 65536
 complement_small n = omega arith
 
-checksum_small : (bytes : List ℕ) (place : ℕ) → IsBytes bytes → be_number bytes place 2 < 65536
+pub checksum_small : (bytes : List ℕ) (place : ℕ) → IsBytes bytes → be_number bytes place 2 < 65536
 checksum_small bytes place fits = omega (arith, fits (place + 0), fits (place + 1))
 
 pub udp_same : (packet : List ℕ) (removed added removed_too added_too : ℕ) → IsBytes packet → 8 ≤ length packet

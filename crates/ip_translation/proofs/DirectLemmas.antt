@@ -9,7 +9,7 @@ use Rattle.ip_translation.specs.declared.fragment_fields.FragmentFields.{Fragmen
 use Rattle.ip_translation.specs.declared.skipped_headers.SkippedHeaders.{SkippedHeaders}
 
 -- the flags do not depend on the identification of a packet without a fragment header
-flags_of : (fragment : Option FragmentFields) (identification : ℕ)
+pub flags_of : (fragment : Option FragmentFields) (identification : ℕ)
     → (unwrap_or fragment (whole identification)).flags_and_offset ≡ flags_by fragment
 flags_of None identification = refl
 flags_of (Some fields) identification = refl

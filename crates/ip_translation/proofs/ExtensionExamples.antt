@@ -5,14 +5,16 @@ use Rattle.word_sum.specs.Checksum.{folded}
 use Rattle.ip_translation.specs.FragmentsToIpv6 as ipv6
 use Rattle.ip_translation.specs.PacketsToIpv4 as ipv4
 use Rattle.ip_translation.specs.SkippedHeaders.{skipped_from}
+use Rattle.ip_translation.specs.AddressTables.{embedded, extracted, to_ipv4_refusal, to_ipv6_refusal}
 use Rattle.ip_translation.specs.declared.prefix64.Prefix64.TheVariants.{Bits32, Bits96}
 use Rattle.ip_translation.specs.declared.prefixes.Prefixes.{Prefixes}
+use Rattle.ip_translation.proofs.AddressTableLemmas.{without_mappings}
 
 -- 2001:db8::/32 for the source, and 2001:db8:122:344::/96 for the destination
 prefixes : Prefixes
 prefixes = record {
-  source = Bits32 (0x20 ∷ 0x01 ∷ 0x0d ∷ 0xb8 ∷ []);
-  destination = Bits96 (0x20 ∷ 0x01 ∷ 0x0d ∷ 0xb8 ∷ 0x01 ∷ 0x22 ∷ 0x03 ∷ 0x44 ∷ 0 ∷ 0 ∷ 0 ∷ []);
+  source = without_mappings (Bits32 (0x20 ∷ 0x01 ∷ 0x0d ∷ 0xb8 ∷ []));
+  destination = without_mappings (Bits96 (0x20 ∷ 0x01 ∷ 0x0d ∷ 0xb8 ∷ 0x01 ∷ 0x22 ∷ 0x03 ∷ 0x44 ∷ 0 ∷ 0 ∷ 0 ∷ []));
 }
 
 -- an MPLS label (RFC 4950, section 3)
@@ -50,17 +52,17 @@ exceeded_back = (
     ++ (replicate 97 0 ++ extension)
 
 exceeded_accepted : ipv6.packet_refusal prefixes exceeded 188 ≡ None
-unfolding folded options_within prefixes extension exceeded
+unfolding embedded extracted to_ipv4_refusal to_ipv6_refusal folded options_within prefixes extension exceeded
 exceeded_accepted = refl
 
 exceeded_translated : ipv6.translated_packet prefixes exceeded ≡ exceeded_ipv6
-unfolding folded prefixes extension exceeded exceeded_ipv6
+unfolding embedded extracted to_ipv4_refusal to_ipv6_refusal folded prefixes extension exceeded exceeded_ipv6
 exceeded_translated = refl
 
 exceeded_accepted_back : ipv4.packet_refusal prefixes exceeded_ipv6 168 ≡ None
-unfolding skipped_from folded prefixes extension exceeded_ipv6
+unfolding embedded extracted to_ipv4_refusal to_ipv6_refusal skipped_from folded prefixes extension exceeded_ipv6
 exceeded_accepted_back = refl
 
 exceeded_translated_back : ipv4.translated_packet prefixes 0xbeef exceeded_ipv6 ≡ exceeded_back
-unfolding skipped_from folded prefixes extension exceeded_ipv6 exceeded_back
+unfolding embedded extracted to_ipv4_refusal to_ipv6_refusal skipped_from folded prefixes extension exceeded_ipv6 exceeded_back
 exceeded_translated_back = refl

@@ -22,3 +22,8 @@ pub last_of_two : {E : Type 0} (first last : Option E) → first ≡ None → fi
 last_of_two None None a = refl
 last_of_two None (Some error) a = refl
 last_of_two (Some error) last a = absurd (grind arith)
+
+-- the first rule refuses
+pub first_of_two : {E : Type 0} (first last : Option E) (error : E) → first ≡ Some error → first_of (first ∷ (last ∷ [])) ≡ Some error
+first_of_two (Some found) last error a = a
+first_of_two None last error a = absurd (grind arith)

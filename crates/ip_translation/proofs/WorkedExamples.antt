@@ -2,6 +2,7 @@
 use Rattle.std.proofs.Common.{◌≡◌, true, false, List, ℕ, [], ◌∷◌, Some, None, refl}
 use Rattle.ip_part.specs.Options.{options_within}
 use Rattle.word_sum.specs.Checksum.{folded}
+use Rattle.ip_translation.specs.AddressTables as tables
 use Rattle.ip_translation.specs.Prefixes.{embedded, extracted, is_embedded, is_not_global, prefix_address, prefix_refusal, to_ipv4_refusal, to_ipv6_refusal, well_known_octets, with_zero_suffix}
 use Rattle.ip_translation.specs.declared.address_error.AddressError.TheVariants.{NotEmbedded, NotGlobal}
 use Rattle.ip_translation.specs.declared.prefix64.Prefix64.{Prefix64}
@@ -10,6 +11,7 @@ use Rattle.ip_translation.specs.HeadersToIpv6.{addresses_refusal, header_refusal
 use Rattle.ip_translation.specs.declared.prefix64_error.Prefix64Error.TheVariants.{Len, ReservedOctet, SuffixBits}
 use Rattle.ip_translation.specs.declared.prefixes.Prefixes.{Prefixes}
 use Rattle.ip_translation.specs.declared.translation_error.TranslationError.TheVariants.{Destination, HeaderChecksum, IllegalDestination}
+use Rattle.ip_translation.proofs.AddressTableLemmas.{without_mappings}
 
 -- ---- the rows of RFC 6052, section 2.4, for 192.0.2.33
 
@@ -130,26 +132,26 @@ header = 0x45 ∷ 0xb9 ∷ 0 ∷ 31 ∷ 0x12 ∷ 0x34 ∷ 0x40 ∷ 0 ∷ 64 ∷ 
 
 -- the prefix 2001:db8:122::/48 for the source, and the well-known prefix for the destination
 prefixes : Prefixes
-prefixes = record { source = prefix_48; destination = Bits96 well_known_octets }
+prefixes = record { source = without_mappings prefix_48; destination = without_mappings (Bits96 well_known_octets) }
 
 -- the prefixes 2001:db8:122::/48 for both addresses
 other_prefixes : Prefixes
-other_prefixes = record { source = prefix_48; destination = prefix_48 }
+other_prefixes = record { source = without_mappings prefix_48; destination = without_mappings prefix_48 }
 
 -- 198.51.100.7 is an address of TEST-NET-2 (RFC 5737)
 header_to_well_known : header_refusal prefixes header ≡ Some (Destination NotGlobal)
-unfolding folded header options_within prefixes prefix_48
+unfolding tables.to_ipv6_refusal folded header options_within prefixes prefix_48
 header_to_well_known = refl
 
 header_accepted : header_refusal other_prefixes header ≡ None
-unfolding folded header options_within other_prefixes prefix_48
+unfolding tables.to_ipv6_refusal folded header options_within other_prefixes prefix_48
 header_accepted = refl
 
 header_translated : translated_header other_prefixes header
     ≡ 0x6b ∷ 0x90 ∷ 0 ∷ 0 ∷ 0 ∷ 11 ∷ 17 ∷ 63
     ∷ 0x20 ∷ 0x01 ∷ 0x0d ∷ 0xb8 ∷ 0x01 ∷ 0x22 ∷ 192 ∷ 0 ∷ 0 ∷ 2 ∷ 33 ∷ 0 ∷ 0 ∷ 0 ∷ 0 ∷ 0
     ∷ 0x20 ∷ 0x01 ∷ 0x0d ∷ 0xb8 ∷ 0x01 ∷ 0x22 ∷ 198 ∷ 51 ∷ 0 ∷ 100 ∷ 7 ∷ 0 ∷ 0 ∷ 0 ∷ 0 ∷ 0 ∷ []
-unfolding header other_prefixes prefix_48
+unfolding tables.embedded header other_prefixes prefix_48
 header_translated = refl
 
 -- a checksum that is 1 less than the right checksum

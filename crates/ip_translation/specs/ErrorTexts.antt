@@ -4,6 +4,8 @@ use Rattle.std.specs.Fmt.{decimal}
 use Rattle.std.specs.List.{concat}
 use Rattle.ip_translation.specs.declared.address_error.AddressError.{AddressError}
 use Rattle.ip_translation.specs.declared.address_error.AddressError.TheVariants.{NotEmbedded, NotGlobal}
+use Rattle.ip_translation.specs.declared.address_mapping_error.AddressMappingError.{AddressMappingError}
+use Rattle.ip_translation.specs.declared.address_mapping_error.AddressMappingError.TheVariants.{Ipv4Bits, Ipv4Len, Ipv6Bits, Ipv6Len, Suffix}
 use Rattle.ip_translation.specs.declared.packet_translation_error.PacketTranslationError.{PacketTranslationError}
 use Rattle.ip_translation.specs.declared.packet_translation_error.PacketTranslationError.TheVariants.{CutOff, ExtensionHeaderCutOff, FragmentChecksum, Header, IcmpExtension, IcmpFragment, IcmpMessage, IcmpPointer, NoIpv4Header, NoIpv6Header, NoQuotedHeader, NoUdpChecksum, QuotedHeader, QuotedIcmp, SegmentsLeft, Space, TransportHeader, UdpLength}
 use Rattle.ip_translation.specs.declared.prefix64_error.Prefix64Error.{Prefix64Error}
@@ -15,6 +17,16 @@ use Rattle.ip_translation.specs.declared.translation_error.TranslationError.TheV
 abbrev pub address_text : AddressError → List ℕ
 address_text NotEmbedded = codes "Address Error: the IPv6 address contains no IPv4 address."
 address_text NotGlobal = codes "Address Error: the well-known prefix allows only global IPv4 addresses."
+
+-- the text for two prefixes that do not define an explicit mapping
+abbrev pub mapping_text : AddressMappingError → List ℕ
+mapping_text (Ipv4Len len) = concat (
+    codes "Mapping Error: the length of the IPv4 prefix is " ∷ decimal len ∷ codes " bits, and at most 32 are allowed." ∷ [])
+mapping_text (Ipv6Len len) = concat (
+    codes "Mapping Error: the length of the IPv6 prefix is " ∷ decimal len ∷ codes " bits, and at most 128 are allowed." ∷ [])
+mapping_text Suffix = codes "Mapping Error: the IPv6 prefix leaves fewer bits than the IPv4 prefix."
+mapping_text Ipv4Bits = codes "Mapping Error: a bit after the IPv4 prefix is not 0."
+mapping_text Ipv6Bits = codes "Mapping Error: a bit after the IPv6 prefix is not 0."
 
 -- the text for an address and a length that do not define a prefix
 abbrev pub prefix_text : Prefix64Error → List ℕ

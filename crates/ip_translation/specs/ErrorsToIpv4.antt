@@ -1,22 +1,21 @@
 -- ICMPv6 errors as ICMP errors, with the packet that they quote (RFC 7915, sections 5.2 and 5.3).
-use Rattle.std.specs.Prelude.{◌≡◌, ◌≤◌, ℕ, ◌*◌, ◌/◌, ◌==◌, ◌+◌, ◌&&◌, ◌||◌, not, nat_lt, if◌then◌else◌, List, [], ◌∷◌, drop, is_none, length, slice_index, take, Option, None}
+use Rattle.std.specs.Prelude.{ℕ, ◌*◌, ◌/◌, ◌==◌, ◌&&◌, ◌||◌, not, if◌then◌else◌, List, [], ◌∷◌, drop, is_none, length, slice_index, take, Option, None}
 use Rattle.std.specs.Int.{to_be_bytes, w16}
-use Rattle.std.specs.Option.{option_map, unwrap_or}
+use Rattle.std.specs.Option.{unwrap_or}
 use Rattle.ip_part.specs.Ip.{ipv6_header}
 use Rattle.net_base.specs.Bytes.{be_number}
-use Rattle.net_base.specs.IpNumbers.{icmpv6_number, tcp_number, udp_number}
+use Rattle.net_base.specs.IpNumbers.{icmpv6_number}
 use Rattle.net_base.specs.Refusals.{first_of, refused_if}
-use Rattle.net_base.specs.StoredChecksum.{icmp_checksum_place, tcp_checksum_place, udp_checksum_place, with_checksum}
-use Rattle.word_sum.specs.UpdatedChecksum.{updated_checksum_of, updated_udp_checksum_of}
-use Rattle.ip_translation.specs.EchoMessages.{changed_checksum, quoted_echo_refusal, translated_echo, type_over_ipv4}
+use Rattle.net_base.specs.StoredChecksum.{icmp_checksum_place, with_checksum}
+use Rattle.ip_translation.specs.EchoMessages.{changed_checksum}
 use Rattle.ip_translation.specs.Extensions.{extended, extension_of, is_wrong_len, padded_len, without_extension}
-use Rattle.ip_translation.specs.HeadersToIpv4.{added_addresses, next_header, old_pseudo_header, payload_len, quoted_header, quoted_header_refusal, removed_addresses}
+use Rattle.ip_translation.specs.HeadersToIpv4.{old_pseudo_header}
 use Rattle.ip_translation.specs.IcmpErrors.{error_in, errors_to_ipv4, mtu_to_ipv4, pointer_in, pointers_to_ipv4}
-use Rattle.ip_translation.specs.Ipv4Packets.{header_len_refusal, tcp_checksum, udp_checksum}
 use Rattle.ip_translation.specs.Ipv6Packets.{begins_with_header}
-use Rattle.ip_translation.specs.QuotedPackets.{exchanged, joined, max_quoted_len, quote_of}
+use Rattle.ip_translation.specs.QuotedPackets.{exchanged, joined, quote_of}
+use Rattle.ip_translation.specs.QuotedToIpv4.{quoted_packet, quoted_refusal}
 use Rattle.ip_translation.specs.declared.packet_translation_error.PacketTranslationError.{PacketTranslationError}
-use Rattle.ip_translation.specs.declared.packet_translation_error.PacketTranslationError.TheVariants.{IcmpExtension, IcmpMessage, IcmpPointer, NoQuotedHeader, QuotedHeader}
+use Rattle.ip_translation.specs.declared.packet_translation_error.PacketTranslationError.TheVariants.{IcmpExtension, IcmpMessage, IcmpPointer, NoQuotedHeader}
 use Rattle.ip_translation.specs.declared.prefixes.Prefixes.{Prefixes}
 
 -- ---- type and code
@@ -71,61 +70,13 @@ quoting message = without_extension (stated_len message) message
 abbrev pub quoted_ipv6 : List ℕ → List ℕ
 quoted_ipv6 message = ipv6_header (quote_of message)
 
--- the bytes of the quoted message: the bytes after this header of the quoted packet that its payload length counts, as far as there is room
--- for them
-abbrev pub quoted_message : List ℕ → List ℕ → List ℕ
-quoted_message quoted quote = take max_quoted_len (drop 40 (take (40 + payload_len quoted) quote))
-
--- The error of a quoted message of this protocol. At least eight bytes are needed, as over IPv4. An ICMPv6 error must not be about an
--- ICMPv6
--- error (RFC 4443, section 2.4). So an ICMPv6 message must be an echo message.
-abbrev pub quoted_message_refusal : ℕ → List ℕ → Option PacketTranslationError
-quoted_message_refusal protocol message =
-    if protocol == icmpv6_number then quoted_echo_refusal type_over_ipv4 message
-    else if protocol == udp_number then header_len_refusal 8 message
-    else if protocol == tcp_number then header_len_refusal 8 message
-    else None
-
--- the quoted bytes contain the first eight bytes of a message of ICMPv6, UDP or TCP
-abbrev pub HasQuotedHeader : ℕ → List ℕ → Type 0
-HasQuotedHeader protocol message =
-    (protocol ≡ icmpv6_number → 8 ≤ length message)
-    × ((protocol ≡ udp_number → 8 ≤ length message) × (protocol ≡ tcp_number → 8 ≤ length message))
-
--- a quoted UDP packet; if it has no checksum, it stays without one
-abbrev pub quoted_udp : Prefixes → List ℕ → List ℕ → List ℕ
-quoted_udp prefixes header packet = with_checksum udp_checksum_place packet
-    (updated_udp_checksum_of (udp_checksum packet) (removed_addresses header) (added_addresses prefixes header))
-
--- a quoted TCP segment; the quote may end before the checksum
-abbrev pub quoted_tcp : Prefixes → List ℕ → List ℕ → List ℕ
-quoted_tcp prefixes header segment =
-    if nat_lt (length segment) 18 then segment
-    else with_checksum tcp_checksum_place segment
-    (updated_checksum_of (tcp_checksum segment) (removed_addresses header) (added_addresses prefixes header))
-
--- a quoted echo message; the length in its pseudo header counts also the bytes that are not quoted
-abbrev pub quoted_icmp : List ℕ → List ℕ → List ℕ
-quoted_icmp header message =
-    translated_echo (unwrap_or (type_over_ipv4 (slice_index message 0)) (slice_index message 0))
-    (old_pseudo_header header icmpv6_number (payload_len header)) [] message
-
--- the translation of a quoted message
-abbrev pub translated_quote : Prefixes → List ℕ → List ℕ → List ℕ
-translated_quote prefixes header message =
-    if next_header header == icmpv6_number then quoted_icmp header message
-    else if next_header header == udp_number then quoted_udp prefixes header message
-    else if next_header header == tcp_number then quoted_tcp prefixes header message
-    else message
-
 -- ---- the translated error
 
 -- the first error about a message that becomes an error of this kind, and quotes a packet with this header; the prefixes are those of the
 -- quoted packet
 abbrev pub refusal_about : List ℕ → ℕ × ℕ → Prefixes → List ℕ → Option PacketTranslationError
 refusal_about quoted new_kind prefixes message = first_of (
-    option_map QuotedHeader (quoted_header_refusal prefixes quoted)
-    ∷ quoted_message_refusal (next_header quoted) (quoted_message quoted (quote_of message))
+    quoted_refusal prefixes quoted (quote_of message)
     ∷ pointer_refusal new_kind message
     ∷ [])
 
@@ -139,8 +90,7 @@ error_refusal prefixes message = first_of (
 
 -- the ICMP error of this kind about a packet with this header, with 0 instead of its checksum; the prefixes are those of the quoted packet
 abbrev pub error_about : List ℕ → ℕ × ℕ → Prefixes → List ℕ → List ℕ
-error_about quoted new_kind prefixes message = joined new_kind (word new_kind message)
-    (quoted_header prefixes quoted) (translated_quote prefixes quoted (quoted_message quoted (quote_of message)))
+error_about quoted new_kind prefixes message = joined new_kind (word new_kind message) (quoted_packet prefixes quoted (quote_of message))
 
 -- the greatest length of a quoted packet before an extension: the length attribute is a byte, and counts units of four bytes
 abbrev pub max_stated_len : ℕ

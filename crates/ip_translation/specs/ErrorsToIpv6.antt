@@ -1,22 +1,21 @@
 -- ICMP errors as ICMPv6 errors, with the packet that they quote (RFC 7915, sections 4.2 and 4.3).
-use Rattle.std.specs.Prelude.{◌≡◌, ◌≤◌, ℕ, ◌*◌, ◌/◌, ◌==◌, Bool, ◌&&◌, ◌||◌, not, nat_lt, if◌then◌else◌, List, [], ◌∷◌, drop, is_none, length, slice_index, take, Option, None}
+use Rattle.std.specs.Prelude.{ℕ, ◌*◌, ◌/◌, ◌==◌, Bool, ◌&&◌, ◌||◌, not, if◌then◌else◌, List, [], ◌∷◌, drop, is_none, length, slice_index, Option, None}
 use Rattle.std.specs.Int.{to_be_bytes, w32}
-use Rattle.std.specs.Option.{option_map, unwrap_or}
+use Rattle.std.specs.Option.{unwrap_or}
 use Rattle.ip_part.specs.Ip.{ipv4_header}
 use Rattle.net_base.specs.Bytes.{be_number}
-use Rattle.net_base.specs.IpHeaders.{ipv4_header_len}
-use Rattle.net_base.specs.IpNumbers.{icmpv4_number, icmpv6_number, tcp_number, udp_number}
+use Rattle.net_base.specs.IpNumbers.{icmpv6_number}
 use Rattle.net_base.specs.Refusals.{first_of, refused_if}
-use Rattle.net_base.specs.StoredChecksum.{icmp_checksum_place, tcp_checksum_place, udp_checksum_place, with_checksum}
-use Rattle.word_sum.specs.UpdatedChecksum.{updated_checksum_of, updated_udp_checksum_of}
-use Rattle.ip_translation.specs.EchoMessages.{changed_checksum, quoted_echo_refusal, translated_echo, type_over_ipv6}
+use Rattle.net_base.specs.StoredChecksum.{icmp_checksum_place, with_checksum}
+use Rattle.ip_translation.specs.EchoMessages.{changed_checksum}
 use Rattle.ip_translation.specs.Extensions.{extended, extension_of, is_wrong_len, padded_len, without_extension}
-use Rattle.ip_translation.specs.HeadersToIpv6.{new_pseudo_header, payload_len, protocol, quoted_header, quoted_header_refusal, total_len}
+use Rattle.ip_translation.specs.HeadersToIpv6.{new_pseudo_header, total_len}
 use Rattle.ip_translation.specs.IcmpErrors.{error_in, errors_to_ipv6, mtu_to_ipv6, pointer_in, pointers_to_ipv6}
-use Rattle.ip_translation.specs.Ipv4Packets.{added_addresses, begins_with_header, header_len_refusal, removed_addresses, tcp_checksum, udp_checksum}
-use Rattle.ip_translation.specs.QuotedPackets.{exchanged, joined, max_quoted_len, quote_of}
+use Rattle.ip_translation.specs.Ipv4Packets.{begins_with_header}
+use Rattle.ip_translation.specs.QuotedPackets.{exchanged, joined, quote_of}
+use Rattle.ip_translation.specs.QuotedToIpv6.{quoted_packet, quoted_refusal}
 use Rattle.ip_translation.specs.declared.packet_translation_error.PacketTranslationError.{PacketTranslationError}
-use Rattle.ip_translation.specs.declared.packet_translation_error.PacketTranslationError.TheVariants.{IcmpExtension, IcmpMessage, IcmpPointer, NoQuotedHeader, QuotedHeader}
+use Rattle.ip_translation.specs.declared.packet_translation_error.PacketTranslationError.TheVariants.{IcmpExtension, IcmpMessage, IcmpPointer, NoQuotedHeader}
 use Rattle.ip_translation.specs.declared.prefixes.Prefixes.{Prefixes}
 
 -- ---- type and code
@@ -68,61 +67,13 @@ quoting message = without_extension (stated_len message) message
 abbrev pub quoted_ipv4 : List ℕ → List ℕ
 quoted_ipv4 message = ipv4_header (quote_of message)
 
--- the bytes of the quoted message: the bytes after this header of the quoted packet, up to its total length, as far as there is room for
--- them
-abbrev pub quoted_message : List ℕ → List ℕ → List ℕ
-quoted_message quoted quote = take max_quoted_len (drop (ipv4_header_len quoted) (take (total_len quoted) quote))
-
--- The error of a quoted message of this protocol. An ICMP error quotes at least eight bytes of a message (RFC 792), and it must not be
--- about
--- an ICMP error. So an ICMP message must be an echo message.
-abbrev pub quoted_message_refusal : ℕ → List ℕ → Option PacketTranslationError
-quoted_message_refusal protocol message =
-    if protocol == icmpv4_number then quoted_echo_refusal type_over_ipv6 message
-    else if protocol == udp_number then header_len_refusal 8 message
-    else if protocol == tcp_number then header_len_refusal 8 message
-    else None
-
--- the quoted bytes contain the first eight bytes of a message of ICMP, UDP or TCP
-abbrev pub HasQuotedHeader : ℕ → List ℕ → Type 0
-HasQuotedHeader protocol message =
-    (protocol ≡ icmpv4_number → 8 ≤ length message)
-    × ((protocol ≡ udp_number → 8 ≤ length message) × (protocol ≡ tcp_number → 8 ≤ length message))
-
--- a quoted UDP packet; if it has no checksum, it stays without one, since bytes may be missing
-abbrev pub quoted_udp : Prefixes → List ℕ → List ℕ → List ℕ
-quoted_udp prefixes header packet = with_checksum udp_checksum_place packet
-    (updated_udp_checksum_of (udp_checksum packet) (removed_addresses header) (added_addresses prefixes header))
-
--- a quoted TCP segment; often the quote ends before the checksum
-abbrev pub quoted_tcp : Prefixes → List ℕ → List ℕ → List ℕ
-quoted_tcp prefixes header segment =
-    if nat_lt (length segment) 18 then segment
-    else with_checksum tcp_checksum_place segment
-    (updated_checksum_of (tcp_checksum segment) (removed_addresses header) (added_addresses prefixes header))
-
--- a quoted echo message; the length in its pseudo header counts also the bytes that are not quoted
-abbrev pub quoted_icmp : Prefixes → List ℕ → List ℕ → List ℕ
-quoted_icmp prefixes header message =
-    translated_echo (unwrap_or (type_over_ipv6 (slice_index message 0)) (slice_index message 0)) []
-    (new_pseudo_header prefixes header icmpv6_number (payload_len header)) message
-
--- the translation of a quoted message
-abbrev pub translated_quote : Prefixes → List ℕ → List ℕ → List ℕ
-translated_quote prefixes header message =
-    if protocol header == icmpv4_number then quoted_icmp prefixes header message
-    else if protocol header == udp_number then quoted_udp prefixes header message
-    else if protocol header == tcp_number then quoted_tcp prefixes header message
-    else message
-
 -- ---- the translated error
 
 -- the first error about a message that becomes an error of this kind, and quotes a packet with this header; the prefixes are those of the
 -- quoted packet
 abbrev pub refusal_about : List ℕ → ℕ × ℕ → Prefixes → List ℕ → Option PacketTranslationError
 refusal_about quoted new_kind prefixes message = first_of (
-    option_map QuotedHeader (quoted_header_refusal prefixes quoted)
-    ∷ quoted_message_refusal (protocol quoted) (quoted_message quoted (quote_of message))
+    quoted_refusal prefixes quoted (quote_of message)
     ∷ pointer_refusal new_kind message
     ∷ [])
 
@@ -138,7 +89,7 @@ error_refusal prefixes message = first_of (
 -- packet
 abbrev pub error_about : List ℕ → ℕ × ℕ → Prefixes → List ℕ → List ℕ
 error_about quoted new_kind prefixes message = joined new_kind (to_be_bytes w32 (word new_kind message (total_len quoted)))
-    (quoted_header prefixes quoted) (translated_quote prefixes quoted (quoted_message quoted (quote_of message)))
+    (quoted_packet prefixes quoted (quote_of message))
 
 -- The ICMPv6 messages "destination unreachable" and "time exceeded" contain a length attribute. All other errors have no extension (RFC
 -- 4884, section 4).

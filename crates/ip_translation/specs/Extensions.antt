@@ -10,6 +10,10 @@
 use Rattle.std.specs.Prelude.{ℕ, ◌+◌, ◌-◌, ◌*◌, ◌/◌, ◌==◌, Bool, ◌&&◌, ◌||◌, not, max, nat_lt, if◌then◌else◌, List, ◌++◌, drop, length, replicate, take}
 use Rattle.ip_translation.specs.QuotedPackets.{joined, max_error_len}
 
+-- the greatest length that a length attribute can state, in bytes: 255 units of ICMPv6 (RFC 4884, section 4)
+abbrev pub greatest_stated_len : ℕ
+greatest_stated_len = 255 * 8
+
 -- ---- reading
 
 -- The error states a wrong length of its quoted packet, in bytes: below 128 bytes (RFC 4884, section 3), or above the rest of the message.
@@ -39,4 +43,4 @@ padded_len unit len = max 128 ((len + (unit - 1)) / unit * unit)
 -- packet with zeros up to the length `len`, and the extension. An extension that is too long is cut (RFC 7915, section 4.2).
 abbrev pub extended : ℕ × ℕ → List ℕ → ℕ → List ℕ → List ℕ → List ℕ
 extended new_kind word len quote extension =
-    joined new_kind word (quote ++ replicate (len - length quote) 0) (take (max_error_len - (8 + len)) extension)
+    joined new_kind word ((quote ++ replicate (len - length quote) 0) ++ take (max_error_len - (8 + len)) extension)

@@ -1,28 +1,17 @@
 -- The translation of fragments of IPv4 packets to IPv6 (RFC 7915, section 4.1), and the fragments that are not translated.
-use Rattle.std.specs.Prelude.{◌≡◌, ℕ, ◌+◌, ◌-◌, ◌*◌, ◌==◌, Bool, true, false, not, nat_lt, if◌then◌else◌, List, [], ◌∷◌, ◌++◌, length, Option, None}
-use Rattle.std.specs.Int.{to_be_bytes, w16}
+use Rattle.std.specs.Prelude.{◌≡◌, ℕ, ◌+◌, ◌-◌, ◌==◌, true, false, not, nat_lt, if◌then◌else◌, List, [], ◌∷◌, ◌++◌, length, Option, None}
 use Rattle.std.specs.Option.{option_map}
-use Rattle.ip_part.specs.ExtensionHeaders.{fragment}
 use Rattle.ip_part.specs.Ip.{ipv4_header}
-use Rattle.net_base.specs.Bytes.{be_number, flag}
-use Rattle.net_base.specs.IpHeaders.{ipv4_fragment_offset, ipv4_is_fragment}
+use Rattle.net_base.specs.IpHeaders.{ipv4_is_fragment}
 use Rattle.net_base.specs.IpNumbers.{icmpv4_number, tcp_number, udp_number}
 use Rattle.net_base.specs.Refusals.{first_of, refused_if}
-use Rattle.ip_translation.specs.HeadersToIpv6.{any_header_refusal, destination, ipv6_header, next_header, payload_len, protocol, source, time_to_live, type_of_service}
+use Rattle.ip_translation.specs.HeadersToIpv6.{any_header_refusal, payload_len, protocol, time_to_live}
 use Rattle.ip_translation.specs.Ipv4Packets.{begins_with_header, header_len_refusal, message_after, message_of, udp_checksum}
 use Rattle.ip_translation.specs.PacketsToIpv6.{AreAcceptedAlike, IsAcceptedAlike, cut_off_refusal, refusal_after, translated_len, translation_of, updated_message}
-use Rattle.ip_translation.specs.Prefixes.{embedded}
 use Rattle.ip_translation.specs.declared.packet_translation_error.PacketTranslationError.{PacketTranslationError}
 use Rattle.ip_translation.specs.declared.packet_translation_error.PacketTranslationError.TheVariants.{FragmentChecksum, Header, IcmpFragment, NoIpv4Header, Space}
 use Rattle.ip_translation.specs.declared.prefixes.Prefixes.{Prefixes}
-
--- the fragment is a later fragment, whose offset is above 0
-abbrev pub is_later : List ℕ → Bool
-is_later header = not (ipv4_fragment_offset header == 0)
-
--- the length of an IPv6 header and a fragment header (RFC 8200, sections 3 and 4.5)
-abbrev pub headers_len : ℕ
-headers_len = 40 + 8
+pub use Rattle.ip_translation.specs.FragmentHeaders.{headers_len, headers_with, is_later}
 
 -- ---- errors
 
@@ -67,31 +56,9 @@ part_refusal header prefixes packet room = first_of (
 
 -- ---- the translated fragment
 
--- the identification of an IPv4 packet
-abbrev pub identification : List ℕ → ℕ
-identification header = be_number header 4 2
-
--- the flag M of a fragment header: 1 if more fragments follow
-abbrev pub more : List ℕ → ℕ
-more header = if flag header 6 0x20 then 1 else 0
-
--- The fragment header for this IPv4 header (RFC 8200, section 4.5): next header, a reserved byte, the offset with two reserved bits and the
--- flag M, and the identification, whose high 16 bits are 0.
-abbrev pub fragment_header : List ℕ → List ℕ
-fragment_header header =
-    next_header (protocol header) ∷ 0 ∷ to_be_bytes w16 (ipv4_fragment_offset header * 8 + more header)
-    ++ (0 ∷ 0 ∷ to_be_bytes w16 (identification header))
-
--- the IPv6 header and the fragment header for this IPv4 header; the payload length counts these eight bytes and this number of bytes
-abbrev pub headers_with : Prefixes → ℕ → List ℕ → List ℕ
-headers_with prefixes len header =
-    ipv6_header (type_of_service header) (len + 8) (fragment ∷ (time_to_live header - 1) ∷ [])
-    (embedded prefixes.source (source header)) (embedded prefixes.destination (destination header))
-    ++ fragment_header header
-
 -- the IPv6 header and the fragment header for this IPv4 header
 abbrev pub part_headers : Prefixes → List ℕ → List ℕ
-part_headers prefixes header = headers_with prefixes (payload_len header) header
+part_headers prefixes header = headers_with prefixes (payload_len header) (time_to_live header - 1) header
 
 -- the part of a message in a fragment: the first part contains the transport header, and every later part is unchanged
 abbrev pub part_of : Prefixes → List ℕ → List ℕ → List ℕ

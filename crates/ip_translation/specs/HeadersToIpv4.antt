@@ -7,9 +7,9 @@ use Rattle.net_base.specs.IpNumbers.{icmpv4_number, icmpv6_number}
 use Rattle.net_base.specs.PseudoHeader.{ipv4_pseudo_header, ipv6_pseudo_header, max_len_over_ipv4}
 use Rattle.net_base.specs.Refusals.{first_of, refused_if}
 use Rattle.word_sum.specs.Checksum.{checksum_of, folded, total}
-use Rattle.ip_translation.specs.Fragments.{flags_and_offset, whole}
+use Rattle.ip_translation.specs.Fragments.{flags_and_offset}
 use Rattle.ip_translation.specs.HeadersToIpv6.{is_illegal}
-use Rattle.ip_translation.specs.Prefixes.{extracted, to_ipv4_refusal}
+use Rattle.ip_translation.specs.AddressTables.{extracted, to_ipv4_refusal}
 use Rattle.ip_translation.specs.declared.fragment_fields.FragmentFields.{FragmentFields}
 use Rattle.ip_translation.specs.declared.prefixes.Prefixes.{Prefixes}
 use Rattle.ip_translation.specs.declared.translation_error.TranslationError.{TranslationError}
@@ -117,9 +117,9 @@ abbrev pub translated_header : Prefixes → FragmentFields → List ℕ → List
 translated_header prefixes fields header =
     header_with prefixes fields (payload_len header + 20) (hop_limit header - 1) header
 
--- the IPv4 header for the header of a quoted packet, which keeps its hop limit; the identification is 0
-abbrev pub quoted_header : Prefixes → List ℕ → List ℕ
-quoted_header prefixes header = header_with prefixes (whole 0) (payload_len header + 20) (hop_limit header) header
+-- the IPv4 header for the header of a quoted packet, which keeps its hop limit
+abbrev pub quoted_header : Prefixes → FragmentFields → List ℕ → List ℕ
+quoted_header prefixes fields header = header_with prefixes fields (payload_len header + 20) (hop_limit header) header
 
 -- ---- the pseudo headers of UDP and TCP
 

@@ -3,14 +3,15 @@ use Rattle.std.specs.Prelude.{ℕ, ◌+◌, ◌-◌, ◌*◌, ◌/◌, ◌%◌, 
 use Rattle.std.specs.Int.{to_be_bytes, w16}
 use Rattle.std.specs.List.{find}
 use Rattle.std.specs.Option.{option_map}
-use Rattle.ip_part.specs.Options.{ipv4_option, is_source_route, options_of}
+use Rattle.ip_part.specs.Options.{ipv4_option, options_of}
+use Rattle.ip_translation.specs.SourceRoutes.{is_unexpired_route}
 use Rattle.net_base.specs.Bytes.{be_number}
 use Rattle.net_base.specs.IpHeaders.{ipv4_header_len, ipv4_is_fragment}
 use Rattle.net_base.specs.IpNumbers.{icmpv4_number, icmpv6_number}
 use Rattle.net_base.specs.PseudoHeader.{ipv4_pseudo_header, ipv6_pseudo_header}
 use Rattle.net_base.specs.Refusals.{first_of, refused_if}
 use Rattle.word_sum.specs.Checksum.{all_ones, folded, total}
-use Rattle.ip_translation.specs.Prefixes.{embedded, to_ipv6_refusal}
+use Rattle.ip_translation.specs.AddressTables.{embedded, to_ipv6_refusal}
 use Rattle.ip_translation.specs.declared.prefixes.Prefixes.{Prefixes}
 use Rattle.ip_translation.specs.declared.translation_error.TranslationError.{TranslationError}
 use Rattle.ip_translation.specs.declared.translation_error.TranslationError.TheVariants.{Destination, Fragment, HeaderChecksum, IllegalDestination, IllegalSource, Source, SourceRoute, TimeExceeded, TotalLength}
@@ -55,16 +56,17 @@ addresses_refusal header = first_of (
     ∷ refused_if (is_illegal (destination header)) IllegalDestination
     ∷ [])
 
--- the options contain a loose or strict source route (RFC 791, section 3.1)
-abbrev pub has_source_route : List ℕ → Bool
-has_source_route header = is_some (find is_source_route (options_of ipv4_option (drop 20 header)))
+-- The options contain a loose or strict source route that is not at its end (RFC 791, section 3.1). RFC 7915, section 4.1, discards only
+-- such a packet.
+abbrev pub has_unexpired_source_route : List ℕ → Bool
+has_unexpired_source_route header = is_some (find is_unexpired_route (options_of ipv4_option (drop 20 header)))
 
 -- the first error about the fields of a header, which may be the header of a fragment
 abbrev pub any_field_refusal : List ℕ → Option TranslationError
 any_field_refusal header = first_of (
     refused_if (nat_lt (total_len header) (ipv4_header_len header)) (TotalLength (total_len header) (ipv4_header_len header))
     ∷ refused_if (not (folded (total header) == all_ones)) HeaderChecksum
-    ∷ refused_if (has_source_route header) SourceRoute
+    ∷ refused_if (has_unexpired_source_route header) SourceRoute
     ∷ refused_if (nat_lt (time_to_live header) 2) TimeExceeded
     ∷ addresses_refusal header
     ∷ [])
@@ -88,13 +90,11 @@ header_refusal prefixes header = first_of (field_refusal header ∷ embedding_re
 abbrev pub any_header_refusal : Prefixes → List ℕ → Option TranslationError
 any_header_refusal prefixes header = first_of (any_field_refusal header ∷ embedding_refusal prefixes header ∷ [])
 
--- The first error about the fields of the header of a quoted packet. Its checksum and its time to live are not checked, since routers
--- change
--- them. It has no source route, since this translator never sends one.
+-- The first error about the fields of the header of a quoted packet, which may be a fragment. Its checksum and its time to live are not
+-- checked, since routers change them. It has no source route, since this translator never sends one.
 abbrev pub quoted_field_refusal : List ℕ → Option TranslationError
 quoted_field_refusal header = first_of (
     refused_if (nat_lt (total_len header) (ipv4_header_len header)) (TotalLength (total_len header) (ipv4_header_len header))
-    ∷ refused_if (ipv4_is_fragment header) Fragment
     ∷ addresses_refusal header
     ∷ [])
 

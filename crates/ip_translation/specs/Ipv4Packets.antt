@@ -7,7 +7,7 @@ use Rattle.net_base.specs.Refusals.{refused_if}
 use Rattle.net_base.specs.StoredChecksum.{tcp_checksum_place, udp_checksum_place}
 use Rattle.word_sum.specs.Checksum.{folded, total}
 use Rattle.ip_translation.specs.HeadersToIpv6.{destination, source, total_len}
-use Rattle.ip_translation.specs.Prefixes.{embedded}
+use Rattle.ip_translation.specs.AddressTables.{embedded}
 use Rattle.ip_translation.specs.declared.packet_translation_error.PacketTranslationError.{PacketTranslationError}
 use Rattle.ip_translation.specs.declared.packet_translation_error.PacketTranslationError.TheVariants.{TransportHeader}
 use Rattle.ip_translation.specs.declared.prefixes.Prefixes.{Prefixes}

@@ -27,11 +27,15 @@ skipped_in header payload = headers_before (next_header header) payload
 abbrev pub message_in : List ℕ → List ℕ → List ℕ
 message_in header payload = drop (unless_err (skipped_in header payload)).len payload
 
--- This header, but with the number of this header or protocol after it, and with a payload length that counts this message. The flow label
--- is 0, since no translation reads it.
+-- This header, but with the number of this header or protocol after it, and with this payload length. The flow label is 0, since no
+-- translation reads it.
+abbrev pub header_counting : List ℕ → ℕ → ℕ → List ℕ
+header_counting header number len =
+    built_header (traffic_class header) len (number ∷ hop_limit header ∷ []) (source header) (destination header)
+
+-- this header, but with the number of this header or protocol after it, and with a payload length that counts this message
 abbrev pub header_before : List ℕ → ℕ → List ℕ → List ℕ
-header_before header number message =
-    built_header (traffic_class header) (length message) (number ∷ hop_limit header ∷ []) (source header) (destination header)
+header_before header number message = header_counting header number (length message)
 
 -- the header of the packet without its extension headers
 abbrev pub direct_in : List ℕ → List ℕ → List ℕ

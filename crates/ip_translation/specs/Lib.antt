@@ -1,9 +1,12 @@
 pub use Rattle.net_base.specs.Refusals
+pub mod AddressMappings
+pub mod AddressTables
 pub mod EchoMessages
 pub mod ErrorTexts
 pub mod ErrorsToIpv4
 pub mod ErrorsToIpv6
 pub mod Extensions
+pub mod FragmentHeaders
 pub mod Fragments
 pub mod FragmentsToIpv6
 pub mod HeadersToIpv4
@@ -16,5 +19,8 @@ pub mod PacketsToIpv6
 pub mod Prefixes
 pub mod PseudoHeaders
 pub mod QuotedPackets
+pub mod QuotedToIpv4
+pub mod QuotedToIpv6
 pub mod SkippedHeaders
+pub mod SourceRoutes
 pub mod ThereAndBack

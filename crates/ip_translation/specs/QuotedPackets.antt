@@ -20,10 +20,14 @@ max_error_len = min_ipv6_mtu - 40
 abbrev pub min_error_len : ℕ
 min_error_len = 8 + 40
 
+-- the greatest length of a quoted packet, which follows the header of ICMPv6
+abbrev pub max_packet_len : ℕ
+max_packet_len = max_error_len - 8
+
 -- the greatest length of a quoted message
 abbrev pub max_quoted_len : ℕ
 max_quoted_len = max_error_len - min_error_len
 
 -- an error: type and code, 0 instead of the checksum, the word after it, and the quoted packet
-abbrev pub joined : ℕ × ℕ → List ℕ → List ℕ → List ℕ → List ℕ
-joined new_kind word header message = new_kind.0 ∷ new_kind.1 ∷ 0 ∷ 0 ∷ word ++ (header ++ message)
+abbrev pub joined : ℕ × ℕ → List ℕ → List ℕ → List ℕ
+joined new_kind word packet = new_kind.0 ∷ new_kind.1 ∷ 0 ∷ 0 ∷ word ++ packet

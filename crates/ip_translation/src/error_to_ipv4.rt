@@ -1,30 +1,17 @@
 ghost use Rattle.std.specs.Prelude.{◌≡◌, ◌≤◌, ◌<◌, ◌+◌, IfOk, length, slice_index};
-ghost use Rattle.std.specs.Option.{option_map};
 ghost use Rattle.net_base.specs.Refusals.{RefusesExactly};
 ghost use Rattle.ip_translation.specs.ErrorsToIpv4 as specs;
 ghost use Rattle.ip_translation.specs.Extensions as extensions;
-ghost use Rattle.ip_translation.specs.HeadersToIpv4 as headers;
-ghost use Rattle.ip_translation.specs.QuotedPackets.{max_quoted_len};
-ghost use Rattle.ip_translation.specs.declared.packet_translation_error.PacketTranslationError.TheVariants.{QuotedHeader};
 
-use crate::echo_translation::{
-    check_quoted_ipv6_echo, icmpv6_pseudo_header, type_over_ipv4, write_echo,
-};
 use crate::extensions::{
     IPV4_UNIT, IPV6_UNIT, MIN_QUOTE_LEN, extended, first_bytes, is_wrong_len, split_extension,
 };
-use crate::header_translation::IPV6_LEN;
-use crate::ipv4_header_translation::quoted_header_to_ipv4;
-use crate::message_translation::{TCP_CHECKSUM_AT, UDP_LEN, check_header_len};
 use crate::packet_to_ipv4::front_header;
-use crate::quoted_packet::{ERROR_LEN, MAX_ERROR_LEN, MAX_QUOTED_LEN, joined};
-use crate::updated_message::{write_updated_tcp, write_updated_udp};
-use crate::{
-    PacketTranslationError, Prefixes, icmpv4_error, icmpv4_mtu, icmpv4_pointer,
-    pseudo_header_change_to_ipv4,
-};
+use crate::quoted_packet::{ERROR_LEN, MAX_ERROR_LEN, joined};
+use crate::quoted_to_ipv4::quoted_to_ipv4;
+use crate::{PacketTranslationError, Prefixes, icmpv4_error, icmpv4_mtu, icmpv4_pointer};
 use arrayvec::ArrayVec;
-use net_base::{IpNumber, Ipv6HeaderSlice, ip_number};
+use net_base::Ipv6HeaderSlice;
 
 /// The place of the length of the quoted packet in an ICMPv6 error, in bytes (RFC 4884, section 4).
 const QUOTE_LENGTH_AT: usize = 4;
@@ -124,7 +111,7 @@ fn padded_len(len: usize) -> usize
 fn stated_len(message: &[u8]) -> usize
     requires there { 8 ≤ length message.now }
     ensures len { result ≡ specs.stated_len message.now }
-    ensures short { result ≤ 2040 }
+    ensures short { result ≤ extensions.greatest_stated_len }
 {
     if message[0] == UNREACHABLE || message[0] == TIME_EXCEEDED {
         return usize::from(message[QUOTE_LENGTH_AT]) * IPV6_UNIT;
@@ -165,127 +152,9 @@ fn error_about(
     ensures there { IfOk result (λ error. 28 ≤ length error.items) }
     ensures some { IfOk result (λ error. 0 < slice_index error.items 0) }
 {
-    let ipv4_header = quoted_header(quoted, prefixes)?;
-    let bytes = quoted_message(quoted, &message[ERROR_LEN..])?;
+    let packet = quoted_to_ipv4(quoted, &message[ERROR_LEN..], prefixes)?;
     let word = error_word(kind, message)?;
-    let mut room = [0; MAX_QUOTED_LEN];
-    let translated = &mut room[..bytes.len()];
-    write_quote(translated, bytes, quoted, prefixes);
-    Ok(joined(kind, word, ipv4_header.as_slice(), translated))
-}
-
-/// The IPv4 header for the header of a quoted packet.
-fn quoted_header(
-    quoted: &Ipv6HeaderSlice<'_>,
-    prefixes: &Prefixes,
-) -> Result<ArrayVec<u8, 20>, PacketTranslationError>
-    ensures refused { RefusesExactly result (option_map QuotedHeader (headers.quoted_header_refusal prefixes.now quoted.now)) }
-    ensures written { IfOk result (λ translated. translated.items ≡ headers.quoted_header prefixes.now quoted.now) }
-    ensures len { IfOk result (λ translated. length translated.items ≡ 20) }
-{
-    match quoted_header_to_ipv4(quoted, prefixes) {
-        Ok(translated) => Ok(translated),
-        Err(error) => Err(PacketTranslationError::QuotedHeader(error)),
-    }
-}
-
-/// The bytes of the quoted message that an ICMPv6 error has room for. Refuses a message that is too short, or is no echo message of ICMPv6.
-fn quoted_message<'a>(
-    quoted: &Ipv6HeaderSlice<'_>,
-    quote: &'a [u8],
-) -> Result<&'a [u8], PacketTranslationError>
-    ensures refused { RefusesExactly result (specs.quoted_message_refusal (headers.next_header quoted.now) (specs.quoted_message quoted.now quote.now)) }
-    ensures bytes { IfOk result (λ bytes. bytes.now ≡ specs.quoted_message quoted.now quote.now) }
-    ensures counted { IfOk result (λ bytes. length bytes.now ≤ max_quoted_len) }
-    ensures there { IfOk result (λ bytes. specs.HasQuotedHeader (headers.next_header quoted.now) bytes.now) }
-{
-    let bytes = counted_bytes(quoted, quote);
-    check_quoted_message(quoted.next_header(), bytes)?;
-    Ok(bytes)
-}
-
-/// The bytes of the quoted message, up to the payload length and to the length that an ICMPv6 error has room for.
-fn counted_bytes<'a>(quoted: &Ipv6HeaderSlice<'_>, quote: &'a [u8]) -> &'a [u8]
-    ensures bytes { result.now ≡ specs.quoted_message quoted.now quote.now }
-    ensures counted { length result.now ≤ max_quoted_len }
-{
-    let end = (IPV6_LEN + usize::from(quoted.payload_length())).min(quote.len());
-    let counted = &quote[..end];
-    let start = IPV6_LEN.min(counted.len());
-    let bytes = &counted[start..];
-    let len = MAX_QUOTED_LEN.min(bytes.len());
-    &bytes[..len]
-}
-
-/// Refuses a quoted message that is too short, or is no echo message of ICMPv6.
-fn check_quoted_message(protocol: IpNumber, message: &[u8]) -> Result<(), PacketTranslationError>
-    ensures refused { RefusesExactly result (specs.quoted_message_refusal protocol.0 message.now) }
-    ensures there { IfOk result (λ _. specs.HasQuotedHeader protocol.0 message.now) }
-{
-    if protocol.0 == ip_number::IPV6_ICMP.0 {
-        return check_quoted_ipv6_echo(message);
-    }
-    if protocol.0 == ip_number::UDP.0 || protocol.0 == ip_number::TCP.0 {
-        return check_header_len(message, UDP_LEN);
-    }
-    Ok(())
-}
-
-/// Writes the translation of a quoted message.
-fn write_quote(
-    translated: &mut [u8],
-    message: &[u8],
-    quoted: &Ipv6HeaderSlice<'_>,
-    prefixes: &Prefixes,
-)
-    requires room { length translated.old ≡ length message.now }
-    requires there { specs.HasQuotedHeader (headers.next_header quoted.now) message.now }
-    ensures { translated.new ≡ specs.translated_quote prefixes.now quoted.now message.now }
-{
-    if quoted.next_header().0 == ip_number::IPV6_ICMP.0 {
-        write_quoted_icmp(translated, message, quoted);
-        return;
-    }
-    if quoted.next_header().0 == ip_number::UDP.0 {
-        let change = pseudo_header_change_to_ipv4(quoted, prefixes);
-        write_updated_udp(translated, message, change);
-        return;
-    }
-    if quoted.next_header().0 == ip_number::TCP.0 {
-        write_quoted_tcp(translated, message, quoted, prefixes);
-        return;
-    }
-    translated.copy_from_slice(message);
-}
-
-/// Writes a quoted TCP segment. Its checksum is updated if it is there.
-fn write_quoted_tcp(
-    translated: &mut [u8],
-    message: &[u8],
-    quoted: &Ipv6HeaderSlice<'_>,
-    prefixes: &Prefixes,
-)
-    requires room { length translated.old ≡ length message.now }
-    ensures { translated.new ≡ specs.quoted_tcp prefixes.now quoted.now message.now }
-{
-    if message.len() < TCP_CHECKSUM_AT + 2 {
-        translated.copy_from_slice(message);
-        return;
-    }
-    let change = pseudo_header_change_to_ipv4(quoted, prefixes);
-    write_updated_tcp(translated, message, change);
-}
-
-/// Writes a quoted echo message. Its old pseudo header contains the length of the whole message.
-fn write_quoted_icmp(translated: &mut [u8], message: &[u8], quoted: &Ipv6HeaderSlice<'_>)
-    requires room { length translated.old ≡ length message.now }
-    requires there { 8 ≤ length message.now }
-    ensures { translated.new ≡ specs.quoted_icmp quoted.now message.now }
-{
-    let type_u8 = type_over_ipv4(message[0]).unwrap_or(message[0]);
-    let len = u32::from(quoted.payload_length());
-    let old = icmpv6_pseudo_header(quoted.source(), quoted.destination(), len);
-    write_echo(translated, message, type_u8, old.as_slice(), &[]);
+    Ok(joined(kind, word, packet.as_slice()))
 }
 
 /// The four bytes after the checksum of the ICMP error.

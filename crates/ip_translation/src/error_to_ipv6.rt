@@ -1,30 +1,20 @@
 ghost use Rattle.std.specs.Prelude.{◌≡◌, ◌≤◌, ◌+◌, IfOk, length};
-ghost use Rattle.std.specs.Option.{option_map};
 ghost use Rattle.net_base.specs.IpHeaders.{ipv4_header_len};
 ghost use Rattle.net_base.specs.Refusals.{RefusesExactly};
 ghost use Rattle.ip_translation.specs.ErrorsToIpv6 as specs;
 ghost use Rattle.ip_translation.specs.Extensions as extensions;
-ghost use Rattle.ip_translation.specs.HeadersToIpv6 as headers;
-ghost use Rattle.ip_translation.specs.QuotedPackets.{max_error_len, max_quoted_len, min_error_len};
-ghost use Rattle.ip_translation.specs.declared.packet_translation_error.PacketTranslationError.TheVariants.{QuotedHeader};
+ghost use Rattle.ip_translation.specs.QuotedPackets.{max_error_len, min_error_len};
 
-use crate::echo_translation::{
-    check_quoted_echo, icmpv6_pseudo_header, type_over_ipv6, write_echo,
-};
 use crate::extensions::{
     IPV4_UNIT, IPV6_UNIT, MIN_QUOTE_LEN, extended, is_wrong_len, split_extension,
 };
-use crate::header_translation::quoted_header_to_ipv6;
-use crate::message_translation::{TCP_CHECKSUM_AT, UDP_LEN, check_header_len, number};
+use crate::message_translation::number;
 use crate::packet_translation::front_header;
-use crate::quoted_packet::{ERROR_LEN, MAX_ERROR_LEN, MAX_QUOTED_LEN, joined};
-use crate::updated_message::{write_updated_tcp, write_updated_udp};
-use crate::{
-    PacketTranslationError, Prefixes, icmpv6_error, icmpv6_mtu, icmpv6_pointer,
-    pseudo_header_change,
-};
+use crate::quoted_packet::{ERROR_LEN, MAX_ERROR_LEN, joined};
+use crate::quoted_to_ipv6::quoted_to_ipv6;
+use crate::{PacketTranslationError, Prefixes, icmpv6_error, icmpv6_mtu, icmpv6_pointer};
 use arrayvec::ArrayVec;
-use net_base::{IpNumber, Ipv4HeaderSlice, ip_number};
+use net_base::Ipv4HeaderSlice;
 
 /// The place of the pointer in a parameter problem of ICMP, in bytes (RFC 792).
 const POINTER_AT: usize = 4;
@@ -129,7 +119,7 @@ fn padded_len(len: usize) -> usize
 fn stated_len(message: &[u8]) -> usize
     requires there { 8 ≤ length message.now }
     ensures len { result ≡ specs.stated_len message.now }
-    ensures short { result ≤ 2040 }
+    ensures short { result ≤ extensions.greatest_stated_len }
 {
     usize::from(message[QUOTE_LENGTH_AT]) * IPV4_UNIT
 }
@@ -160,143 +150,14 @@ fn error_about(
     prefixes: &Prefixes,
 ) -> Result<ArrayVec<u8, MAX_ERROR_LEN>, PacketTranslationError>
     requires there { 8 ≤ length message.now }
+    requires long { 20 ≤ ipv4_header_len quoted.now }
     ensures refused { RefusesExactly result (specs.refusal_about quoted.now kind prefixes.now message.now) }
     ensures written { IfOk result (λ error. error.items ≡ specs.error_about quoted.now kind prefixes.now message.now) }
     ensures there { IfOk result (λ error. min_error_len ≤ length error.items) }
 {
-    let ipv6_header = quoted_header(quoted, prefixes)?;
-    let bytes = quoted_message(quoted, &message[ERROR_LEN..])?;
+    let packet = quoted_to_ipv6(quoted, &message[ERROR_LEN..], prefixes)?;
     let word = error_word(kind, message, quoted.total_len())?;
-    let mut room = [0; MAX_QUOTED_LEN];
-    let translated = &mut room[..bytes.len()];
-    write_quote(translated, bytes, quoted, prefixes);
-    Ok(joined(kind, word.to_be_bytes(), ipv6_header.as_slice(), translated))
-}
-
-/// The IPv6 header for the header of a quoted packet.
-fn quoted_header(
-    quoted: &Ipv4HeaderSlice<'_>,
-    prefixes: &Prefixes,
-) -> Result<ArrayVec<u8, 40>, PacketTranslationError>
-    ensures refused { RefusesExactly result (option_map QuotedHeader (headers.quoted_header_refusal prefixes.now quoted.now)) }
-    ensures written { IfOk result (λ translated. translated.items ≡ headers.quoted_header prefixes.now quoted.now) }
-    ensures len { IfOk result (λ translated. length translated.items ≡ 40) }
-    ensures total_len { IfOk result (λ _. ipv4_header_len quoted.now ≤ headers.total_len quoted.now) }
-{
-    match quoted_header_to_ipv6(quoted, prefixes) {
-        Ok(translated) => Ok(translated),
-        Err(error) => Err(PacketTranslationError::QuotedHeader(error)),
-    }
-}
-
-/// The bytes of the quoted message that the ICMPv6 error has room for. Refuses a message that is too short, or is no echo message of ICMP.
-fn quoted_message<'a>(
-    quoted: &Ipv4HeaderSlice<'_>,
-    quote: &'a [u8],
-) -> Result<&'a [u8], PacketTranslationError>
-    requires ordered { ipv4_header_len quoted.now ≤ headers.total_len quoted.now }
-    ensures refused { RefusesExactly result (specs.quoted_message_refusal (headers.protocol quoted.now) (specs.quoted_message quoted.now quote.now)) }
-    ensures bytes { IfOk result (λ bytes. bytes.now ≡ specs.quoted_message quoted.now quote.now) }
-    ensures counted { IfOk result (λ bytes. length bytes.now ≤ max_quoted_len) }
-    ensures there { IfOk result (λ bytes. specs.HasQuotedHeader (headers.protocol quoted.now) bytes.now) }
-{
-    let bytes = counted_bytes(quoted, quote);
-    check_quoted_message(quoted.protocol(), bytes)?;
-    Ok(bytes)
-}
-
-/// The bytes of the quoted message, up to the total length and to the length that the ICMPv6 error has room for.
-fn counted_bytes<'a>(quoted: &Ipv4HeaderSlice<'_>, quote: &'a [u8]) -> &'a [u8]
-    requires ordered { ipv4_header_len quoted.now ≤ headers.total_len quoted.now }
-    ensures bytes { result.now ≡ specs.quoted_message quoted.now quote.now }
-    ensures counted { length result.now ≤ max_quoted_len }
-{
-    let end = usize::from(quoted.total_len()).min(quote.len());
-    let counted = &quote[..end];
-    let start = (usize::from(quoted.ihl()) * 4).min(counted.len());
-    let bytes = &counted[start..];
-    let len = MAX_QUOTED_LEN.min(bytes.len());
-    &bytes[..len]
-}
-
-/// Refuses a quoted message that is too short, or is no echo message of ICMP.
-fn check_quoted_message(protocol: IpNumber, message: &[u8]) -> Result<(), PacketTranslationError>
-    ensures refused { RefusesExactly result (specs.quoted_message_refusal protocol.0 message.now) }
-    ensures there { IfOk result (λ _. specs.HasQuotedHeader protocol.0 message.now) }
-{
-    if protocol.0 == ip_number::ICMP.0 {
-        return check_quoted_echo(message);
-    }
-    if protocol.0 == ip_number::UDP.0 || protocol.0 == ip_number::TCP.0 {
-        return check_header_len(message, UDP_LEN);
-    }
-    Ok(())
-}
-
-/// Writes the translation of a quoted message.
-fn write_quote(
-    translated: &mut [u8],
-    message: &[u8],
-    quoted: &Ipv4HeaderSlice<'_>,
-    prefixes: &Prefixes,
-)
-    requires room { length translated.old ≡ length message.now }
-    requires there { specs.HasQuotedHeader (headers.protocol quoted.now) message.now }
-    requires ordered { ipv4_header_len quoted.now ≤ headers.total_len quoted.now }
-    ensures { translated.new ≡ specs.translated_quote prefixes.now quoted.now message.now }
-{
-    if quoted.protocol().0 == ip_number::ICMP.0 {
-        write_quoted_icmp(translated, message, quoted, prefixes);
-        return;
-    }
-    if quoted.protocol().0 == ip_number::UDP.0 {
-        let change = pseudo_header_change(quoted, prefixes);
-        write_updated_udp(translated, message, change);
-        return;
-    }
-    if quoted.protocol().0 == ip_number::TCP.0 {
-        write_quoted_tcp(translated, message, quoted, prefixes);
-        return;
-    }
-    translated.copy_from_slice(message);
-}
-
-/// Writes a quoted TCP segment. Its checksum is updated if it is there.
-fn write_quoted_tcp(
-    translated: &mut [u8],
-    message: &[u8],
-    quoted: &Ipv4HeaderSlice<'_>,
-    prefixes: &Prefixes,
-)
-    requires room { length translated.old ≡ length message.now }
-    ensures { translated.new ≡ specs.quoted_tcp prefixes.now quoted.now message.now }
-{
-    if message.len() < TCP_CHECKSUM_AT + 2 {
-        translated.copy_from_slice(message);
-        return;
-    }
-    let change = pseudo_header_change(quoted, prefixes);
-    write_updated_tcp(translated, message, change);
-}
-
-/// Writes a quoted echo message. Its pseudo header contains the length of the whole message.
-fn write_quoted_icmp(
-    translated: &mut [u8],
-    message: &[u8],
-    quoted: &Ipv4HeaderSlice<'_>,
-    prefixes: &Prefixes,
-)
-    requires room { length translated.old ≡ length message.now }
-    requires there { 8 ≤ length message.now }
-    requires ordered { ipv4_header_len quoted.now ≤ headers.total_len quoted.now }
-    ensures { translated.new ≡ specs.quoted_icmp prefixes.now quoted.now message.now }
-{
-    let type_u8 = type_over_ipv6(message[0]).unwrap_or(message[0]);
-    let source = prefixes.source.embed(quoted.source());
-    let destination = prefixes.destination.embed(quoted.destination());
-    let len = quoted.total_len() - u16::from(quoted.ihl()) * 4;
-    let new = icmpv6_pseudo_header(source, destination, u32::from(len));
-    write_echo(translated, message, type_u8, &[], new.as_slice());
+    Ok(joined(kind, word.to_be_bytes(), packet.as_slice()))
 }
 
 /// The word after the checksum of the ICMPv6 error. `total_len` is the total length of the quoted packet.

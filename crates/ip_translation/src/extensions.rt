@@ -16,7 +16,7 @@ pub(crate) const IPV6_UNIT: usize = 8;
 
 /// Whether an error states a wrong length of its quoted packet, in bytes: below 128, or above the rest of the message.
 pub(crate) fn is_wrong_len(len: usize, message: &[u8]) -> bool
-    requires short { len ≤ 2040 }
+    requires short { len ≤ specs.greatest_stated_len }
     ensures { result ≡ specs.is_wrong_len len message.now }
 {
     len != 0 && (len < MIN_QUOTE_LEN || message.len() < ERROR_LEN + len)
@@ -25,7 +25,7 @@ pub(crate) fn is_wrong_len(len: usize, message: &[u8]) -> bool
 /// An error without its extension, and the extension. The error states this length of its quoted packet, in bytes.
 pub(crate) fn split_extension<'a>(len: usize, message: &'a [u8]) -> (&'a [u8], &'a [u8])
     requires there { 8 ≤ length message.now }
-    requires short { len ≤ 2040 }
+    requires short { len ≤ specs.greatest_stated_len }
     ensures quoting { result.0.now ≡ specs.without_extension len message.now }
     ensures extension { result.1.now ≡ specs.extension_of len message.now }
     ensures there { 8 ≤ length result.0.now }
@@ -37,7 +37,7 @@ pub(crate) fn split_extension<'a>(len: usize, message: &'a [u8]) -> (&'a [u8], &
 /// The place after the quoted packet, if the error states this length of the quoted packet, in bytes.
 fn end_of_quote(len: usize, message: &[u8]) -> usize
     requires there { 8 ≤ length message.now }
-    requires short { len ≤ 2040 }
+    requires short { len ≤ specs.greatest_stated_len }
     ensures end { result ≡ specs.end_of_quote len message.now }
     ensures there { 8 ≤ result }
 {

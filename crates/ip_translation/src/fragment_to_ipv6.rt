@@ -4,6 +4,7 @@ ghost use Rattle.net_base.specs.IpHeaders.{ipv4_header_len};
 ghost use Rattle.net_base.specs.IpNumbers.{icmpv4_number, tcp_number, udp_number};
 ghost use Rattle.net_base.specs.PseudoHeader.{max_len_over_ipv4};
 ghost use Rattle.net_base.specs.Refusals.{RefusesExactly, refused_if};
+ghost use Rattle.ip_translation.specs.FragmentHeaders as fragments;
 ghost use Rattle.ip_translation.specs.FragmentsToIpv6 as specs;
 ghost use Rattle.ip_translation.specs.HeadersToIpv4.{max_payload_len};
 ghost use Rattle.ip_translation.specs.HeadersToIpv6 as headers;
@@ -23,7 +24,7 @@ use arrayvec::ArrayVec;
 use net_base::{IpNumber, Ipv4HeaderSlice, ip_number};
 
 /// The length of an IPv6 header and a fragment header, in bytes (RFC 8200, sections 3 and 4.5).
-const HEADERS_LEN: usize = IPV6_LEN + FRAGMENT_LEN as usize;
+pub(crate) const HEADERS_LEN: usize = IPV6_LEN + FRAGMENT_LEN as usize;
 
 /// The length of a fragment header, in bytes (RFC 8200, section 4.5).
 const FRAGMENT_LEN: u16 = 8;
@@ -76,14 +77,14 @@ fn translate_message_of_part(
 }
 
 /// Whether the fragment is a later fragment, whose offset is above 0.
-fn is_later(header: &Ipv4HeaderSlice<'_>) -> bool
+pub(crate) fn is_later(header: &Ipv4HeaderSlice<'_>) -> bool
     ensures { result ≡ specs.is_later header.now }
 {
     header.fragments_offset() != 0
 }
 
 /// Refuses a fragment of an ICMP message.
-fn check_protocol_of_part(protocol: IpNumber) -> Result<(), PacketTranslationError>
+pub(crate) fn check_protocol_of_part(protocol: IpNumber) -> Result<(), PacketTranslationError>
     ensures refused { RefusesExactly result (refused_if (protocol.0 == icmpv4_number) IcmpFragment) }
     ensures other { IfOk result (λ _. protocol.0 ≢ icmpv4_number) }
 {
@@ -152,7 +153,10 @@ fn part_headers(
     ensures total_len { IfOk result (λ _. ipv4_header_len header.now ≤ headers.total_len header.now) }
 {
     match checked_payload_len(header, prefixes) {
-        Ok(payload_len) => Ok(headers_with(header, prefixes, payload_len)),
+        Ok(payload_len) => {
+            let hop_limit = header.ttl().saturating_sub(1);
+            Ok(headers_with(header, prefixes, payload_len, hop_limit))
+        }
         Err(error) => Err(PacketTranslationError::Header(error)),
     }
 }
@@ -173,23 +177,21 @@ fn checked_payload_len(
     Ok(payload_len)
 }
 
-/// The IPv6 header and the fragment header for this IPv4 header with this length of the payload.
-fn headers_with(
+/// The IPv6 header and the fragment header for this IPv4 header, with this length of the payload and this hop limit.
+pub(crate) fn headers_with(
     header: &Ipv4HeaderSlice<'_>,
     prefixes: &Prefixes,
     payload_len: u16,
+    hop_limit: u8,
 ) -> ArrayVec<u8, HEADERS_LEN>
     requires short { payload_len ≤ max_payload_len }
-    ensures written { result.items ≡ specs.headers_with prefixes.now payload_len header.now }
+    ensures written { result.items ≡ fragments.headers_with prefixes.now payload_len hop_limit header.now }
     ensures len { length result.items ≡ specs.headers_len }
 {
     let ipv6 = ipv6_header(
         byte_at(header.slice(), TYPE_OF_SERVICE_AT),
         payload_len + FRAGMENT_LEN,
-        [
-            ip_number::IPV6_FRAGMENTATION_HEADER.0,
-            header.ttl().saturating_sub(1),
-        ],
+        [ip_number::IPV6_FRAGMENTATION_HEADER.0, hop_limit],
         prefixes.source.embed(header.source()),
         prefixes.destination.embed(header.destination()),
     );
@@ -203,7 +205,7 @@ fn headers_with(
 
 /// The fragment header for this IPv4 header.
 fn fragment_header(header: &Ipv4HeaderSlice<'_>) -> [u8; 8]
-    ensures { result ≡ specs.fragment_header header.now }
+    ensures { result ≡ fragments.fragment_header header.now }
 {
     let more = if header.more_fragments() { 1 } else { 0 };
     let [offset, rest] = (header.fragments_offset() * 8 + more).to_be_bytes();

@@ -7,9 +7,9 @@ ghost use Rattle.word_sum.specs.ChecksumChange.{TurnsInto, added_value, removed_
 ghost use Rattle.ip_translation.specs.HeadersToIpv6 as specs;
 ghost use Rattle.ip_translation.specs.PacketsToIpv6.{added_addresses, removed_addresses};
 
+use crate::source_route::has_unexpired_source_route;
 use crate::{Prefixes, TranslationError};
 use arrayvec::ArrayVec;
-use ip_part::has_source_route;
 use net_base::{IpNumber, Ipv4HeaderSlice, Ipv6Header, ip_number};
 use word_sum::checksum_change::ChecksumChange;
 
@@ -22,7 +22,7 @@ use word_sum::checksum_change::ChecksumChange;
 /// | payload length | total length minus the length of the header with its options |
 /// | next header | protocol, but ICMPv6 for ICMP |
 /// | hop limit | time to live, lowered by 1, since a translator is a router |
-/// | source, destination | the IPv6 addresses that contain the IPv4 addresses, by `Prefix64::to_ipv6` |
+/// | source, destination | the IPv6 addresses that contain the IPv4 addresses, by `AddressTable::to_ipv6` |
 ///
 /// Options are left out. If the checksum of the transport covers a pseudo header, the caller updates this checksum.
 ///
@@ -31,10 +31,10 @@ use word_sum::checksum_change::ChecksumChange;
 /// The call checks these cases, in this order:
 /// - `Fragment` if more fragments follow, or if the fragment offset is not 0.
 /// - `TotalLength` if the total length is below the header length, and `HeaderChecksum` if the checksum of the header is wrong.
-/// - `SourceRoute` if the options contain a source route, even if no address is left in it.
+/// - `SourceRoute` if the options contain a source route that is not at its end: its pointer is at most its length (RFC 791, section 3.1).
 /// - `TimeExceeded` if the time to live is 0 or 1.
 /// - `IllegalSource` if the first byte of the source is 0, 127, or above 223, and `IllegalDestination` if this is true for the destination.
-/// - `Source` or `Destination` if `Prefix64::to_ipv6` refuses this address.
+/// - `Source` or `Destination` if `AddressTable::to_ipv6` refuses this address.
 pub fn header_to_ipv6(
     header: &Ipv4HeaderSlice<'_>,
     prefixes: &Prefixes,
@@ -122,7 +122,7 @@ pub(crate) fn check_any_fields(header: &Ipv4HeaderSlice<'_>) -> Result<u16, Tran
     if !header.is_checksum_valid() {
         return Err(TranslationError::HeaderChecksum);
     }
-    if has_source_route(header.options()) {
+    if has_unexpired_source_route(header.options()) {
         return Err(TranslationError::SourceRoute);
     }
     if header.ttl() <= 1 {
@@ -132,25 +132,26 @@ pub(crate) fn check_any_fields(header: &Ipv4HeaderSlice<'_>) -> Result<u16, Tran
     Ok(total_len - header_len)
 }
 
-/// Translates the header of a packet that an ICMP error quotes. The hop limit is the time to live, and it is not lowered.
-pub(crate) fn quoted_header_to_ipv6(
+/// Checks the header of a packet that an ICMP error quotes, which may be a fragment. Returns the length of the payload.
+pub(crate) fn quoted_payload_len(
     header: &Ipv4HeaderSlice<'_>,
     prefixes: &Prefixes,
-) -> Result<ArrayVec<u8, IPV6_LEN>, TranslationError>
+) -> Result<u16, TranslationError>
     ensures refused { RefusesExactly result (specs.quoted_header_refusal prefixes.now header.now) }
-    ensures written { IfOk result (λ translated. translated.items ≡ specs.quoted_header prefixes.now header.now) }
-    ensures len { IfOk result (λ translated. length translated.items ≡ 40) }
+    ensures payload_len { IfOk result (λ len. len ≡ specs.payload_len header.now) }
+    ensures counted { IfOk result (λ len. len + ipv4_header_len header.now ≤ max_len_over_ipv4) }
     ensures total_len { IfOk result (λ _. ipv4_header_len header.now ≤ specs.total_len header.now) }
 {
     let payload_len = check_quoted_header(header)?;
     check_embedding(header, prefixes)?;
-    Ok(header_with(header, prefixes, payload_len, header.ttl()))
+    Ok(payload_len)
 }
 
 /// Checks the fields of the header of a quoted packet, and returns the length of the payload.
 fn check_quoted_header(header: &Ipv4HeaderSlice<'_>) -> Result<u16, TranslationError>
     ensures refused { RefusesExactly result (specs.quoted_field_refusal header.now) }
     ensures payload_len { IfOk result (λ len. len ≡ specs.payload_len header.now) }
+    ensures counted { IfOk result (λ len. len + ipv4_header_len header.now ≤ max_len_over_ipv4) }
     ensures total_len { IfOk result (λ _. ipv4_header_len header.now ≤ specs.total_len header.now) }
 {
     let total_len = header.total_len();
@@ -160,9 +161,6 @@ fn check_quoted_header(header: &Ipv4HeaderSlice<'_>) -> Result<u16, TranslationE
             total_len,
             header_len,
         });
-    }
-    if header.is_fragmenting_payload() {
-        return Err(TranslationError::Fragment);
     }
     check_addresses(header)?;
     Ok(total_len - header_len)

@@ -28,7 +28,7 @@ const IPV4_LEN: u16 = 20;
 /// | time to live | hop limit, lowered by 1, since a translator is a router |
 /// | protocol | next header, but ICMP for ICMPv6 |
 /// | checksum | over this header |
-/// | source, destination | the IPv4 addresses that the IPv6 addresses contain, by `Prefix64::to_ipv4` |
+/// | source, destination | the IPv4 addresses that the IPv6 addresses contain, by `AddressTable::to_ipv4` |
 ///
 /// More fragments and the fragment offset are 0, and there are no options. A packet with a total length of at most 1260 bytes may be
 /// fragmented on its way. So two of these packets with the same addresses and protocol must not have the same identification at the same
@@ -40,7 +40,7 @@ const IPV4_LEN: u16 = 20;
 /// - `ExtensionHeader` if the next header is an extension header: hop-by-hop options, routing, fragment or destination options.
 /// - `PayloadLength` if the payload length is above 65,515.
 /// - `TimeExceeded` if the hop limit is 0 or 1.
-/// - `Source` or `Destination` if `Prefix64::to_ipv4` refuses this address.
+/// - `Source` or `Destination` if `AddressTable::to_ipv4` refuses this address.
 /// - `IllegalSource` if the first byte of the IPv4 source is 0, 127, or above 223, and `IllegalDestination` if this is true for the IPv4
 ///   destination.
 pub fn header_to_ipv4(
@@ -87,8 +87,8 @@ pub fn pseudo_header_change_to_ipv4(
 {
     let source = header.source();
     let destination = header.destination();
-    let (_, new_source) = prefixes.source.front(&source);
-    let (_, new_destination) = prefixes.destination.front(&destination);
+    let new_source = prefixes.source.ipv4_of(&source);
+    let new_destination = prefixes.destination.ipv4_of(&destination);
     ChecksumChange::new()
         .replace_slice(&new_source, &source)
         .replace_slice(&new_destination, &destination)
@@ -107,19 +107,19 @@ fn check_fields(header: &Ipv6HeaderSlice<'_>) -> Result<u16, TranslationError>
     Ok(total_len)
 }
 
-/// Translates the header of a packet that an ICMPv6 error quotes. The time to live is the hop limit, and it is not lowered. The
-/// identification is 0.
+/// Translates the header of a packet that an ICMPv6 error quotes, without further extension headers. These fields describe the fragment.
+/// The time to live is the hop limit, and it is not lowered.
 pub(crate) fn quoted_header_to_ipv4(
     header: &Ipv6HeaderSlice<'_>,
     prefixes: &Prefixes,
+    fields: FragmentFields,
 ) -> Result<ArrayVec<u8, 20>, TranslationError>
     ensures refused { RefusesExactly result (specs.quoted_header_refusal prefixes.now header.now) }
-    ensures written { IfOk result (λ translated. translated.items ≡ specs.quoted_header prefixes.now header.now) }
+    ensures written { IfOk result (λ translated. translated.items ≡ specs.quoted_header prefixes.now fields header.now) }
     ensures len { IfOk result (λ translated. length translated.items ≡ 20) }
 {
     let total_len = check_quoted_fields(header)?;
     check_addresses(header, prefixes)?;
-    let fields = FragmentFields::whole(0);
     Ok(header_with(header, prefixes, fields, total_len, header.hop_limit()))
 }
 
@@ -152,8 +152,8 @@ pub(crate) fn header_with(
     ensures verifies { Verifies [] result.items }
     ensures len { length result.items ≡ 20 }
 {
-    let (_, source) = prefixes.source.front(&header.source());
-    let (_, destination) = prefixes.destination.front(&header.destination());
+    let source = prefixes.source.ipv4_of(&header.source());
+    let destination = prefixes.destination.ipv4_of(&header.destination());
     let [total_high, total_low] = total_len.to_be_bytes();
     let [high, low] = fields.identification.to_be_bytes();
     let [flags, offset] = fields.flags_and_offset(total_len).to_be_bytes();

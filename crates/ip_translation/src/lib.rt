@@ -1,16 +1,19 @@
 //! Translation between IPv4 and IPv6 (RFC 7915), with IPv4 addresses embedded in IPv6 addresses (RFC 6052).
 //!
-//! A `Prefix64` embeds IPv4 addresses in IPv6 addresses, and extracts them again. `ipv4_to_ipv6` and `ipv6_to_ipv4` translate
-//! packets. No call allocates or has a precondition.
+//! A `Prefix64` embeds IPv4 addresses in IPv6 addresses, and extracts them again. An `AddressMapping` translates the addresses of an IPv4
+//! network to an IPv6 network and back (RFC 7757). `ipv4_to_ipv6` and `ipv6_to_ipv4` translate packets. No call allocates or has a precondition.
 //!
 //! ```
 //! let prefix = Prefix64::Bits32([0x20, 0x01, 0x0d, 0xb8]);
-//! let prefixes = Prefixes { source: prefix, destination: Prefix64::WELL_KNOWN };
+//! let prefixes = Prefixes::new(prefix, Prefix64::WELL_KNOWN);
 //! let len = ipv4_to_ipv6(packet, &prefixes, buffer)?;
 //! ```
 #![tactic(auto)]
 
 mod address_error;
+mod address_mapping;
+mod address_mapping_error;
+mod address_table;
 mod changed_message;
 mod echo_translation;
 mod error_to_ipv4;
@@ -23,6 +26,8 @@ mod icmp_errors;
 mod ipv4_header_translation;
 #[doc(hidden)]
 pub mod laws;
+#[doc(hidden)]
+pub mod mapping_laws;
 mod message_translation;
 mod packet_to_ipv4;
 mod packet_translation;
@@ -31,11 +36,17 @@ mod prefix64;
 mod prefix64_error;
 mod prefixes;
 mod quoted_packet;
+mod quoted_to_ipv4;
+mod quoted_to_ipv6;
 mod skipped_headers;
+mod source_route;
 mod translation_error;
 mod updated_message;
 
 pub use address_error::AddressError;
+pub use address_mapping::AddressMapping;
+pub use address_mapping_error::AddressMappingError;
+pub use address_table::AddressTable;
 pub use header_translation::{header_to_ipv6, pseudo_header_change};
 pub use icmp_errors::{
     icmpv4_error, icmpv4_mtu, icmpv4_pointer, icmpv6_error, icmpv6_mtu, icmpv6_pointer,

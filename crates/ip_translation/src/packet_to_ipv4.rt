@@ -8,6 +8,7 @@ ghost use Rattle.word_sum.specs.Checksum.{Verifies};
 ghost use Rattle.ip_translation.specs.ErrorsToIpv4 as errors;
 ghost use Rattle.ip_translation.specs.Fragments.{is_later, whole};
 ghost use Rattle.ip_translation.specs.HeadersToIpv4 as headers;
+ghost use Rattle.ip_translation.specs.Ipv6Packets.{header_counting};
 ghost use Rattle.ip_translation.specs.PacketsToIpv4 as specs;
 ghost use Rattle.ip_translation.specs.declared.packet_translation_error.PacketTranslationError.TheVariants.{Header, IcmpFragment};
 
@@ -38,16 +39,17 @@ const IPV4_LEN: usize = 20;
 /// any other protocol is unchanged.
 ///
 /// An ICMPv6 error becomes the ICMP error that `icmpv4_error` names, with the pointer of `icmpv4_pointer` or the MTU of `icmpv4_mtu`
-/// (section 5.2). The packet that it quotes is translated with the exchanged prefixes, keeps its hop limit, and gets the identification 0
-/// (section 5.3). Its checksum is updated if the quote contains it. A quote that is longer than in an ICMPv6 error of 1280 bytes is cut.
+/// (section 5.2). The packet that it quotes is translated with the exchanged prefixes, and keeps its hop limit (section 5.3). Its extension
+/// headers are skipped. Without a fragment header it gets the identification 0. The checksum of the quoted message is updated if the quote
+/// contains it. A quote that is longer than in an ICMPv6 error of 1280 bytes is cut.
 ///
 /// An extension of the error (RFC 4884) is unchanged, as section 5.2 requires. The length field is adjusted, and zeros after the quote are
-/// added. Before an extension the quote is cut to 1,020 bytes, the most that the length field can state. An error with an extension has at most
-/// 1240 bytes, so a longer extension is cut.
+/// added. Before an extension the quote is cut to 1,020 bytes, the most that the length field can state. An error with an extension has at
+/// most 1240 bytes, so a longer extension is cut.
 ///
-/// If the packet has a fragment header, this header determines the fragment offset, "more fragments" and the low 16 bits of the identification
-/// (section 5.1.1). Then "don't fragment" is 0, and the argument `identification` is not used. A later fragment has no transport header, so
-/// its bytes are unchanged. An atomic fragment is translated as a whole packet.
+/// If the packet has a fragment header, this header determines the fragment offset, "more fragments" and the low 16 bits of the
+/// identification (section 5.1.1). Then "don't fragment" is 0, and the argument `identification` is not used. A later fragment has no
+/// transport header, so its bytes are unchanged. An atomic fragment is translated as a whole packet.
 ///
 /// # Errors
 ///
@@ -64,9 +66,13 @@ const IPV4_LEN: usize = 20;
 /// - `IcmpExtension` if the length field of "destination unreachable" or "time exceeded" (RFC 4884) is not 0, and states fewer than 128 bytes or
 ///   more than there are.
 /// - `NoQuotedHeader` if the packet that an ICMPv6 error quotes does not begin with a whole IPv6 header.
-/// - `QuotedHeader` if the quoted header has no translation. The call checks its next header, its payload length and its addresses, as
-///   `header_to_ipv4` does.
+/// - `QuotedHeader` with `ExtensionHeader` and the next header of the quoted packet if one of its extension headers is not skipped, as
+///   above, or ends after the quote.
+/// - `QuotedHeader` if the quoted header has no translation. The call checks its payload length and its addresses, as `header_to_ipv4`
+///   does.
+/// - `IcmpFragment` if the quoted packet is one of several fragments of an ICMPv6 message (section 1.2).
 /// - `TransportHeader` or `QuotedIcmp` if the quoted message of ICMPv6, UDP or TCP is shorter than 8 bytes, or is no echo message of ICMPv6.
+///   This is not checked in a later fragment.
 /// - `IcmpPointer` if a parameter problem has a pointer for which `icmpv4_pointer` returns `None`.
 /// - `NoUdpChecksum` if a UDP packet has no checksum.
 /// - `Space` if the buffer is shorter than the translated packet.
@@ -131,7 +137,7 @@ fn translate_payload(
 }
 
 /// These fields of a fragment. Without a fragment header, the packet has this identification.
-fn fields_or(fragment: Option<FragmentFields>, identification: u16) -> FragmentFields
+pub(crate) fn fields_or(fragment: Option<FragmentFields>, identification: u16) -> FragmentFields
     ensures { result ≡ unwrap_or fragment (whole identification) }
 {
     match fragment {
@@ -147,9 +153,22 @@ fn header_before(header: &Ipv6HeaderSlice<'_>, number: u8, message: &[u8]) -> Ar
     ensures len { length result.items ≡ 40 }
     ensures front { specs.begins_with_header result.items ≡ true }
 {
+    header_counting(header, number, message.len() as u16)
+}
+
+/// This header, but with the number of this header or protocol after it, and with this payload length.
+pub(crate) fn header_counting(
+    header: &Ipv6HeaderSlice<'_>,
+    number: u8,
+    len: u16,
+) -> ArrayVec<u8, IPV6_LEN>
+    ensures bytes { result.items ≡ header_counting header.now number len }
+    ensures len { length result.items ≡ 40 }
+    ensures front { specs.begins_with_header result.items ≡ true }
+{
     ipv6_header(
         header.traffic_class(),
-        message.len() as u16,
+        len,
         [number, header.hop_limit()],
         header.source(),
         header.destination(),
@@ -157,7 +176,7 @@ fn header_before(header: &Ipv6HeaderSlice<'_>, number: u8, message: &[u8]) -> Ar
 }
 
 /// The IPv6 header that these bytes are.
-fn whole_header<'a>(bytes: &'a [u8]) -> Ipv6HeaderSlice<'a>
+pub(crate) fn whole_header<'a>(bytes: &'a [u8]) -> Ipv6HeaderSlice<'a>
     requires front { specs.begins_with_header bytes.now ≡ true }
     requires len { length bytes.now ≡ 40 }
     ensures { result ≡ bytes.now }
@@ -214,7 +233,7 @@ fn translate_part(
 }
 
 /// Refuses a fragment of an ICMPv6 message.
-fn check_protocol_of_part(protocol: IpNumber) -> Result<(), PacketTranslationError>
+pub(crate) fn check_protocol_of_part(protocol: IpNumber) -> Result<(), PacketTranslationError>
     ensures refused { RefusesExactly result (refused_if (protocol.0 == icmpv6_number) IcmpFragment) }
 {
     if protocol.0 == ip_number::IPV6_ICMP.0 {

@@ -30,8 +30,9 @@ use net_base::{IpNumber, Ipv4HeaderSlice, ip_number};
 /// (section 4.2). A message of any other protocol is unchanged.
 ///
 /// An ICMP error becomes the ICMPv6 error that `icmpv6_error` names, with the pointer of `icmpv6_pointer` or the MTU of `icmpv6_mtu`
-/// (section 4.2). The packet that it quotes is translated with the exchanged prefixes, and keeps its time to live (section 4.3). Its checksum
-/// is updated if the quote contains it. The quote is cut so that the IPv6 packet has at most 1280 bytes.
+/// (section 4.2). The packet that it quotes is translated with the exchanged prefixes, and keeps its time to live (section 4.3). A quoted
+/// fragment gets a fragment header. The checksum of the quoted message is updated if the quote contains it. The quote is cut so that the
+/// IPv6 packet has at most 1280 bytes.
 ///
 /// An extension of the error (RFC 4884) is unchanged, as section 4.2 requires. The length field is adjusted, and zeros after the quote are
 /// added. If the IPv6 packet would be longer than 1280 bytes, the extension is cut. "Packet too big" and "parameter problem" have no length
@@ -52,9 +53,10 @@ use net_base::{IpNumber, Ipv4HeaderSlice, ip_number};
 /// - `IcmpMessage` if an ICMP message is not an echo message, and `icmpv6_error` returns `None`.
 /// - `IcmpExtension` if the length field of an ICMP error (RFC 4884) is not 0, and states fewer than 128 bytes or more than there are.
 /// - `NoQuotedHeader` if the packet that an ICMP error quotes does not begin with a whole IPv4 header.
-/// - `QuotedHeader` if the quoted header has no translation. The call checks its total length, whether it is a fragment, and the addresses, as
-///   `header_to_ipv6` does.
+/// - `QuotedHeader` if the quoted header has no translation. The call checks its total length and the addresses, as `header_to_ipv6` does.
+/// - `IcmpFragment` if the quoted packet is a fragment of an ICMP message (section 1.2).
 /// - `TransportHeader` or `QuotedIcmp` if the quoted message of ICMP, UDP or TCP is shorter than 8 bytes, or is no echo message of ICMP.
+///   This is not checked in a later fragment.
 /// - `IcmpPointer` if a parameter problem has a pointer for which `icmpv6_pointer` returns `None`.
 /// - `FragmentChecksum` if the first fragment of a UDP packet has no checksum (section 4.5).
 /// - `UdpLength` if a UDP packet has no checksum, and its length field is below 8 or above the length of the message.

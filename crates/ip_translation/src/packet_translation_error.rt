@@ -32,8 +32,8 @@ pub enum PacketTranslationError {
         /// The code of the message.
         code_u8: u8,
     },
-    /// An ICMP error has this wrong length field, which counts units of four bytes of the quoted packet, and over IPv6 of eight (RFC 4884, section
-    /// 4). The length is below 128 bytes, or above the rest of the message.
+    /// An ICMP error has this wrong length field, which counts units of four bytes of the quoted packet, and over IPv6 of eight (RFC 4884,
+    /// section 4). The length is below 128 bytes, or above the rest of the message.
     IcmpExtension(u8),
     /// The pointer of an ICMP parameter problem points to this byte of the IP header, which has no place in the other version of IP.
     IcmpPointer(u32),
@@ -87,7 +87,7 @@ pub enum PacketTranslationError {
         /// The place of the field "segments left", in bytes from the start of the packet.
         pointer: usize,
     },
-    /// The packet is a fragment of an ICMP message (RFC 7915, section 1.2).
+    /// The packet is a fragment of an ICMP message, or an ICMP error quotes such a fragment (RFC 7915, section 1.2).
     IcmpFragment,
     /// The first fragment of a UDP packet over IPv4 has no checksum. The checksum can't be computed, since it covers the other fragments
     /// (RFC 7915, section 4.5).

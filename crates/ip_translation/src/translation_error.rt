@@ -22,7 +22,7 @@ pub enum TranslationError {
     HeaderChecksum,
     /// The packet is a fragment.
     Fragment,
-    /// The IPv4 options contain a loose or strict source route.
+    /// The IPv4 options contain a loose or strict source route that is not at its end.
     SourceRoute,
     /// The next header of an IPv6 header is this extension header: hop-by-hop options, routing, fragment or destination options.
     ExtensionHeader(u8),

@@ -5,7 +5,12 @@ use Rattle.etherparse_transport_c.proofs.siit.etherparse_ipv4_to_ipv6.Goals as g
 pub returns-in-Ok-ipv4_to_ipv6-clause-translated : goal.returns-in-Ok-ipv4_to_ipv6-clause-translated
 returns-in-Ok-ipv4_to_ipv6-clause-translated c = λ accepted. (
   c.in-Ok.prefixes,
-  record { source_is = c.in-Ok.ensures.source; destination_is = c.in-Ok.ensures.destination },
+  record {
+    source_is = c.in-Ok.ensures.source;
+    no_source_mappings = c.in-Ok.ensures.source_mappings;
+    destination_is = c.in-Ok.ensures.destination;
+    no_destination_mappings = c.in-Ok.ensures.destination_mappings;
+  },
   translated_answer _ _ _ _ _ _ _ _ _ c.in-Ok-ipv4_to_ipv6.ensures.refused c.accept.ensures.status c.accept.ensures.error
       c.in-Ok-ipv4_to_ipv6.ensures.len c.in-Ok-ipv4_to_ipv6.ensures.written,
 )
@@ -13,7 +18,12 @@ returns-in-Ok-ipv4_to_ipv6-clause-translated c = λ accepted. (
 pub returns-in-Err-ipv4_to_ipv6-clause-translated : goal.returns-in-Err-ipv4_to_ipv6-clause-translated
 returns-in-Err-ipv4_to_ipv6-clause-translated c = λ accepted. (
   c.in-Ok.prefixes,
-  record { source_is = c.in-Ok.ensures.source; destination_is = c.in-Ok.ensures.destination },
+  record {
+    source_is = c.in-Ok.ensures.source;
+    no_source_mappings = c.in-Ok.ensures.source_mappings;
+    destination_is = c.in-Ok.ensures.destination;
+    no_destination_mappings = c.in-Ok.ensures.destination_mappings;
+  },
   refused_answer _ c.in-Err-ipv4_to_ipv6.refused _ _ _ _ _ _ _ c.in-Err-ipv4_to_ipv6.ensures.refused
       (c.refuse-in-Err-ipv4_to_ipv6.ensures.status ∙ ap (λ error. error.status) c.of_siit.ensures.numbers)
       (c.refuse-in-Err-ipv4_to_ipv6.ensures.error ∙ c.of_siit.ensures.numbers) c.in-Err-ipv4_to_ipv6.ensures.unchanged,

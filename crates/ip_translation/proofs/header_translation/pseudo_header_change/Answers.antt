@@ -1,5 +1,5 @@
 use Rattle.std.proofs.Common.{◌+◌, ◌<◌, ℕ, rules, ap, ap₂, ◌∙◌, subst₂, arith}
-use Rattle.ip_translation.specs.Prefixes.{embedded}
+use Rattle.ip_translation.specs.AddressTables.{embedded}
 use Rattle.net_base.specs.PseudoHeader.{ipv4_pseudo_header, ipv6_pseudo_header}
 use Rattle.net_base.proofs.PseudoHeaderLemmas.{ipv4_pseudo_header_some, ipv6_pseudo_header_some}
 use Rattle.word_sum.specs.Checksum.{folded, total}

@@ -4,15 +4,17 @@ use Rattle.net_base.specs.IpHeaders.{ipv4_header_len}
 use Rattle.ip_translation.specs.Fragments.{whole}
 use Rattle.ip_translation.specs.HeadersToIpv4 as back
 use Rattle.ip_translation.specs.HeadersToIpv6 as headers
-use Rattle.ip_translation.specs.Prefixes.{embedded, extracted}
+use Rattle.ip_translation.specs.AddressTables.{ComesBack, embedded, extracted}
 use Rattle.ip_translation.proofs.BackLemmas.{destination_of, source_of}
 use Rattle.ip_translation.proofs.HeaderBackLemmas.{header_same}
 use Rattle.ip_translation.proofs.laws.header_there_and_back.Goals as goal
 
 pub returns-clause-addresses : goal.returns-clause-addresses
-returns-clause-addresses c =
+returns-clause-addresses c = λ come.
     let prefixes = c.args.prefixes.now in
     let header : List ℕ = c.args.header.now in
+    let source_back = subst (ComesBack prefixes.source) (sym c.source.ensures) come.source_back in
+    let destination_back = subst (ComesBack prefixes.destination) (sym c.destination.ensures) come.destination_back in
     let is_source : c.embed.result ≡ embedded prefixes.source (headers.source header) =
     c.embed.ensures.embedded ∙ ap (embedded prefixes.source) c.source.ensures in
     let is_destination : c.embed-2.result ≡ embedded prefixes.destination (headers.destination header) =
@@ -32,16 +34,19 @@ returns-clause-addresses c =
     (headers.time_to_live header - 1) (embedded prefixes.source (headers.source header))
     (embedded prefixes.destination (headers.destination header)) source_len destination_len in
     let same_source : extracted prefixes.source (back.source (headers.translated_header prefixes header)) ≡ headers.source header =
-    ap (extracted prefixes.source) (old_source ∙ sym is_source) ∙ c.embed.ensures.extracted ∙ c.source.ensures in
+    ap (extracted prefixes.source) (old_source ∙ sym is_source) ∙ c.embed.ensures.extracted source_back ∙ c.source.ensures in
     let same_destination : extracted prefixes.destination (back.destination (headers.translated_header prefixes header))
     ≡ headers.destination header =
-    ap (extracted prefixes.destination) (old_destination ∙ sym is_destination) ∙ c.embed-2.ensures.extracted ∙ c.destination.ensures in
+    ap (extracted prefixes.destination) (old_destination ∙ sym is_destination) ∙ c.embed-2.ensures.extracted destination_back
+    ∙ c.destination.ensures in
     (same_source, same_destination)
 
 pub returns-clause-back : goal.returns-clause-back
-returns-clause-back c = λ identification len first counted other.
+returns-clause-back c = λ come identification len first counted other.
     let prefixes = c.args.prefixes.now in
     let header : List ℕ = c.args.header.now in
+    let source_back = subst (ComesBack prefixes.source) (sym c.source.ensures) come.source_back in
+    let destination_back = subst (ComesBack prefixes.destination) (sym c.destination.ensures) come.destination_back in
     let fits : IsBytes header = subst IsBytes c.slice.ensures c.expect_bytes.ensures in
     let header_len : ipv4_header_len header ≡ 20 = ap (λ byte. byte % 16 * 4) first in
     let is_source : c.embed.result ≡ embedded prefixes.source (headers.source header) =
@@ -63,10 +68,11 @@ returns-clause-back c = λ identification len first counted other.
     (headers.time_to_live header - 1) (embedded prefixes.source (headers.source header))
     (embedded prefixes.destination (headers.destination header)) source_len destination_len in
     let same_source : extracted prefixes.source (back.source (headers.translated_header prefixes header)) ≡ headers.source header =
-    ap (extracted prefixes.source) (old_source ∙ sym is_source) ∙ c.embed.ensures.extracted ∙ c.source.ensures in
+    ap (extracted prefixes.source) (old_source ∙ sym is_source) ∙ c.embed.ensures.extracted source_back ∙ c.source.ensures in
     let same_destination : extracted prefixes.destination (back.destination (headers.translated_header prefixes header))
     ≡ headers.destination header =
-    ap (extracted prefixes.destination) (old_destination ∙ sym is_destination) ∙ c.embed-2.ensures.extracted ∙ c.destination.ensures in
+    ap (extracted prefixes.destination) (old_destination ∙ sym is_destination) ∙ c.embed-2.ensures.extracted destination_back
+    ∙ c.destination.ensures in
     let start : ℕ → List ℕ = λ header_len.
     let ipv6 : List ℕ = headers.ipv6_header (headers.type_of_service header) (headers.total_len header - header_len)
     (headers.next_header (headers.protocol header) ∷ (headers.time_to_live header - 1) ∷ [])

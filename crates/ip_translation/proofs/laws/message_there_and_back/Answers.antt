@@ -1,4 +1,4 @@
-use Rattle.std.proofs.Common.{◌≡◌, ◌+◌, ◌-◌, ◌==◌, false, if◌then◌else◌, List, ℕ, length, take, rules, sym, ap, ap₂, ◌∙◌, arith}
+use Rattle.std.proofs.Common.{◌≡◌, ◌+◌, ◌-◌, ◌==◌, false, if◌then◌else◌, List, ℕ, length, take, rules, sym, subst, ap, ap₂, ◌∙◌, arith}
 use Rattle.std.proofs.lemmas.Bool.Decides.{nat_tests}
 use Rattle.net_base.specs.IpHeaders.{ipv4_header_len}
 use Rattle.net_base.specs.IpNumbers.{udp_number}
@@ -10,14 +10,16 @@ use Rattle.ip_translation.specs.HeadersToIpv4 as back
 use Rattle.ip_translation.specs.HeadersToIpv6 as headers
 use Rattle.ip_translation.specs.PacketsToIpv4 as ipv4
 use Rattle.ip_translation.specs.PacketsToIpv6.{added_addresses, new_udp_checksum, removed_addresses, udp_checksum, udp_length}
-use Rattle.ip_translation.specs.Prefixes.{embedded, extracted}
+use Rattle.ip_translation.specs.AddressTables.{ComesBack, embedded, extracted}
 use Rattle.ip_translation.proofs.BackLemmas.{destination_of, source_of, tcp_same, udp_same}
 use Rattle.ip_translation.proofs.laws.message_there_and_back.Goals as goal
 
 pub returns-clause-udp : goal.returns-clause-udp
-returns-clause-udp c = λ packet fits there some.
+returns-clause-udp c = λ come packet fits there some.
     let prefixes = c.args.prefixes.now in
     let header : List ℕ = c.args.header.now in
+    let source_back = subst (ComesBack prefixes.source) (sym c.source.ensures) come.source_back in
+    let destination_back = subst (ComesBack prefixes.destination) (sym c.destination.ensures) come.destination_back in
     let is_source : c.embed.result ≡ embedded prefixes.source (headers.source header) =
     c.embed.ensures.embedded ∙ ap (embedded prefixes.source) c.source.ensures in
     let is_destination : c.embed-2.result ≡ embedded prefixes.destination (headers.destination header) =
@@ -42,8 +44,8 @@ returns-clause-udp c = λ packet fits there some.
     ap₂ (λ source destination. folded (total (extracted prefixes.source source) + total (extracted prefixes.destination destination)))
     old_source old_destination
     ∙ ap₂ (λ source destination. folded (total source + total destination))
-    (ap (extracted prefixes.source) (sym is_source) ∙ c.embed.ensures.extracted ∙ c.source.ensures)
-    (ap (extracted prefixes.destination) (sym is_destination) ∙ c.embed-2.ensures.extracted ∙ c.destination.ensures) in
+    (ap (extracted prefixes.source) (sym is_source) ∙ c.embed.ensures.extracted source_back ∙ c.source.ensures)
+    (ap (extracted prefixes.destination) (sym is_destination) ∙ c.embed-2.ensures.extracted destination_back ∙ c.destination.ensures) in
     let test : (udp_checksum packet == 0) ≡ false = grind (arith, nat_tests) in
     let updated : new_udp_checksum prefixes header packet
     ≡ updated_udp_checksum_of (udp_checksum packet) (removed_addresses header) (added_addresses prefixes header) =
@@ -58,9 +60,11 @@ returns-clause-udp c = λ packet fits there some.
     same same_too
 
 pub returns-clause-tcp : goal.returns-clause-tcp
-returns-clause-tcp c = λ segment fits there some.
+returns-clause-tcp c = λ come segment fits there some.
     let prefixes = c.args.prefixes.now in
     let header : List ℕ = c.args.header.now in
+    let source_back = subst (ComesBack prefixes.source) (sym c.source.ensures) come.source_back in
+    let destination_back = subst (ComesBack prefixes.destination) (sym c.destination.ensures) come.destination_back in
     let is_source : c.embed.result ≡ embedded prefixes.source (headers.source header) =
     c.embed.ensures.embedded ∙ ap (embedded prefixes.source) c.source.ensures in
     let is_destination : c.embed-2.result ≡ embedded prefixes.destination (headers.destination header) =
@@ -85,8 +89,8 @@ returns-clause-tcp c = λ segment fits there some.
     ap₂ (λ source destination. folded (total (extracted prefixes.source source) + total (extracted prefixes.destination destination)))
     old_source old_destination
     ∙ ap₂ (λ source destination. folded (total source + total destination))
-    (ap (extracted prefixes.source) (sym is_source) ∙ c.embed.ensures.extracted ∙ c.source.ensures)
-    (ap (extracted prefixes.destination) (sym is_destination) ∙ c.embed-2.ensures.extracted ∙ c.destination.ensures) in
+    (ap (extracted prefixes.source) (sym is_source) ∙ c.embed.ensures.extracted source_back ∙ c.source.ensures)
+    (ap (extracted prefixes.destination) (sym is_destination) ∙ c.embed-2.ensures.extracted destination_back ∙ c.destination.ensures) in
     tcp_same segment (removed_addresses header) (added_addresses prefixes header) _ _ fits (omega (arith, there)) some
     (folded-lt (total (headers.source header) + total (headers.destination header)))
     (folded-lt (total (embedded prefixes.source (headers.source header))

@@ -6,7 +6,7 @@ use Rattle.word_sum.specs.Checksum.{complement, folded, total, zero_as_all_ones}
 use Rattle.word_sum.proofs.ChecksumLemmas.{folded-add}
 use Rattle.ip_translation.specs.HeadersToIpv6.{destination, new_pseudo_header, source}
 use Rattle.ip_translation.specs.PacketsToIpv6.{udp_length}
-use Rattle.ip_translation.specs.Prefixes.{embedded}
+use Rattle.ip_translation.specs.AddressTables.{embedded}
 use Rattle.ip_translation.proofs.message_translation.computed_udp_checksum.Goals as goal
 
 pub returns : goal.returns

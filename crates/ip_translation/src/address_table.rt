@@ -1,0 +1,105 @@
+ghost use Rattle.std.specs.Prelude.{◌≡◌, IfOk, None, Some};
+ghost use Rattle.std.specs.Int.{from_be_bytes, w32};
+ghost use Rattle.net_base.specs.Refusals.{RefusesExactly};
+ghost use Rattle.ip_translation.specs.AddressMappings as specs;
+ghost use Rattle.ip_translation.specs.AddressTables as tables;
+
+use crate::{AddressError, AddressMapping, Prefix64};
+
+/// How addresses are translated: by the explicit mapping with the longest prefix, or by a prefix if no mapping applies (RFC 7757, section
+/// 3.3).
+///
+/// An IPv4 address is compared with the IPv4 prefixes of the mappings, and an IPv6 address with the IPv6 prefixes. If several mappings have
+/// the same prefix, the first mapping applies.
+#[derive(Clone, Copy, Debug, PartialEq, Eq)]
+pub struct AddressTable<'a> {
+    /// The explicit mappings, in any order.
+    pub mappings: &'a [AddressMapping],
+    /// The prefix for all addresses without a mapping.
+    pub prefix: Prefix64,
+}
+
+impl<'a> AddressTable<'a> {
+    /// The IPv6 address for an IPv4 address.
+    pub fn embed(&self, ipv4: [u8; 4]) -> [u8; 16]
+        ensures embedded { result ≡ tables.embedded self.now ipv4 }
+        // If there are no mappings, this is true for every address.
+        ensures extracted { tables.ComesBack self.now ipv4 → tables.extracted self.now result ≡ ipv4 }
+    {
+        let number = u32::from_be_bytes(ipv4);
+        match longest_ipv4(self.mappings, number) {
+            Some(mapping) => mapping.to_ipv6(number).to_be_bytes(),
+            None => self.prefix.embed(ipv4),
+        }
+    }
+
+    /// The IPv4 address for an IPv6 address. If no mapping applies, these are the bits after the prefix, even if the address does not begin
+    /// with the prefix.
+    pub(crate) fn ipv4_of(&self, address: &[u8; 16]) -> [u8; 4]
+        ensures ipv4 { result ≡ tables.extracted self.now address.now }
+    {
+        let number = u128::from_be_bytes(*address);
+        match longest_ipv6(self.mappings, number) {
+            Some(mapping) => mapping.to_ipv4(number).to_be_bytes(),
+            None => self.prefix.front(address).1,
+        }
+    }
+
+    /// Translates an address of an IPv4 packet to IPv6, as `embed` does.
+    ///
+    /// # Errors
+    ///
+    /// The error of `Prefix64::to_ipv6`, if no mapping applies. An address with a mapping is never refused.
+    pub fn to_ipv6(&self, ipv4: [u8; 4]) -> Result<[u8; 16], AddressError>
+        ensures refused { RefusesExactly result (tables.to_ipv6_refusal self.now ipv4) }
+        ensures embedded { IfOk result (λ address. address ≡ tables.embedded self.now ipv4) }
+    {
+        let number = u32::from_be_bytes(ipv4);
+        match longest_ipv4(self.mappings, number) {
+            Some(mapping) => Ok(mapping.to_ipv6(number).to_be_bytes()),
+            None => self.prefix.to_ipv6(ipv4),
+        }
+    }
+
+    /// Translates an address of an IPv6 packet to IPv4.
+    ///
+    /// # Errors
+    ///
+    /// The error of `Prefix64::to_ipv4`, if no mapping applies. An address with a mapping is never refused.
+    pub fn to_ipv4(&self, address: &[u8; 16]) -> Result<[u8; 4], AddressError>
+        ensures refused { RefusesExactly result (tables.to_ipv4_refusal self.now address.now) }
+        ensures extracted { IfOk result (λ ipv4. ipv4 ≡ tables.extracted self.now address.now) }
+    {
+        let number = u128::from_be_bytes(*address);
+        match longest_ipv6(self.mappings, number) {
+            Some(mapping) => Ok(mapping.to_ipv4(number).to_be_bytes()),
+            None => self.prefix.to_ipv4(address),
+        }
+    }
+}
+
+/// The mapping with the longest IPv4 prefix that the IPv4 address with this number begins with.
+fn longest_ipv4(mappings: &[AddressMapping], address: u32) -> Option<AddressMapping>
+    ensures { result ≡ specs.longest_ipv4 mappings.now address }
+{
+    let mut found = None;
+    let mut left = mappings;
+    while let [first, rest @ ..] = left {
+        found = first.better_ipv4(found, address);
+        left = rest;
+    }
+    found
+}
+
+/// The mapping with the longest IPv6 prefix that the IPv6 address with this number begins with.
+fn longest_ipv6(mappings: &[AddressMapping], address: u128) -> Option<AddressMapping>
+    ensures { result ≡ specs.longest_ipv6 mappings.now address }
+{
+    let mut found = None;
+    let mut left = mappings;
+    while let [first, rest @ ..] = left {
+        found = first.better_ipv6(found, address);
+        left = rest;
+    }
+    found
+}

@@ -1,6 +1,0 @@
-pub fn shown ( )
-    ensures { } ;
-pub fn totals ( )
-    ensures { } ;
-pub fn unique ( )
-    ensures { } ;

@@ -1,9 +1,0 @@
-pub mod BinLemmas
-pub mod CountLemmas
-pub mod IntervalLemmas
-pub mod MergingLemmas
-pub mod TimelineExamples
-pub mod TimelineLemmas
-pub mod TotalLemmas
-pub mod UniqueLemmas
-pub mod WidthLemmas

@@ -1,4 +1,0 @@
-pub mod Counts
-pub mod Intervals
-pub mod Timelines
-pub mod Widening
