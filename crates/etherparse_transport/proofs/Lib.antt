@@ -9,6 +9,7 @@ pub mod IcmpErrorLemmas
 pub mod Ipv4ThereAndBack
 pub mod Ipv6ThereAndBack
 pub mod PacketLemmas
+pub mod PacketsThereAndBack
 pub mod ReplacedBytes
 pub mod ReplyToLemmas
 pub mod SegmentSizeExamples

@@ -7,7 +7,7 @@ use Rattle.icmp_part.specs.QuotedPackets.{quoted_by_icmpv4, quoted_by_icmpv6}
 use Rattle.ip_part.specs.Addresses.{Ipv4, Ipv6, by_value}
 use Rattle.ip_part.specs.ExtensionHeaders.{destination_by, is_extension, source_by}
 use Rattle.ip_part.specs.Headers.{Headers}
-use Rattle.ip_part.specs.Ip.{Carries, IsAfterHeaders, IsOverIpv4, counted, counted_len, first_headers, is_extended}
+use Rattle.ip_part.specs.Ip.{Carries, IsAfterHeaders, counted, counted_len, first_headers, is_extended}
 use Rattle.ip_part.specs.Ip as ip
 use Rattle.ip_part.specs.Protocols.{proto_over}
 use Rattle.ip_part.specs.declared.ip_error.IpError.{IpError}
@@ -17,25 +17,25 @@ use Rattle.ip_part.proofs.HeadersLemmas.{ended}
 use Rattle.ip_part.specs.declared.transport.TransportInIp.{TransportInIp}
 use Rattle.ip_part.specs.declared.proto.Proto.{Proto}
 use Rattle.net_base.specs.Bytes.{be_number}
-use Rattle.net_base.specs.IpHeaders.{BeginsWithIpv4Header, BeginsWithIpv6Header, ipv4_fragment_offset, ipv4_header_len, ipv4_header_of, ipv6_header_of, version}
+use Rattle.net_base.specs.IpHeaders.{BeginsWithIpv4Header, BeginsWithIpv6Header, ipv4_fragment_offset, ipv4_header_len, version}
 use Rattle.word_sum.specs.Checksum.{folded}
 use Rattle.word_sum.proofs.ChecksumLemmas.{folded-add}
 use Rattle.etherparse_transport.proofs.BuiltLemmas.{mapped_none, none_first, none_if}
 use Rattle.etherparse_transport.proofs.EchoReplyLemmas.{is_number, once}
 use Rattle.etherparse_transport.proofs.UpdatedAlike.{translated_alike}
 use Rattle.etherparse_transport.specs.Packets.{number_of}
-use Rattle.etherparse_transport.specs.Ipv4Translations.{IsIpv4Place, has_source_route, ipv4_addresses, ipv4_flow_message, ipv4_is_later_fragment, ipv4_message_refusal, ipv4_place_refusal, ipv4_proto, ipv4_quoted, ipv4_quoted_refusal, ipv4_refusal_by, covers_ipv4_addresses, message_in_ipv4, sum_of_ipv4}
-use Rattle.etherparse_transport.specs.Ipv6Translations.{IsIpv6Place, ipv6_addresses, ipv6_flow_message, ipv6_is_later_fragment, ipv6_message_refusal, ipv6_place_refusal, ipv6_proto, ipv6_protocol, ipv6_quoted, ipv6_quoted_refusal, ipv6_refusal_by, covers_ipv6_addresses, message_in_ipv6, sum_of_ipv6}
-use Rattle.etherparse_transport.specs.Translations.{AreUpdatedAlike, counted_after, message_refusal, quoted_in, translated_in, with_bytes}
-use Rattle.std.specs.Prelude.{is_none, nat_lt, unwrap_or}
+use Rattle.etherparse_transport.specs.Families.{addresses_of, flow_message, new_addresses, sum_of, Family, Translation, message_by, message_in, message_of_both, quoted_packet, quoted_refusal, refusal_with}
+use Rattle.etherparse_transport.specs.WaysBack.{IsTranslation}
+use Rattle.etherparse_transport.specs.Ipv4Translations.{ipv4, IsIpv4Place, has_source_route, ipv4_is_later_fragment, ipv4_place_refusal, ipv4_proto, covers_ipv4_addresses, message_in_ipv4}
+use Rattle.etherparse_transport.specs.Ipv6Translations.{ipv6, IsIpv6Place, ipv6_place_refusal, ipv6_proto, ipv6_protocol, covers_ipv6_addresses}
+use Rattle.etherparse_transport.specs.Translations.{has_port, AreUpdatedAlike, counted_after, message_refusal, quoted_in, translated_in, with_bytes}
+use Rattle.std.specs.Prelude.{IfSome, is_none, nat_lt, unwrap_or}
 use Rattle.std.specs.Option.{option_map}
 use Rattle.net_base.specs.Refusals.{first_of, refused_if}
 use Rattle.net_base.specs.declared.ip_number.IpNumber.{IpNumber}
 use Rattle.etherparse_transport.specs.declared.err.packet.translate_error.TranslateError.{TranslateError}
 use Rattle.etherparse_transport.specs.declared.err.packet.translate_error.TranslateError.TheVariants.{Ip, OtherVersion, Protocol, QuotedPacket, SourceRoute}
 use Rattle.etherparse_transport.specs.declared.ip.message_place.Place.{Place}
-use Rattle.etherparse_transport.specs.declared.ip.ipv4_translation.Ipv4Translation.{Ipv4Translation}
-use Rattle.etherparse_transport.specs.declared.ip.ipv6_translation.Ipv6Translation.{Ipv6Translation}
 
 -- ---- the message in its packet
 
@@ -143,20 +143,19 @@ put_is place end bytes new len =
 
 -- ---- the message of a packet
 
-pub ipv4_flow_message_is : (new : Ipv4Translation) (packet message : List ℕ) (is_later_fragment : Bool) (proto : Option Proto)
+pub flow_message_is : (family : Family) (new : Translation) (packet message bytes : List ℕ) (is_later_fragment : Bool)
+    (proto : Option Proto)
     (removed added : ℕ)
-    → is_later_fragment ≡ ipv4_is_later_fragment packet → proto ≡ ipv4_proto packet
-    → removed ≡ sum_of_ipv4 (ipv4_header_of packet) → added ≡ sum_of_ipv4 (ipv4_addresses new packet)
-    → translated_in is_later_fragment proto removed added new.source_port new.destination_port message
-    ≡ ipv4_flow_message new message packet
-ipv4_flow_message_is new packet message is_later_fragment proto removed added later known is is_too =
-    let message_of : Bool → Option Proto → ℕ → ℕ → List ℕ = λ later proto removed added.
-    translated_in later proto removed added new.source_port new.destination_port message in
-    let later_is : Bool = ipv4_is_later_fragment packet in
-    ap (λ later. message_of later proto removed added) later
-    ∙ ap (λ removed. message_of later_is proto removed added) is
-    ∙ ap (λ added. message_of later_is proto (sum_of_ipv4 (ipv4_header_of packet)) added) is_too
-    ∙ ap (λ proto. message_of later_is proto (sum_of_ipv4 (ipv4_header_of packet)) (sum_of_ipv4 (ipv4_addresses new packet))) known
+    → bytes ≡ message → is_later_fragment ≡ family.is_later_fragment packet → proto ≡ family.proto packet
+    → AreUpdatedAlike removed added (sum_of (addresses_of family packet)) (sum_of (new_addresses family new packet))
+    → translated_in is_later_fragment proto removed added new.source_port new.destination_port bytes ≡ flow_message family new message
+    packet
+flow_message_is family new packet message bytes is_later_fragment proto removed added is later known alike =
+    let later_is : Bool = family.is_later_fragment packet in
+    ap (translated_in is_later_fragment proto removed added new.source_port new.destination_port) is
+    ∙ ap (λ later. translated_in later proto removed added new.source_port new.destination_port message) later
+    ∙ ap (λ proto. translated_in later_is proto removed added new.source_port new.destination_port message) known
+    ∙ translated_alike later_is (family.proto packet) removed added _ _ new.source_port new.destination_port message alike
 
 -- ---- the quoted packet
 
@@ -499,11 +498,6 @@ pub quoted_is_refused : (refusal : Option TranslateError) → refusal ≢ None �
 quoted_is_refused None refused = absurd (refused refl)
 quoted_is_refused (Some error) refused = refl
 
--- the rules for a message and its quoted packet, by the place of the message
-pub record IsIpv4Left (has_port has_quoted_port : Bool) (packet : List ℕ) (quoted : Option (List ℕ)) : Type 0 where
-  pub refusal : ipv4_refusal_by has_port has_quoted_port packet ≡ ipv4_quoted_refusal has_quoted_port quoted
-  pub quoted_is : ipv4_quoted packet ≡ quoted
-
 first_of_one : {E : Type 0} (rule : Option E) → first_of (rule ∷ []) ≡ rule
 first_of_one None = refl
 first_of_one (Some error) = refl
@@ -513,73 +507,55 @@ pub last_of_three : {E : Type 0} (first second third : Option E) → first ≡ N
 last_of_three first second third is is_too =
     ap (λ first. first_of (first ∷ second ∷ third ∷ [])) is ∙ ap (λ second. first_of (second ∷ third ∷ [])) is_too ∙ first_of_one third
 
-pub ipv4_left : (has_port has_quoted_port : Bool) (packet : List ℕ) (place : Place) (quoted : Option (List ℕ))
-    → IsIpv4Place (message_in_ipv4 false packet) packet place
-    → ipv4_place_refusal false has_port packet ≡ None
+-- `place` states where the message of a packet is, and which protocol it has
+pub record IsMessageAt (family : Family) (packet : List ℕ) (place : Place) : Type 0 where
+  pub message : slice_range packet place.start place.end ≡ message_in family false packet
+  pub proto : place.proto ≡ family.proto packet
+  pub later : place.is_later_fragment ≡ family.is_later_fragment packet
+
+pub ipv4_at : (packet : List ℕ) (place : Place) → IsIpv4Place (message_in_ipv4 false packet) packet place → IsMessageAt ipv4 packet place
+ipv4_at packet place at = record { message = at.message; proto = at.proto; later = at.later }
+
+pub ipv6_at : (packet : List ℕ) (place : Place) → IsIpv6Place packet place → IsMessageAt ipv6 packet place
+ipv6_at packet place at = record { message = at.message; proto = at.proto; later = at.later }
+
+-- what is left after the place of the message is found, and the message is accepted, if the packet quotes this packet
+pub record IsLeft (family : Family) (new of_quoted : Translation) (packet : List ℕ) (quoted : Option (List ℕ)) : Type 0 where
+  pub quoted_is : quoted_packet family packet ≡ quoted
+  pub message : message_of_both family new of_quoted packet ≡ message_by family quoted new of_quoted packet
+  pub refusal : refusal_with family new of_quoted packet
+      ≡ quoted_refusal family (has_port of_quoted.source_port of_quoted.destination_port) quoted
+  pub types : IfSome quoted (λ _. IsTranslation family of_quoted)
+      → IfSome (quoted_packet family packet) (λ _. IsTranslation family of_quoted)
+
+pub left : (family : Family) (new of_quoted : Translation) (packet : List ℕ) (place : Place) (len known : Option ℕ)
+    → IsMessageAt family packet place
+    → family.place_refusal false (has_port new.source_port new.destination_port) packet ≡ None
     → message_refusal place.is_later_fragment place.proto (slice_range packet place.start place.end) ≡ None
-    → quoted_in place.is_later_fragment place.proto (slice_range packet place.start place.end) ≡ quoted
-    → IsIpv4Left has_port has_quoted_port packet quoted
-ipv4_left has_port has_quoted_port packet place quoted at found accepted quotes =
-    let message : List ℕ = message_in_ipv4 false packet in
-    let later : Bool = ipv4_is_later_fragment packet in
-    let no_error : ipv4_message_refusal packet ≡ None =
-    sym (ap (message_refusal place.is_later_fragment place.proto) at.message
-    ∙ ap (λ later. message_refusal later place.proto message) at.later
-    ∙ ap (λ proto. message_refusal later proto message) at.proto) ∙ accepted in
-    let quoted_is : ipv4_quoted packet ≡ quoted =
+    → quoted_in place.is_later_fragment place.proto (slice_range packet place.start place.end)
+    ≡ option_map (λ len. slice_range (slice_range packet place.start place.end) 8 (8 + len)) len
+    → len ≡ known
+    → IsLeft family new of_quoted packet (option_map (λ len. slice_range (message_in family false packet) 8 (8 + len)) known)
+left family new of_quoted packet place len known at found accepted quotes is =
+    let later : Bool = family.is_later_fragment packet in
+    let message : List ℕ = message_in family false packet in
+    let quoted_is : quoted_packet family packet ≡ option_map (λ len. slice_range message 8 (8 + len)) known =
     sym (ap (quoted_in place.is_later_fragment place.proto) at.message
     ∙ ap (λ later. quoted_in later place.proto message) at.later
-    ∙ ap (λ proto. quoted_in later proto message) at.proto) ∙ quotes in
+    ∙ ap (λ proto. quoted_in later proto message) at.proto)
+    ∙ quotes ∙ ap (option_map (λ len. slice_range (slice_range packet place.start place.end) 8 (8 + len))) is
+    ∙ ap (λ message. option_map (λ len. slice_range message 8 (8 + len)) known) at.message in
     record {
-      refusal = last_of_three (ipv4_place_refusal false has_port packet) (ipv4_message_refusal packet)
-          (ipv4_quoted_refusal has_quoted_port (ipv4_quoted packet)) found no_error
-          ∙ ap (ipv4_quoted_refusal has_quoted_port) quoted_is;
       quoted_is = quoted_is;
+      message = ap (λ quoted. message_by family quoted new of_quoted packet) quoted_is;
+      refusal = last_of_three _ _ _ found (sym (ap (message_refusal place.is_later_fragment place.proto) at.message
+          ∙ ap (λ later. message_refusal later place.proto message) at.later
+          ∙ ap (λ proto. message_refusal later proto message) at.proto) ∙ accepted)
+          ∙ ap (quoted_refusal family (has_port of_quoted.source_port of_quoted.destination_port)) quoted_is;
+      types = subst (λ quoted. IfSome quoted (λ _. IsTranslation family of_quoted)) (sym quoted_is);
     }
 
 -- ---- IPv6
-
-pub ipv6_flow_message_is : (new : Ipv6Translation) (packet bytes : List ℕ) (is_later_fragment : Bool) (proto : Option Proto)
-    (removed added : ℕ)
-    → bytes ≡ message_in_ipv6 packet → is_later_fragment ≡ ipv6_is_later_fragment packet → proto ≡ ipv6_proto packet
-    → AreUpdatedAlike removed added (sum_of_ipv6 (ipv6_header_of packet)) (sum_of_ipv6 (ipv6_addresses new packet))
-    → translated_in is_later_fragment proto removed added new.source_port new.destination_port bytes ≡ ipv6_flow_message new packet
-ipv6_flow_message_is new packet bytes is_later_fragment proto removed added message later known alike =
-    let message_of : Bool → Option Proto → ℕ → ℕ → List ℕ → List ℕ = λ later proto removed added bytes.
-    translated_in later proto removed added new.source_port new.destination_port bytes in
-    let later_is : Bool = ipv6_is_later_fragment packet in
-    ap (message_of is_later_fragment proto removed added) message
-    ∙ ap (λ later. message_of later proto removed added (message_in_ipv6 packet)) later
-    ∙ ap (λ proto. message_of later_is proto removed added (message_in_ipv6 packet)) known
-    ∙ translated_alike later_is (ipv6_proto packet) removed added _ _ new.source_port new.destination_port (message_in_ipv6 packet) alike
-
--- the rules that are left for a message and its quoted packet after the place of the message is found
-pub record IsIpv6Left (has_port has_quoted_port : Bool) (packet : List ℕ) (quoted : Option (List ℕ)) : Type 0 where
-  pub refusal : ipv6_refusal_by has_port has_quoted_port packet ≡ ipv6_quoted_refusal has_quoted_port quoted
-  pub quoted_is : ipv6_quoted packet ≡ quoted
-
-pub ipv6_left : (has_port has_quoted_port : Bool) (packet : List ℕ) (place : Place) (quoted : Option (List ℕ)) → IsIpv6Place packet place
-    → ipv6_place_refusal has_port packet ≡ None
-    → message_refusal place.is_later_fragment place.proto (slice_range packet place.start place.end) ≡ None
-    → quoted_in place.is_later_fragment place.proto (slice_range packet place.start place.end) ≡ quoted
-    → IsIpv6Left has_port has_quoted_port packet quoted
-ipv6_left has_port has_quoted_port packet place quoted at found accepted quotes =
-    let message : List ℕ = message_in_ipv6 packet in
-    let later : Bool = ipv6_is_later_fragment packet in
-    let no_error : ipv6_message_refusal packet ≡ None =
-    sym (ap (message_refusal place.is_later_fragment place.proto) at.message
-    ∙ ap (λ later. message_refusal later place.proto message) at.later
-    ∙ ap (λ proto. message_refusal later proto message) at.proto) ∙ accepted in
-    let quoted_is : ipv6_quoted packet ≡ quoted =
-    sym (ap (quoted_in place.is_later_fragment place.proto) at.message
-    ∙ ap (λ later. quoted_in later place.proto message) at.later
-    ∙ ap (λ proto. quoted_in later proto message) at.proto) ∙ quotes in
-    record {
-      refusal = last_of_three (ipv6_place_refusal has_port packet) (ipv6_message_refusal packet)
-          (ipv6_quoted_refusal has_quoted_port (ipv6_quoted packet)) found no_error
-          ∙ ap (ipv6_quoted_refusal has_quoted_port) quoted_is;
-      quoted_is = quoted_is;
-    }
 
 pub ipv6_number : (source : List ℕ) (destination : Option (List ℕ)) (number : ℕ) (proto : Proto)
     → Some proto ≡ proto_over (Ipv6 source destination) number → number ≡ number_of proto

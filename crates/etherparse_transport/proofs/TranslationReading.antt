@@ -18,18 +18,19 @@ use Rattle.ip_part.specs.declared.ip_error.IpError.TheVariants.{HeaderCutOff, He
 use Rattle.ip_part.specs.declared.proto.Proto.{Proto}
 use Rattle.ip_part.specs.declared.transport.TransportInIp.{TransportInIp}
 use Rattle.ip_part.proofs.HeadersLemmas.{ended}
-use Rattle.net_base.specs.IpHeaders.{BeginsWithIpv6Header, ipv4_fragment_offset, ipv4_header_len, version}
+use Rattle.net_base.specs.IpHeaders.{BeginsWithIpv6Header, ipv4_fragment_offset, ipv4_header_len, ipv4_header_of, version}
 use Rattle.net_base.specs.Refusals.{first_of, refused_if}
 use Rattle.ip_part.specs.declared.proto.Proto.TheVariants as protos
 use Rattle.net_base.specs.StoredChecksum.{with_checksum}
 use Rattle.std.specs.Int.{to_be_bytes, w16}
+use Rattle.word_sum.specs.UpdatedChecksum.{updated_checksum_of}
 use Rattle.etherparse_transport.specs.SkippedHeaders.{header_at, is_skipped, only_ipv6_header, skip, skipped_headers, with_next}
 use Rattle.etherparse_transport.specs.declared.ip.skipped_headers.SkippedHeaders.{SkippedHeaders}
-use Rattle.etherparse_transport.specs.Translations.{IsReadWith, counted_after, is_query, new_identifier, translated_in, translated_message, translated_query, with_bytes, with_number, with_ports, with_updated_checksum}
+use Rattle.etherparse_transport.specs.Translations.{IsReadWith, counted_after, is_query, new_identifier, number, translated_in, translated_message, translated_query, with_bytes, with_number, with_ports, with_updated_checksum}
 use Rattle.std.specs.Option.{option_map}
 use Rattle.etherparse_transport.proofs.SourceRouteLemmas.{no_route as route_read_too}
 use Rattle.etherparse_transport.specs.SourceRoutes.{contain_source_route}
-use Rattle.etherparse_transport.specs.Ipv4Translations.{AreIpv4Addresses, IsIpv4Place, ipv4_addresses, ipv4_between, ipv4_flow_message, ipv4_is_later_fragment, ipv4_headers_refusal, ipv4_place_refusal, ipv4_proto, ipv4_with_message, covers_ipv4_addresses, has_source_route, message_in_ipv4, updated_header_checksum}
+use Rattle.etherparse_transport.specs.Ipv4Translations.{AreIpv4Addresses, IsIpv4Place, ipv4_addresses, ipv4_between, ipv4_flow_message, ipv4_is_later_fragment, ipv4_headers_refusal, ipv4_place_refusal, ipv4_proto, ipv4_with_message, covers_ipv4_addresses, has_source_route, message_in_ipv4, sum_of_ipv4}
 use Rattle.etherparse_transport.specs.Ipv6Translations.{AreIpv6Addresses, IsIpv6Place, covers_ipv6_addresses, ipv6_addresses, ipv6_between, ipv6_flow_message, ipv6_is_later_fragment, ipv6_place_refusal, ipv6_proto, ipv6_protocol, ipv6_start, ipv6_with_message, message_in_ipv6}
 use Rattle.etherparse_transport.specs.declared.ip.ipv4_translation.Ipv4Translation.{Ipv4Translation}
 use Rattle.etherparse_transport.specs.declared.ip.ipv6_translation.Ipv6Translation.{Ipv6Translation}
@@ -90,6 +91,44 @@ module _ (place : ℕ) (new bytes : List ℕ) (there : place + length new ≤ le
       ∙ sym (get_or-drop k (with_bytes place new bytes) 0 0) ∙ ap (λ rest. slice_index rest 0) (drop_after k after)
       ∙ get_or-drop k bytes 0 0 ∙ ap (slice_index bytes) (sym at)
 
+-- ---- replaced addresses
+
+-- the addresses are replaced at two places
+module _ (first second n : ℕ) (source destination bytes : List ℕ) (apart : first + n ≤ second) (is : length source ≡ n)
+    (is_too : length destination ≡ n) (there : second + n ≤ length bytes) where
+  abbrev with_first : List ℕ
+  with_first = with_bytes first source bytes
+
+  abbrev with_both : List ℕ
+  with_both = with_bytes second destination with_first
+
+  first_there : first + length source ≤ length bytes
+  first_there = omega (arith, apart, is, there)
+
+  second_there : second + length destination ≤ length with_first
+  second_there = omega (arith, is_too, there, length_kept first source bytes first_there)
+
+  pub both_len : length with_both ≡ length bytes
+  both_len = length_kept second destination with_first second_there ∙ length_kept first source bytes first_there
+
+  pub both_before : (k : ℕ) → k < first → slice_index with_both k ≡ slice_index bytes k
+  both_before k before =
+      index_before second destination with_first second_there k (omega (arith, before, apart))
+      ∙ index_before first source bytes first_there k before
+
+  pub both_after : (k : ℕ) → second + n ≤ k → drop k with_both ≡ drop k bytes
+  both_after k after =
+      drop_after second destination with_first second_there k (omega (arith, after, is_too))
+      ∙ drop_after first source bytes first_there k (omega (arith, after, apart, is))
+
+  pub source_in : take n (drop first with_both) ≡ source
+  source_in =
+      range_before second destination with_first second_there first n apart
+      ∙ ap (λ n. take n (drop first with_first)) (sym is) ∙ range_at first source bytes first_there
+
+  pub destination_in : take n (drop second with_both) ≡ destination
+  destination_in = ap (λ n. take n (drop second with_both)) (sym is_too) ∙ range_at second destination with_first second_there
+
 -- ---- the message
 
 kept_by : (is_cut : Bool) (len n : ℕ) (packet changed message : List ℕ) → is_cut ≡ nat_lt (length packet) n
@@ -131,7 +170,7 @@ pub record IsKept (count : ℕ) (packet changed : List ℕ) : Type 0 where
   pub front : (k : ℕ) → k < count → slice_index changed k ≡ slice_index packet k
 
 -- an accepted packet without a source route, or a quoted packet
-pub record IsIpv4Flow (is_quoted : Bool) (packet : List ℕ) (proto : Option Proto) : Type 0 where
+pub record IsIpv4Flow (is_quoted : Bool) (packet : List ℕ) : Type 0 where
   pub accepted : ipv4_headers_refusal is_quoted packet ≡ None
   pub is_ipv4 : version packet ≡ 4
   pub five_words : 20 ≤ ipv4_header_len packet
@@ -207,8 +246,8 @@ ipv4_header_accepted packet changed is is_too len header_len total_len =
     ∙ sym (ipv4_header_refusal_is packet is)
 
 -- no extension header comes next
-ipv4_ended : (packet : List ℕ) (proto : Option Proto) → IsIpv4Flow false packet proto → is_extended (first_headers packet) ≡ false
-ipv4_ended packet proto flow =
+ipv4_ended : (packet : List ℕ) → IsIpv4Flow false packet → is_extended (first_headers packet) ≡ false
+ipv4_ended packet flow =
     let four : Headers = ip.ipv4_headers (ipv4_header_len packet) (ip.ipv4_header packet) in
     ap (λ v. is_extended (if v == 4 then four else ip.ipv6_headers (ip.is_jumbogram packet) (ip.ipv6_header packet))) flow.is_ipv4
     ∙ ap (λ b. (b && (ipv4_fragment_offset (ip.ipv4_header packet) == 0)) && is_extension (slice_index (ip.ipv4_header packet) 9))
@@ -239,10 +278,10 @@ headers_kept : (is_quoted : Bool) (packet changed : List ℕ) → ipv4_headers_r
 headers_kept true packet changed accepted header all = header ∙ accepted
 headers_kept false packet changed accepted header all = all accepted
 
-pub ipv4_flow_kept : (is_quoted : Bool) (packet changed : List ℕ) (proto : Option Proto) → IsIpv4Kept packet changed
-    → IsIpv4Flow is_quoted packet proto
-    → IsIpv4Flow is_quoted changed proto
-ipv4_flow_kept is_quoted packet changed proto kept flow =
+pub ipv4_flow_kept : (is_quoted : Bool) (packet changed : List ℕ) → IsIpv4Kept packet changed
+    → IsIpv4Flow is_quoted packet
+    → IsIpv4Flow is_quoted changed
+ipv4_flow_kept is_quoted packet changed kept flow =
     let is : version changed ≡ 4 = ap (λ byte. byte / 16) (kept.front.front 0 (omega arith)) ∙ flow.is_ipv4 in
     let header_len : ipv4_header_len changed ≡ ipv4_header_len packet = header_len_kept packet changed kept in
     let five : 20 ≤ ipv4_header_len changed = omega (arith, header_len, flow.five_words) in
@@ -267,11 +306,11 @@ ipv4_flow_kept is_quoted packet changed proto kept flow =
       there = omega (arith, kept.front.len, header_len, flow.there);
     }
 
-ipv4_headers_are : (packet : List ℕ) (proto : Option Proto) (found : TransportInIp) (carries : Carries packet found)
-    → IsIpv4Flow false packet proto
+ipv4_headers_are : (packet : List ℕ) (found : TransportInIp) (carries : Carries packet found)
+    → IsIpv4Flow false packet
     → carries.headers ≡ ip.ipv4_headers (ipv4_header_len packet) (ip.ipv4_header packet)
-ipv4_headers_are packet proto found carries flow =
-    first_is_last packet found carries (ipv4_ended packet proto flow)
+ipv4_headers_are packet found carries flow =
+    first_is_last packet found carries (ipv4_ended packet flow)
     ∙ ap (λ v. if v == 4 then ip.ipv4_headers (ipv4_header_len packet) (ip.ipv4_header packet)
     else ip.ipv6_headers (ip.is_jumbogram packet) (ip.ipv6_header packet)) flow.is_ipv4
 
@@ -301,15 +340,15 @@ ipv4_destination_is packet five no_route =
     (route_read_too (drop 20 (ip.ipv4_header packet)) no_route))
     ∙ in_front (ipv4_header_len packet) 16 4 packet (omega (arith, five))
 
-pub ipv4_reading : (packet changed source destination message : List ℕ) (proto : Option Proto) → IsIpv4Kept packet changed
-    → IsIpv4Flow false packet proto
+pub ipv4_reading : (packet changed source destination message : List ℕ) → IsIpv4Kept packet changed
+    → IsIpv4Flow false packet
     → slice_range changed 12 16 ≡ source → slice_range changed 16 20 ≡ destination
     → drop (ipv4_header_len packet) changed ≡ message ++ drop (ipv4_header_len packet + length message) packet
     → length message ≡ length (drop (ipv4_header_len packet) (counted (lacks_len packet) packet))
     → ipv4_header_len packet ≤ counted_len (lacks_len packet) packet
     → IsReadWith packet changed (Ipv4 source destination) message
-ipv4_reading packet changed source destination message proto kept flow source_is destination_is message_is same within =
-    let flow_too : IsIpv4Flow false changed proto = ipv4_flow_kept false packet changed proto kept flow in
+ipv4_reading packet changed source destination message kept flow source_is destination_is message_is same within =
+    let flow_too : IsIpv4Flow false changed = ipv4_flow_kept false packet changed kept flow in
     let header_len : ipv4_header_len changed ≡ ipv4_header_len packet = header_len_kept packet changed kept in
     let total_len : ip.total_len changed ≡ ip.total_len packet = total_len_kept packet changed kept flow.five_words in
     let byte : (k : ℕ) → k < 10 → slice_index (ip.ipv4_header changed) k ≡ slice_index (ip.ipv4_header packet) k =
@@ -326,8 +365,8 @@ ipv4_reading packet changed source destination message proto kept flow source_is
     record {
       accepted = flow_too.accepted;
       found = λ was found carries missing carries_too missing_too.
-          let is : carries.headers ≡ headers = ipv4_headers_are packet proto was carries flow in
-          let is_too : carries_too.headers ≡ headers_too = ipv4_headers_are changed proto found carries_too flow_too in
+          let is : carries.headers ≡ headers = ipv4_headers_are packet was carries flow in
+          let is_too : carries_too.headers ≡ headers_too = ipv4_headers_are changed found carries_too flow_too in
           let missing_is : found.is_length_missing ≡ was.is_length_missing = missing_too ∙ lacks ∙ sym missing in
           record {
             addresses = carries_too.addresses ∙ ap (λ headers. headers.addresses) is_too
@@ -374,44 +413,30 @@ module _ (start : ℕ) (checksum source destination message packet : List ℕ) (
   abbrev with_sum : List ℕ
   with_sum = with_bytes 10 checksum with_message
 
-  abbrev with_source : List ℕ
-  with_source = with_bytes 12 source with_sum
-
-  abbrev pub ipv4_parts : List ℕ
-  ipv4_parts = with_bytes 16 destination with_source
-
-  message_len : length with_message ≡ length packet
-  message_len = length_kept start message packet there
+  abbrev ipv4_parts : List ℕ
+  ipv4_parts = with_bytes 16 destination (with_bytes 12 source with_sum)
 
   sum_there : 10 + length checksum ≤ length with_message
-  sum_there = omega (arith, after, two, there, message_len)
+  sum_there = omega (arith, after, two, there, length_kept start message packet there)
 
   sum_len : length with_sum ≡ length packet
-  sum_len = length_kept 10 checksum with_message sum_there ∙ message_len
+  sum_len = length_kept 10 checksum with_message sum_there ∙ length_kept start message packet there
 
-  source_there : 12 + length source ≤ length with_sum
-  source_there = omega (arith, after, four, there, sum_len)
-
-  source_len : length with_source ≡ length packet
-  source_len = length_kept 12 source with_sum source_there ∙ sum_len
-
-  destination_there : 16 + length destination ≤ length with_source
-  destination_there = omega (arith, after, four_too, there, source_len)
+  room : 20 ≤ length with_sum
+  room = omega (arith, after, there, sum_len)
 
   ipv4_parts_after : (n : ℕ) → 20 ≤ n → drop n ipv4_parts ≡ drop n with_message
   ipv4_parts_after n behind =
-      drop_after 16 destination with_source destination_there n (omega (arith, behind, four_too))
-      ∙ drop_after 12 source with_sum source_there n (omega (arith, behind, four))
+      both_after 12 16 4 source destination with_sum (omega arith) four four_too room n behind
       ∙ drop_after 10 checksum with_message sum_there n (omega (arith, behind, two))
 
   pub ipv4_parts_kept : start ≡ ipv4_header_len packet → IsIpv4Kept packet ipv4_parts
   ipv4_parts_kept is =
       record {
         front = record {
-          len = length_kept 16 destination with_source destination_there ∙ source_len;
+          len = both_len 12 16 4 source destination with_sum (omega arith) four four_too room ∙ sum_len;
           front = λ k within.
-              index_before 16 destination with_source destination_there k (omega (arith, within))
-              ∙ index_before 12 source with_sum source_there k (omega (arith, within))
+              both_before 12 16 4 source destination with_sum (omega arith) four four_too room k (omega (arith, within))
               ∙ index_before 10 checksum with_message sum_there k within
               ∙ index_before start message packet there k (omega (arith, after, within));
         };
@@ -420,12 +445,10 @@ module _ (start : ℕ) (checksum source destination message packet : List ℕ) (
       }
 
   pub ipv4_parts_source : slice_range ipv4_parts 12 16 ≡ source
-  ipv4_parts_source =
-      range_before 16 destination with_source destination_there 12 4 (omega arith)
-      ∙ ap (λ n. take n (drop 12 with_source)) (sym four) ∙ range_at 12 source with_sum source_there
+  ipv4_parts_source = source_in 12 16 4 source destination with_sum (omega arith) four four_too room
 
   pub ipv4_parts_destination : slice_range ipv4_parts 16 20 ≡ destination
-  ipv4_parts_destination = ap (λ n. take n (drop 16 ipv4_parts)) (sym four_too) ∙ range_at 16 destination with_source destination_there
+  ipv4_parts_destination = destination_in 12 16 4 source destination with_sum (omega arith) four four_too room
 
   pub ipv4_parts_message : drop start ipv4_parts ≡ message ++ drop (start + length message) packet
   ipv4_parts_message = ipv4_parts_after start after ∙ drop_here start message packet there
@@ -466,7 +489,7 @@ translated_len protos.Icmpv4 old new source destination message =
 translated_len protos.Icmpv6 old new source destination message =
     query_or_other_len (is_query protos.Icmpv6 message) old new (new_identifier protos.Icmpv6 source destination message) message
 
-part_len : (is_later_fragment : Bool) (proto : Option Proto) (old new : ℕ) (source destination : Option ℕ) (message : List ℕ)
+pub part_len : (is_later_fragment : Bool) (proto : Option Proto) (old new : ℕ) (source destination : Option ℕ) (message : List ℕ)
     → length (translated_in is_later_fragment proto old new source destination message) ≡ length message
 part_len is_later_fragment None old new source destination message = refl
 part_len true (Some proto) old new source destination message = refl
@@ -478,23 +501,6 @@ pub ipv4_flow_message_len : (new : Ipv4Translation) (message packet : List ℕ)
     → length (ipv4_flow_message new message packet) ≡ length message
 ipv4_flow_message_len new message packet =
     part_len (ipv4_is_later_fragment packet) (ipv4_proto packet) _ _ new.source_port new.destination_port message
-
-ipv4_flow_of : (has_port : Bool) (packet : List ℕ) (place : Place) → ipv4_place_refusal false has_port packet ≡ None
-    → IsIpv4Place (message_in_ipv4 false packet) packet place → IsIpv4Flow false packet place.proto
-ipv4_flow_of has_port packet place found at =
-    let after_ip = none_first (option_map Ip (lax_refusal packet)) _ found in
-    let after_version = none_first (refused_if (not (version packet == 4)) OtherVersion) _ after_ip.1 in
-    let after_route = none_first (refused_if (has_source_route packet) SourceRoute) _ after_version.1 in
-    record {
-      accepted = mapped_none Ip (lax_refusal packet) after_ip.0;
-      is_ipv4 = is_number (version packet) 4 (once (version packet == 4) (none_if _ OtherVersion after_version.0));
-      five_words = omega (arith, at.start, at.header);
-      no_route = none_if (has_source_route packet) SourceRoute after_route.0;
-      number = ipv4_accepts has_port (slice_range packet 12 16) (slice_range packet 16 20) (slice_index packet 9) (ipv4_proto packet) refl
-          (none_if (is_none (ipv4_proto packet) && (has_port || covers_ipv4_addresses (slice_index packet 9))) _
-          (none_first _ _ after_route.1).0);
-      there = omega (arith, at.start, at.ordered, at.there);
-    }
 
 -- the bytes of an accepted packet contain its header
 header_by : (is_empty : Bool) (len header_len total_len : ℕ)
@@ -518,6 +524,34 @@ ipv4_header_there false packet accepted is =
     header_by (length packet == 0) (length packet) (ipv4_header_len packet) (ip.total_len packet)
     (sym (ipv4_header_refusal_is packet is) ∙ (none_first (header_refusal packet) _ accepted).0)
 
+-- the protocol of an accepted packet is accepted
+pub ipv4_protocol_accepted : (is_quoted has_port : Bool) (packet : List ℕ) → ipv4_place_refusal is_quoted has_port packet ≡ None
+    → (is_none (ipv4_proto packet) && (has_port || covers_ipv4_addresses (slice_index packet 9))) ≡ false
+ipv4_protocol_accepted is_quoted has_port packet found =
+    let after_ip = none_first (option_map Ip (ipv4_headers_refusal is_quoted packet)) _ found in
+    let after_version = none_first (refused_if (not (version packet == 4)) OtherVersion) _ after_ip.1 in
+    let after_route = none_first (refused_if (has_source_route packet) SourceRoute) _ after_version.1 in
+    none_if (is_none (ipv4_proto packet) && (has_port || covers_ipv4_addresses (slice_index packet 9))) _ (none_first _ _ after_route.1).0
+
+pub ipv4_flow_of : (is_quoted has_port : Bool) (packet : List ℕ) → ipv4_place_refusal is_quoted has_port packet ≡ None
+    → IsIpv4Flow is_quoted packet
+ipv4_flow_of is_quoted has_port packet found =
+    let after_ip = none_first (option_map Ip (ipv4_headers_refusal is_quoted packet)) _ found in
+    let after_version = none_first (refused_if (not (version packet == 4)) OtherVersion) _ after_ip.1 in
+    let after_route = none_first (refused_if (has_source_route packet) SourceRoute) _ after_version.1 in
+    let accepted : ipv4_headers_refusal is_quoted packet ≡ None = mapped_none Ip (ipv4_headers_refusal is_quoted packet) after_ip.0 in
+    let is : version packet ≡ 4 = is_number (version packet) 4 (once (version packet == 4) (none_if _ OtherVersion after_version.0)) in
+    let header = ipv4_header_there is_quoted packet accepted is in
+    record {
+      accepted = accepted;
+      is_ipv4 = is;
+      five_words = header.0;
+      no_route = none_if (has_source_route packet) SourceRoute after_route.0;
+      number = ipv4_accepts has_port (slice_range packet 12 16) (slice_range packet 16 20) (slice_index packet 9) (ipv4_proto packet) refl
+          (ipv4_protocol_accepted is_quoted has_port packet found);
+      there = header.1;
+    }
+
 -- the counted bytes of an accepted packet contain its header
 within_by : (is_missing : Bool) (len header_len total_len : ℕ) → is_missing ≡ (total_len == 0) → header_len ≤ len
     → (if len == 0 then Some (HeaderCutOff 1 0) else ipv4_refusal_by len header_len total_len) ≡ None
@@ -526,10 +560,10 @@ unfolding ipv4_refusal_by
 within_by true len header_len total_len is there accepted = there
 within_by false len header_len total_len is there accepted = grind (arith, nat_tests)
 
-pub ipv4_within : (is_quoted : Bool) (packet : List ℕ) (proto : Option Proto) → IsIpv4Flow is_quoted packet proto
+pub ipv4_within : (is_quoted : Bool) (packet : List ℕ) → IsIpv4Flow is_quoted packet
     → ipv4_header_len packet ≤ counted_len (is_quoted || lacks_len packet) packet
-ipv4_within true packet proto flow = flow.there
-ipv4_within false packet proto flow =
+ipv4_within true packet flow = flow.there
+ipv4_within false packet flow =
     let total : ℕ = ip.total_len packet in
     let accepted = sym (ipv4_header_refusal_is packet flow.is_ipv4) ∙ (none_first (header_refusal packet) _ flow.accepted).0 in
     let counts : counted_len (lacks_len packet) packet
@@ -546,21 +580,23 @@ pub ipv4_read : (has_port : Bool) (new : Ipv4Translation) (packet changed messag
     → changed ≡ ipv4_with_message new message packet
     → IsReadWith packet changed (ipv4_between new packet) message
 ipv4_read has_port new packet changed message place found at four same is =
-    let flow : IsIpv4Flow false packet place.proto = ipv4_flow_of has_port packet place found at in
+    let flow : IsIpv4Flow false packet = ipv4_flow_of false has_port packet found in
     let source : List ℕ = (ipv4_addresses new packet).source in
     let destination : List ℕ = (ipv4_addresses new packet).destination in
     let n : ℕ = counted_len (lacks_len packet) packet in
     let start : ℕ = ipv4_header_len packet in
     let there : start + length message ≤ length packet =
     omega (arith, same, flow.there, length-drop start (take n packet), length-take n packet) in
-    let checksum : List ℕ = to_be_bytes w16 (updated_header_checksum (ipv4_addresses new packet) (with_bytes start message packet)) in
+    let between : List ℕ = with_bytes start message packet in
+    let checksum : List ℕ = to_be_bytes w16 (updated_checksum_of (number 10 between) (sum_of_ipv4 (ipv4_header_of between))
+    (sum_of_ipv4 (ipv4_addresses new packet))) in
     subst (λ changed. IsReadWith packet changed (ipv4_between new packet) message) (sym is)
-    (ipv4_reading packet _ source destination message place.proto
+    (ipv4_reading packet _ source destination message
     (ipv4_parts_kept start checksum source destination message packet flow.five_words refl four.source four.destination there refl) flow
     (ipv4_parts_source start checksum source destination message packet flow.five_words refl four.source four.destination there)
     (ipv4_parts_destination start checksum source destination message packet flow.five_words refl four.source four.destination there)
     (ipv4_parts_message start checksum source destination message packet flow.five_words refl four.source four.destination there)
-    same (ipv4_within false packet place.proto flow))
+    same (ipv4_within false packet flow))
 
 -- a fact about a success that follows from three others
 pub if_ok : {T E : Type 0} {P Q R S : Type 0} (result : Result T E) → IfOk result (λ value. P) → IfOk result (λ value. Q)
@@ -575,7 +611,7 @@ pub ipv6_byte : (packet : List ℕ) (k : ℕ) → k < 40 → slice_index (ip.ipv
 ipv6_byte packet k within = get_or-take 40 packet k 0 within
 
 -- an accepted packet whose message comes after the headers that are skipped
-pub record IsIpv6Flow (packet : List ℕ) (proto : Option Proto) : Type 0 where
+pub record IsIpv6Flow (packet : List ℕ) : Type 0 where
   pub accepted : lax_refusal packet ≡ None
   pub is_ipv6 : version packet ≡ 6
   pub number : is_extension (ipv6_protocol packet) ≡ false
@@ -828,12 +864,12 @@ ipv6_headers_are packet found carries is there number =
     (ipv6_walked found.is_length_missing packet packet carries.headers is there number carries.read refl refl).at
 
 -- the headers of a changed packet
-pub changed_headers : (missing : Bool) (packet changed : List ℕ) (headers : Headers) (proto : Option Proto) → IsIpv6Kept packet changed
-    → IsIpv6Flow packet proto
+pub changed_headers : (missing : Bool) (packet changed : List ℕ) (headers : Headers) → IsIpv6Kept packet changed
+    → IsIpv6Flow packet
     → headers_of missing packet ≡ Ok headers
     → (headers_of missing changed ≡ Ok (between (Ipv6 (source_of changed) (destination_of changed)) headers))
     × (skipped_headers changed ≡ skipped_headers packet)
-changed_headers missing packet changed headers proto kept flow read =
+changed_headers missing packet changed headers kept flow read =
     let alike : StatesAlike packet changed = states_alike packet changed kept flow.accepted flow.is_ipv6 in
     let there : 40 ≤ length packet = ipv6_header_there packet flow.accepted flow.is_ipv6 in
     let walked = ipv6_walked missing packet changed headers flow.is_ipv6 there flow.number read kept.front.len kept.headers in
@@ -869,44 +905,44 @@ ipv6_start_within packet accepted is number =
     let walked = ipv6_walked (lacks_len packet) packet packet read.0 is (ipv6_header_there packet accepted is) number read.1 refl refl in
     omega (arith, walked.within, walked.at.len)
 
-pub skipped_kept : (packet changed : List ℕ) (proto : Option Proto) → IsIpv6Kept packet changed → IsIpv6Flow packet proto
+pub skipped_kept : (packet changed : List ℕ) → IsIpv6Kept packet changed → IsIpv6Flow packet
     → skipped_headers changed ≡ skipped_headers packet
-skipped_kept packet changed proto kept flow =
+skipped_kept packet changed kept flow =
     let read = accepted_headers packet flow.accepted in
-    (changed_headers (lacks_len packet) packet changed read.0 proto kept flow read.1).1
+    (changed_headers (lacks_len packet) packet changed read.0 kept flow read.1).1
 
-pub start_kept : (packet changed : List ℕ) (proto : Option Proto) → IsIpv6Kept packet changed → IsIpv6Flow packet proto
+pub start_kept : (packet changed : List ℕ) → IsIpv6Kept packet changed → IsIpv6Flow packet
     → ipv6_start changed ≡ ipv6_start packet
-start_kept packet changed proto kept flow = ap (λ skipped. skipped.len) (skipped_kept packet changed proto kept flow)
+start_kept packet changed kept flow = ap (λ skipped. skipped.len) (skipped_kept packet changed kept flow)
 
-pub protocol_kept : (packet changed : List ℕ) (proto : Option Proto) → IsIpv6Kept packet changed → IsIpv6Flow packet proto
+pub protocol_kept : (packet changed : List ℕ) → IsIpv6Kept packet changed → IsIpv6Flow packet
     → ipv6_protocol changed ≡ ipv6_protocol packet
-protocol_kept packet changed proto kept flow = ap (λ skipped. skipped.protocol.0) (skipped_kept packet changed proto kept flow)
+protocol_kept packet changed kept flow = ap (λ skipped. skipped.protocol.0) (skipped_kept packet changed kept flow)
 
-pub ipv6_flow_kept : (packet changed : List ℕ) (proto : Option Proto) → IsIpv6Kept packet changed → IsIpv6Flow packet proto
-    → IsIpv6Flow changed proto
-ipv6_flow_kept packet changed proto kept flow =
+pub ipv6_flow_kept : (packet changed : List ℕ) → IsIpv6Kept packet changed → IsIpv6Flow packet
+    → IsIpv6Flow changed
+ipv6_flow_kept packet changed kept flow =
     let alike : StatesAlike packet changed = states_alike packet changed kept flow.accepted flow.is_ipv6 in
     let read = accepted_headers packet flow.accepted in
-    let headers = changed_headers (lacks_len packet) packet changed read.0 proto kept flow read.1 in
+    let headers = changed_headers (lacks_len packet) packet changed read.0 kept flow read.1 in
     record {
       accepted = ap (λ refusal. first_of (refusal ∷ error_of (headers_of (lacks_len changed) changed) ∷ [])) alike.header
           ∙ ap (λ missing. first_of (None ∷ error_of (headers_of missing changed) ∷ [])) alike.lacks
           ∙ ap (λ read. first_of (None ∷ error_of read ∷ [])) headers.0;
       is_ipv6 = alike.is_ipv6;
-      number = ap is_extension (protocol_kept packet changed proto kept flow) ∙ flow.number;
-      there = omega (arith, kept.front.len, start_kept packet changed proto kept flow, flow.there);
+      number = ap is_extension (protocol_kept packet changed kept flow) ∙ flow.number;
+      there = omega (arith, kept.front.len, start_kept packet changed kept flow, flow.there);
     }
 
-pub ipv6_reading : (packet changed source destination message : List ℕ) (proto : Option Proto) → IsIpv6Kept packet changed
-    → IsIpv6Flow packet proto
+pub ipv6_reading : (packet changed source destination message : List ℕ) → IsIpv6Kept packet changed
+    → IsIpv6Flow packet
     → slice_range changed 8 24 ≡ source → slice_range changed 24 40 ≡ destination
     → drop (ipv6_start packet) changed ≡ message ++ drop (ipv6_start packet + length message) packet
     → length message ≡ length (drop (ipv6_start packet) (counted (lacks_len packet) packet))
     → ipv6_start packet ≤ counted_len (lacks_len packet) packet
     → IsReadWith packet changed (Ipv6 source (Some destination)) message
-ipv6_reading packet changed source destination message proto kept flow source_is destination_is message_is same within =
-    let flow_too : IsIpv6Flow changed proto = ipv6_flow_kept packet changed proto kept flow in
+ipv6_reading packet changed source destination message kept flow source_is destination_is message_is same within =
+    let flow_too : IsIpv6Flow changed = ipv6_flow_kept packet changed kept flow in
     let alike : StatesAlike packet changed = states_alike packet changed kept flow.accepted flow.is_ipv6 in
     let there : 40 ≤ length packet = ipv6_header_there packet flow.accepted flow.is_ipv6 in
     let addresses : Addresses = Ipv6 (source_of changed) (destination_of changed) in
@@ -917,7 +953,7 @@ ipv6_reading packet changed source destination message proto kept flow source_is
           let headers_is : carries_too.headers ≡ between addresses carries.headers =
           read_once (headers_of found.is_length_missing changed) carries_too.headers (between addresses carries.headers) carries_too.read
           (ap (λ missing. headers_of missing changed) missing_is
-          ∙ (changed_headers was.is_length_missing packet changed carries.headers proto kept flow carries.read).0) in
+          ∙ (changed_headers was.is_length_missing packet changed carries.headers kept flow carries.read).0) in
           let start : carries.headers.len ≡ ipv6_start packet = (ipv6_headers_are packet was carries flow.is_ipv6 there flow.number).len in
           let start_too : carries_too.headers.len ≡ ipv6_start packet = ap (λ headers. headers.len) headers_is ∙ start in
           record {
@@ -993,37 +1029,23 @@ module _ (start : ℕ) (source destination message packet : List ℕ) (after : 4
   abbrev ipv6_message_in : List ℕ
   ipv6_message_in = with_bytes start message packet
 
-  abbrev ipv6_source_in : List ℕ
-  ipv6_source_in = with_bytes 8 source ipv6_message_in
+  abbrev ipv6_parts : List ℕ
+  ipv6_parts = with_bytes 24 destination (with_bytes 8 source ipv6_message_in)
 
-  abbrev pub ipv6_parts : List ℕ
-  ipv6_parts = with_bytes 24 destination ipv6_source_in
-
-  ipv6_message_in_len : length ipv6_message_in ≡ length packet
-  ipv6_message_in_len = length_kept start message packet there
-
-  ipv6_source_there : 8 + length source ≤ length ipv6_message_in
-  ipv6_source_there = omega (arith, after, sixteen, there, ipv6_message_in_len)
-
-  ipv6_source_len : length ipv6_source_in ≡ length packet
-  ipv6_source_len = length_kept 8 source ipv6_message_in ipv6_source_there ∙ ipv6_message_in_len
-
-  ipv6_destination_there : 24 + length destination ≤ length ipv6_source_in
-  ipv6_destination_there = omega (arith, after, sixteen_too, there, ipv6_source_len)
+  ipv6_room : 40 ≤ length ipv6_message_in
+  ipv6_room = omega (arith, after, there, length_kept start message packet there)
 
   ipv6_parts_after : (n : ℕ) → 40 ≤ n → drop n ipv6_parts ≡ drop n ipv6_message_in
-  ipv6_parts_after n behind =
-      drop_after 24 destination ipv6_source_in ipv6_destination_there n (omega (arith, behind, sixteen_too))
-      ∙ drop_after 8 source ipv6_message_in ipv6_source_there n (omega (arith, behind, sixteen))
+  ipv6_parts_after = both_after 8 24 16 source destination ipv6_message_in (omega arith) sixteen sixteen_too ipv6_room
 
   pub ipv6_parts_kept : start ≡ ipv6_start packet → IsIpv6Kept packet ipv6_parts
   ipv6_parts_kept is =
       record {
         front = record {
-          len = length_kept 24 destination ipv6_source_in ipv6_destination_there ∙ ipv6_source_len;
+          len = both_len 8 24 16 source destination ipv6_message_in (omega arith) sixteen sixteen_too ipv6_room
+              ∙ length_kept start message packet there;
           front = λ k within.
-              index_before 24 destination ipv6_source_in ipv6_destination_there k (omega (arith, within))
-              ∙ index_before 8 source ipv6_message_in ipv6_source_there k within
+              both_before 8 24 16 source destination ipv6_message_in (omega arith) sixteen sixteen_too ipv6_room k within
               ∙ index_before start message packet there k (omega (arith, after, within));
         };
         headers = ap (take (ipv6_start packet - 40)) (ipv6_parts_after 40 (omega arith))
@@ -1031,13 +1053,10 @@ module _ (start : ℕ) (source destination message packet : List ℕ) (after : 4
       }
 
   pub ipv6_parts_source : slice_range ipv6_parts 8 24 ≡ source
-  ipv6_parts_source =
-      range_before 24 destination ipv6_source_in ipv6_destination_there 8 16 (omega arith)
-      ∙ ap (λ n. take n (drop 8 ipv6_source_in)) (sym sixteen) ∙ range_at 8 source ipv6_message_in ipv6_source_there
+  ipv6_parts_source = source_in 8 24 16 source destination ipv6_message_in (omega arith) sixteen sixteen_too ipv6_room
 
   pub ipv6_parts_destination : slice_range ipv6_parts 24 40 ≡ destination
-  ipv6_parts_destination = ap (λ n. take n (drop 24 ipv6_parts)) (sym sixteen_too)
-      ∙ range_at 24 destination ipv6_source_in ipv6_destination_there
+  ipv6_parts_destination = destination_in 8 24 16 source destination ipv6_message_in (omega arith) sixteen sixteen_too ipv6_room
 
   pub ipv6_parts_message : drop start ipv6_parts ≡ message ++ drop (start + length message) packet
   ipv6_parts_message = ipv6_parts_after start after ∙ drop_here start message packet there
@@ -1047,25 +1066,35 @@ pub ipv6_flow_message_len : (new : Ipv6Translation) (packet : List ℕ)
 ipv6_flow_message_len new packet =
     part_len (ipv6_is_later_fragment packet) (ipv6_proto packet) _ _ new.source_port new.destination_port (message_in_ipv6 packet)
 
-ipv6_flow_of : (has_port : Bool) (packet : List ℕ) (place : Place) → ipv6_place_refusal has_port packet ≡ None → IsIpv6Place packet place
-    → IsIpv6Flow packet place.proto
-ipv6_flow_of has_port packet place found at =
+-- the protocol of an accepted packet is accepted
+pub ipv6_protocol_accepted : (has_port : Bool) (packet : List ℕ) → ipv6_place_refusal has_port packet ≡ None
+    → (is_none (ipv6_proto packet) && (has_port || covers_ipv6_addresses (ipv6_protocol packet))) ≡ false
+ipv6_protocol_accepted has_port packet found =
     let after_ip = none_first (option_map Ip (lax_refusal packet)) _ found in
     let after_version = none_first (refused_if (not (version packet == 6)) OtherVersion) _ after_ip.1 in
+    none_if (is_none (ipv6_proto packet) && (has_port || covers_ipv6_addresses (ipv6_protocol packet))) _
+    (none_first _ _ after_version.1).0
+
+pub ipv6_flow_of : (has_port : Bool) (packet : List ℕ) → ipv6_place_refusal has_port packet ≡ None → IsIpv6Flow packet
+ipv6_flow_of has_port packet found =
+    let after_ip = none_first (option_map Ip (lax_refusal packet)) _ found in
+    let after_version = none_first (refused_if (not (version packet == 6)) OtherVersion) _ after_ip.1 in
+    let accepted : lax_refusal packet ≡ None = mapped_none Ip (lax_refusal packet) after_ip.0 in
+    let is : version packet ≡ 6 = is_number (version packet) 6 (once (version packet == 6) (none_if _ OtherVersion after_version.0)) in
+    let number : is_extension (ipv6_protocol packet) ≡ false =
+    ipv6_accepts has_port (slice_range packet 8 24) (Some (slice_range packet 24 40)) (ipv6_protocol packet) (ipv6_proto packet) refl
+    (ipv6_protocol_accepted has_port packet found) in
     record {
-      accepted = mapped_none Ip (lax_refusal packet) after_ip.0;
-      is_ipv6 = is_number (version packet) 6 (once (version packet == 6) (none_if _ OtherVersion after_version.0));
-      number = ipv6_accepts has_port (slice_range packet 8 24) (Some (slice_range packet 24 40)) (ipv6_protocol packet)
-          (ipv6_proto packet) refl
-          (none_if (is_none (ipv6_proto packet) && (has_port || covers_ipv6_addresses (ipv6_protocol packet))) _
-          (none_first _ _ after_version.1).0);
-      there = omega (arith, at.start, at.ordered, at.there);
+      accepted = accepted;
+      is_ipv6 = is;
+      number = number;
+      there = omega (arith, ipv6_start_within packet accepted is number, length-take (counted_len (lacks_len packet) packet) packet);
     }
 
 -- the counted bytes contain the headers
-pub ipv6_within : (packet : List ℕ) (proto : Option Proto) → IsIpv6Flow packet proto
+pub ipv6_within : (packet : List ℕ) → IsIpv6Flow packet
     → ipv6_start packet ≤ counted_len (lacks_len packet) packet
-ipv6_within packet proto flow =
+ipv6_within packet flow =
     omega (
       arith,
       ipv6_start_within packet flow.accepted flow.is_ipv6 flow.number,
@@ -1078,7 +1107,7 @@ pub ipv6_read : (has_port : Bool) (new : Ipv6Translation) (packet changed messag
     → changed ≡ ipv6_with_message new message packet
     → IsReadWith packet changed (ipv6_between new packet) message
 ipv6_read has_port new packet changed message place found at four same is =
-    let flow : IsIpv6Flow packet place.proto = ipv6_flow_of has_port packet place found at in
+    let flow : IsIpv6Flow packet = ipv6_flow_of has_port packet found in
     let source : List ℕ = (ipv6_addresses new packet).source in
     let destination : List ℕ = (ipv6_addresses new packet).destination in
     let n : ℕ = counted_len (lacks_len packet) packet in
@@ -1087,9 +1116,9 @@ ipv6_read has_port new packet changed message place found at four same is =
     let there : start + length message ≤ length packet =
     omega (arith, same, flow.there, length-drop start (take n packet), length-take n packet) in
     subst (λ changed. IsReadWith packet changed (ipv6_between new packet) message) (sym is)
-    (ipv6_reading packet _ source destination message place.proto
+    (ipv6_reading packet _ source destination message
     (ipv6_parts_kept start source destination message packet after four.source four.destination there refl) flow
     (ipv6_parts_source start source destination message packet after four.source four.destination there)
     (ipv6_parts_destination start source destination message packet after four.source four.destination there)
     (ipv6_parts_message start source destination message packet after four.source four.destination there)
-    same (ipv6_within packet place.proto flow))
+    same (ipv6_within packet flow))

@@ -17,20 +17,18 @@ use Rattle.icmp_part.specs.QuotedPackets.{counted, quoted_by_icmpv4, quoted_by_i
 use Rattle.ip_part.specs.declared.proto.Proto.{Proto}
 use Rattle.ip_part.specs.declared.proto.Proto.TheVariants as protos
 use Rattle.net_base.specs.PseudoHeader.{ipv4_pseudo_header, ipv6_pseudo_header}
-use Rattle.net_base.specs.declared.ipv4_header.Ipv4Header.{Ipv4Header}
-use Rattle.net_base.specs.declared.ipv6_header.Ipv6Header.{Ipv6Header}
 use Rattle.word_sum.specs.UpdatedChecksum.{TurnsIntoBy, updated_checksum_of}
-use Rattle.etherparse_transport.specs.Ipv4Translations.{AreIpv4Addresses, IsAcceptedByIpv4, IsHeaderAccepted, IsIpv4Accepted, IsIpv4Place, ipv4_addresses, ipv4_flow_message, ipv4_is_later_fragment, ipv4_quoted, ipv4_pseudo_header_of, sum_of_ipv4, IsIpv4ErrorAccepted, ipv4_proto, message_in_ipv4}
-use Rattle.etherparse_transport.specs.Ipv6Translations.{AreIpv6Addresses, IsIpv6Accepted, IsIpv6Place, ipv6_addresses, ipv6_flow_message, ipv6_is_later_fragment, ipv6_proto, ipv6_quoted, ipv6_pseudo_header_of, message_in_ipv6, sum_of_ipv6, IsIpv6ErrorAccepted}
+use Rattle.etherparse_transport.specs.Families.{AddressPair, AreAddresses, Family, IsAcceptedBy, Translation, addresses_of, flow_message, message_in, new_addresses, pseudo_header_of, quoted_packet, sum_of}
+use Rattle.etherparse_transport.specs.Ipv4Translations.{ipv4, IsHeaderAccepted, IsIpv4Place, ipv4_is_later_fragment, ipv4_quoted, IsIpv4ErrorAccepted, ipv4_proto, message_in_ipv4}
+use Rattle.etherparse_transport.specs.Ipv6Translations.{ipv6, of_ipv6, AreIpv6Addresses, ipv6_addresses, ipv6_quoted, message_in_ipv6, sum_of_ipv6, IsIpv6ErrorAccepted}
 use Rattle.etherparse_transport.specs.Translations.{AreUpdatedAlike, HaveSums, IsAcceptedAlike, IsUpdated, least_summed, translated_in, translated_message, translated_udp, is_query, is_reply, is_request, number, rest_of_message, quoted_by, quoted_in, with_bytes, with_number}
-use Rattle.etherparse_transport.specs.declared.ip.ipv4_translation.Ipv4Translation.{Ipv4Translation}
 use Rattle.etherparse_transport.specs.declared.ip.ipv6_translation.Ipv6Translation.{Ipv6Translation}
 use Rattle.etherparse_transport.specs.declared.ip.message_place.Place.{Place}
 use Rattle.net_base.specs.IpHeaders.{ipv4_header_len, ipv4_header_of, ipv6_header_of}
 use Rattle.etherparse_transport.proofs.EchoReplyLemmas.{is_number}
 use Rattle.etherparse_transport.proofs.TranslationLemmas.{put_is}
 use Rattle.etherparse_transport.proofs.UpdatedAlike.{difference_alike, sums_alike, two_pieces}
-use Rattle.etherparse_transport.proofs.TranslationReading.{drop_after, ipv4_flow_message_len, ipv6_flow_message_len, length_kept, index_after, index_before, number_len}
+use Rattle.etherparse_transport.proofs.TranslationReading.{both_after, both_before, both_len, drop_after, part_len, length_kept, index_after, index_before, number_len}
 
 -- ---- one word
 
@@ -240,39 +238,40 @@ both_sums header header_too source destination source_too destination_too rest i
   λ none. is_too.some (omega (arith, is_too.sum, none)),
 )
 
-pub ipv4_have_sums : (proto : Proto) (old new : Ipv4Header) (len : ℕ) → AreIpv4Addresses old → AreIpv4Addresses new
-    → HaveSums proto (sum_of_ipv4 old) (sum_of_ipv4 new) (total (ipv4_pseudo_header_of proto old len))
-    (total (ipv4_pseudo_header_of proto new len))
-ipv4_have_sums protos.Udp old new len four four_too =
-    both_sums _ _ old.source old.destination new.source new.destination _
-    (ipv4_pseudo_header_is old.source old.destination 17 len four.source four.destination (omega arith))
-    (ipv4_pseudo_header_is new.source new.destination 17 len four_too.source four_too.destination (omega arith))
-ipv4_have_sums protos.Tcp old new len four four_too =
-    both_sums _ _ old.source old.destination new.source new.destination _
-    (ipv4_pseudo_header_is old.source old.destination 6 len four.source four.destination (omega arith))
-    (ipv4_pseudo_header_is new.source new.destination 6 len four_too.source four_too.destination (omega arith))
-ipv4_have_sums protos.Icmpv4 old new len four four_too = refl
-ipv4_have_sums protos.Icmpv6 old new len four four_too =
-    both_sums _ _ old.source old.destination new.source new.destination _
-    (ipv4_pseudo_header_is old.source old.destination 58 len four.source four.destination (omega arith))
-    (ipv4_pseudo_header_is new.source new.destination 58 len four_too.source four_too.destination (omega arith))
+-- the pseudo headers of a family contain its addresses
+pub record HavePseudoHeaders (family : Family) : Type 0 where
+  pub rest : ℕ → ℕ → ℕ
+  pub is : (addresses : AddressPair) (protocol len : ℕ) → AreAddresses family addresses → 0 < protocol
+      → IsPseudoHeader (family.pseudo_header addresses protocol len) addresses.source addresses.destination (rest protocol len)
 
-pub ipv6_have_sums : (proto : Proto) (old new : Ipv6Header) (len : ℕ) → AreIpv6Addresses old → AreIpv6Addresses new
-    → HaveSums proto (sum_of_ipv6 old) (sum_of_ipv6 new) (total (ipv6_pseudo_header_of proto old len))
-    (total (ipv6_pseudo_header_of proto new len))
-ipv6_have_sums protos.Udp old new len four four_too =
-    both_sums _ _ old.source old.destination new.source new.destination _
-    (ipv6_pseudo_header_is old.source old.destination 17 len four.source four.destination (omega arith))
-    (ipv6_pseudo_header_is new.source new.destination 17 len four_too.source four_too.destination (omega arith))
-ipv6_have_sums protos.Tcp old new len four four_too =
-    both_sums _ _ old.source old.destination new.source new.destination _
-    (ipv6_pseudo_header_is old.source old.destination 6 len four.source four.destination (omega arith))
-    (ipv6_pseudo_header_is new.source new.destination 6 len four_too.source four_too.destination (omega arith))
-ipv6_have_sums protos.Icmpv4 old new len four four_too = refl
-ipv6_have_sums protos.Icmpv6 old new len four four_too =
-    both_sums _ _ old.source old.destination new.source new.destination _
-    (ipv6_pseudo_header_is old.source old.destination 58 len four.source four.destination (omega arith))
-    (ipv6_pseudo_header_is new.source new.destination 58 len four_too.source four_too.destination (omega arith))
+pub ipv4_pseudo_headers : HavePseudoHeaders ipv4
+ipv4_pseudo_headers = record {
+  rest = λ protocol len. total (0 ∷ protocol ∷ to_be_bytes w16 len);
+  is = λ addresses protocol len four some.
+      ipv4_pseudo_header_is addresses.source addresses.destination protocol len four.source four.destination some;
+}
+
+pub ipv6_pseudo_headers : HavePseudoHeaders ipv6
+ipv6_pseudo_headers = record {
+  rest = λ protocol len. total (to_be_bytes w32 len ++ (0 ∷ 0 ∷ 0 ∷ protocol ∷ []));
+  is = λ addresses protocol len sixteen some.
+      ipv6_pseudo_header_is addresses.source addresses.destination protocol len sixteen.source sixteen.destination some;
+}
+
+have_sums : (family : Family) (headers : HavePseudoHeaders family) (proto : Proto) (old new : AddressPair) (len : ℕ)
+    → AreAddresses family old → AreAddresses family new
+    → HaveSums proto (sum_of old) (sum_of new) (total (pseudo_header_of family proto old len))
+    (total (pseudo_header_of family proto new len))
+have_sums family headers protos.Udp old new len are are_too =
+    both_sums _ _ old.source old.destination new.source new.destination _ (headers.is old 17 len are (omega arith))
+    (headers.is new 17 len are_too (omega arith))
+have_sums family headers protos.Tcp old new len are are_too =
+    both_sums _ _ old.source old.destination new.source new.destination _ (headers.is old 6 len are (omega arith))
+    (headers.is new 6 len are_too (omega arith))
+have_sums family headers protos.Icmpv4 old new len are are_too = refl
+have_sums family headers protos.Icmpv6 old new len are are_too =
+    both_sums _ _ old.source old.destination new.source new.destination _ (headers.is old 58 len are (omega arith))
+    (headers.is new 58 len are_too (omega arith))
 
 -- ---- a receiver's check of a part of a message
 
@@ -425,82 +424,55 @@ translated_known is_later_fragment known proto removed added source destination 
 pub range_len : (from n : ℕ) (packet : List ℕ) → from + n ≤ length packet → length (take n (drop from packet)) ≡ n
 range_len from n packet there = length-take-le n (drop from packet) (omega (arith, there, length-drop from packet))
 
-pub ipv4_verifies : (new : Ipv4Translation) (packet message translated : List ℕ) (place : Place) (removed added : ℕ)
-    → IsIpv4Place message packet place → translated ≡ ipv4_flow_message new message packet
-    → removed ≡ sum_of_ipv4 (ipv4_header_of packet) → added ≡ sum_of_ipv4 (ipv4_addresses new packet)
-    → AreIpv4Addresses (ipv4_addresses new packet)
-    → (place.is_later_fragment ≡ false → (proto : Proto) → place.proto ≡ Some proto → (before after : ℕ)
-    → HaveSums proto removed added before after
-    → IsUpdated proto message → IsAcceptedAlike before after message translated)
-    → IsAcceptedByIpv4 new message packet (ipv4_flow_message new message packet)
-ipv4_verifies new packet message translated place removed added at translated_is removed_is added_is four alike =
-    λ proto known later updated.
-    let old : Ipv4Header = ipv4_header_of packet in
-    let to : List ℕ = ipv4_flow_message new message packet in
-    let old_four : AreIpv4Addresses old = record {
-      source = range_len 12 4 packet (omega (arith, at.header, at.ordered, at.there));
-      destination = range_len 16 4 packet (omega (arith, at.header, at.ordered, at.there));
-    } in
-    let before : ℕ → ℕ = λ len. total (ipv4_pseudo_header_of proto old len) in
-    let after : ℕ → ℕ = λ len. total (ipv4_pseudo_header_of proto (ipv4_addresses new packet) len) in
-    let sums : (len : ℕ) → HaveSums proto (sum_of_ipv4 old) (sum_of_ipv4 (ipv4_addresses new packet)) (before len) (after len) =
-    λ len. ipv4_have_sums proto old (ipv4_addresses new packet) len old_four four in
-    let alike_too : (before after : ℕ) → HaveSums proto (sum_of_ipv4 old) (sum_of_ipv4 (ipv4_addresses new packet)) before after
-    → IsUpdated proto message
-    → IsAcceptedAlike before after message to = λ before after have updated.
-    subst (IsAcceptedAlike before after message) translated_is
-    (alike (at.later ∙ later) proto (at.proto ∙ known) before after
-    (subst (λ removed. HaveSums proto removed added before after) (sym removed_is)
-    (subst (λ added. HaveSums proto (sum_of_ipv4 old) added before after) (sym added_is) have)) updated) in
-    let flow : to ≡ translated_message proto (sum_of_ipv4 old)
-    (sum_of_ipv4 (ipv4_addresses new packet)) new.source_port new.destination_port message =
-    translated_known (ipv4_is_later_fragment packet)
-    (ipv4_proto packet) proto _ _ new.source_port new.destination_port message known later in
+-- the addresses of a packet have four bytes
+pub ipv4_addresses_there : (packet : List ℕ) → 20 ≤ length packet → AreAddresses ipv4 (addresses_of ipv4 packet)
+ipv4_addresses_there packet there =
     record {
-      whole = alike_too (before (length message)) (after (length message)) (sums (length message)) updated;
-      received = λ len count missing least.
-          alike_by_proto proto _ _ (before len) (after len) count new.source_port new.destination_port message to missing (sums len) updated
-          (ipv4_flow_message_len new message packet) flow alike_too least;
+      source = range_len 12 4 packet (omega (arith, there));
+      destination = range_len 16 4 packet (omega (arith, there));
     }
 
--- ---- a receiver's check of a translated IPv6 packet
+-- the addresses of a packet have 16 bytes
+pub ipv6_addresses_there : (packet : List ℕ) → 40 ≤ length packet → AreAddresses ipv6 (addresses_of ipv6 packet)
+ipv6_addresses_there packet there =
+    record {
+      source = range_len 8 16 packet (omega (arith, there));
+      destination = range_len 24 16 packet (omega (arith, there));
+    }
 
-pub ipv6_verifies : (new : Ipv6Translation) (packet bytes translated : List ℕ) (place : Place) (removed added : ℕ)
-    → IsIpv6Place packet place → bytes ≡ message_in_ipv6 packet → translated ≡ ipv6_flow_message new packet
-    → AreUpdatedAlike removed added (sum_of_ipv6 (ipv6_header_of packet)) (sum_of_ipv6 (ipv6_addresses new packet))
-    → AreIpv6Addresses (ipv6_addresses new packet)
+pub verifies : (family : Family) (headers : HavePseudoHeaders family) (new : Translation) (packet message bytes translated : List ℕ)
+    (place : Place) (removed added : ℕ) → place.proto ≡ family.proto packet → place.is_later_fragment ≡ family.is_later_fragment packet
+    → bytes ≡ message → translated ≡ flow_message family new message packet
+    → AreUpdatedAlike removed added (sum_of (addresses_of family packet)) (sum_of (new_addresses family new packet))
+    → AreAddresses family (addresses_of family packet) → AreAddresses family (new_addresses family new packet)
     → (place.is_later_fragment ≡ false → (proto : Proto) → place.proto ≡ Some proto → (before after : ℕ)
     → HaveSums proto removed added before after
     → IsUpdated proto bytes → IsAcceptedAlike before after bytes translated)
-    → IsIpv6Accepted new packet (ipv6_flow_message new packet)
-ipv6_verifies new packet bytes translated place removed added at bytes_is translated_is is_alike four alike = λ proto known later updated.
-    let old : Ipv6Header = ipv6_header_of packet in
-    let message : List ℕ = message_in_ipv6 packet in
-    let to : List ℕ = ipv6_flow_message new packet in
-    let old_four : AreIpv6Addresses old = record {
-      source = range_len 8 16 packet (omega (arith, at.header, at.ordered, at.there));
-      destination = range_len 24 16 packet (omega (arith, at.header, at.ordered, at.there));
-    } in
-    let before : ℕ → ℕ = λ len. total (ipv6_pseudo_header_of proto old len) in
-    let after : ℕ → ℕ = λ len. total (ipv6_pseudo_header_of proto (ipv6_addresses new packet) len) in
-    let sums : (len : ℕ) → HaveSums proto (sum_of_ipv6 old) (sum_of_ipv6 (ipv6_addresses new packet)) (before len) (after len) =
-    λ len. ipv6_have_sums proto old (ipv6_addresses new packet) len old_four four in
-    let alike_too : (before after : ℕ) → HaveSums proto (sum_of_ipv6 old) (sum_of_ipv6 (ipv6_addresses new packet)) before after
-    → IsUpdated proto message
+    → IsAcceptedBy family new message packet (flow_message family new message packet)
+verifies family headers new packet message bytes translated place removed added at_proto at_later bytes_is translated_is is_alike are
+    are_too alike = λ proto known later updated.
+    let old : AddressPair = addresses_of family packet in
+    let next : AddressPair = new_addresses family new packet in
+    let to : List ℕ = flow_message family new message packet in
+    let before : ℕ → ℕ = λ len. total (pseudo_header_of family proto old len) in
+    let after : ℕ → ℕ = λ len. total (pseudo_header_of family proto next len) in
+    let sums : (len : ℕ) → HaveSums proto (sum_of old) (sum_of next) (before len) (after len) =
+    λ len. have_sums family headers proto old next len are are_too in
+    let alike_too : (before after : ℕ) → HaveSums proto (sum_of old) (sum_of next) before after → IsUpdated proto message
     → IsAcceptedAlike before after message to = λ before after have updated.
     subst (IsAcceptedAlike before after message) translated_is
-    (subst (λ bytes. IsAcceptedAlike before after bytes translated) bytes_is (alike (at.later ∙ later) proto (at.proto ∙ known) before after
-    (sums_alike proto removed added (sum_of_ipv6 old) (sum_of_ipv6 (ipv6_addresses new packet)) before after is_alike have)
+    (subst (λ bytes. IsAcceptedAlike before after bytes translated) bytes_is (alike (at_later ∙ later) proto (at_proto ∙ known) before after
+    (sums_alike proto removed added (sum_of old) (sum_of next) before after is_alike have)
     (subst (IsUpdated proto) (sym bytes_is) updated))) in
-    let flow : to ≡ translated_message proto (sum_of_ipv6 old)
-    (sum_of_ipv6 (ipv6_addresses new packet)) new.source_port new.destination_port message =
-    translated_known (ipv6_is_later_fragment packet)
-    (ipv6_proto packet) proto _ _ new.source_port new.destination_port message known later in
+    let flow : to ≡ translated_message proto (sum_of old) (sum_of next) new.source_port new.destination_port message =
+    translated_known (family.is_later_fragment packet) (family.proto packet) proto _ _ new.source_port new.destination_port message known
+    later in
     record {
       whole = alike_too (before (length message)) (after (length message)) (sums (length message)) updated;
       received = λ len count missing least.
           alike_by_proto proto _ _ (before len) (after len) count new.source_port new.destination_port message to missing (sums len) updated
-          (ipv6_flow_message_len new packet) flow alike_too least;
+          (part_len (family.is_later_fragment packet) (family.proto packet) _ _ new.source_port new.destination_port message) flow alike_too
+          least;
     }
 
 -- ---- a query quotes no packet
@@ -565,21 +537,13 @@ no_quote protos.Tcp message updated = refl
 no_quote protos.Icmpv4 message updated = icmpv4_none message updated.1
 no_quote protos.Icmpv6 message updated = icmpv6_none message (icmpv6_type message updated.1)
 
-pub ipv4_accepted : (new : Ipv4Translation) (packet quoted translated : List ℕ) → ipv4_quoted packet ≡ Some quoted
-    → IsIpv4Accepted new packet translated
-ipv4_accepted new packet quoted translated quotes = λ proto known later updated.
-    let message : List ℕ = message_in_ipv4 false packet in
-    let none : ipv4_quoted packet ≡ None =
-    ap (λ proto. quoted_in (ipv4_is_later_fragment packet) proto message) known ∙ ap (λ later. quoted_in later (Some proto) message) later
-    ∙ no_quote proto message updated in
-    absurd (cc (none, quotes))
-
-pub ipv6_accepted : (new : Ipv6Translation) (packet quoted translated : List ℕ) → ipv6_quoted packet ≡ Some quoted
-    → IsIpv6Accepted new packet translated
-ipv6_accepted new packet quoted translated quotes = λ proto known later updated.
-    let message : List ℕ = message_in_ipv6 packet in
-    let none : ipv6_quoted packet ≡ None =
-    ap (λ proto. quoted_in (ipv6_is_later_fragment packet) proto message) known ∙ ap (λ later. quoted_in later (Some proto) message) later
+-- a packet that quotes a packet has no message whose checksum is updated
+pub quoting_accepted : (family : Family) (new : Translation) (packet quoted translated : List ℕ) → quoted_packet family packet ≡ Some quoted
+    → IsAcceptedBy family new (message_in family false packet) packet translated
+quoting_accepted family new packet quoted translated quotes = λ proto known later updated.
+    let message : List ℕ = message_in family false packet in
+    let none : quoted_packet family packet ≡ None =
+    ap (λ proto. quoted_in (family.is_later_fragment packet) proto message) known ∙ ap (λ later. quoted_in later (Some proto) message) later
     ∙ no_quote proto message updated in
     absurd (cc (none, quotes))
 
@@ -624,18 +588,16 @@ pub ipv6_error_accepted : (new : Ipv6Translation) (packet quoted translated : Li
     → IsIpv6ErrorAccepted new packet translated
 ipv6_error_accepted new packet quoted translated there quotes four len accepted = λ other is.
     let message : List ℕ = message_in_ipv6 packet in
-    let old : Ipv6Header = ipv6_header_of packet in
-    let old_four : AreIpv6Addresses old = record {
-      source = range_len 8 16 packet (omega (arith, there));
-      destination = range_len 24 16 packet (omega (arith, there));
-    } in
-    let before : ℕ → ℕ = λ len. total (ipv6_pseudo_header_of protos.Icmpv6 old len) in
-    let after : ℕ → ℕ = λ len. total (ipv6_pseudo_header_of protos.Icmpv6 (ipv6_addresses new packet) len) in
+    let old : AddressPair = addresses_of ipv6 packet in
+    let next : AddressPair = new_addresses ipv6 (of_ipv6 new) packet in
+    let before : ℕ → ℕ = λ len. total (pseudo_header_of ipv6 protos.Icmpv6 old len) in
+    let after : ℕ → ℕ = λ len. total (pseudo_header_of ipv6 protos.Icmpv6 next len) in
+    let both : (len : ℕ) → HaveSums protos.Icmpv6 (sum_of old) (sum_of next) (before len) (after len) =
+    λ len. have_sums ipv6 ipv6_pseudo_headers protos.Icmpv6 old next len (ipv6_addresses_there packet there) four in
     let alike : (len sum : ℕ) → IsAcceptedAlike (before len + sum) (after len + sum) message translated = λ len sum.
-    let sums = have_sums_and protos.Icmpv6 _ _ (before len) (after len) sum
-    (ipv6_have_sums protos.Icmpv6 old (ipv6_addresses new packet) len old_four four) in
+    let sums = have_sums_and protos.Icmpv6 _ _ (before len) (after len) sum (both len) in
     accepted (before len + sum) (after len + sum) sums.0 sums.1 sums.2 in
-    let sums = ipv6_have_sums protos.Icmpv6 old (ipv6_addresses new packet) (length message) old_four four in
+    let sums = both (length message) in
     record {
       whole = accepted (before (length message)) (after (length message)) sums.0 sums.1 sums.2;
       received = λ n count missing least. alike_within (before n) (after n) count message translated missing len least (alike n);
@@ -691,57 +653,68 @@ front_total n bytes even there =
     sym (ap total (sym (take-append-drop n bytes))
     ∙ total-append (take n bytes) (drop n bytes) (ap (λ n. n % 2) (length-take-le n bytes there) ∙ even))
 
--- the sum of a packet whose checksum and addresses are replaced
-pub packet_total : (checksum : ℕ) (source destination packet : List ℕ) → checksum < 65536 → length source ≡ 4 → length destination ≡ 4
-    → 20 ≤ length packet
-    → total (with_bytes 16 destination (with_bytes 12 source (with_checksum 10 packet checksum)))
-    + (number 10 packet + (total (slice_range packet 12 16) + total (slice_range packet 16 20)))
-    ≡ total packet + (checksum + (total source + total destination))
-packet_total checksum source destination packet small four four_too there =
-    let first : List ℕ = with_checksum 10 packet checksum in
-    let second : List ℕ = with_bytes 12 source first in
-    let first_len : length first ≡ length packet = length_kept 10 (to_be_bytes w16 checksum) packet (omega (arith, there)) in
-    let second_there : 12 + length source ≤ length first = omega (arith, four, there, first_len) in
-    let second_len : length second ≡ length packet = length_kept 12 source first second_there ∙ first_len in
-    let first_kept : (n : ℕ) → 12 ≤ n → drop n first ≡ drop n packet = λ n after.
-    drop_after 10 (to_be_bytes w16 checksum) packet (omega (arith, there)) n (omega (arith, after)) in
-    let second_kept : drop 16 second ≡ drop 16 packet =
-    drop_after 12 source first second_there 16 (omega (arith, four)) ∙ first_kept 16 (omega arith) in
-    let old_source : take (length source) (drop 12 first) ≡ slice_range packet 12 16 =
-    ap (λ n. take n (drop 12 first)) four ∙ ap (take 4) (first_kept 12 (omega arith)) in
-    let old_destination : take (length destination) (drop 16 second) ≡ slice_range packet 16 20 =
-    ap (λ n. take n (drop 16 second)) four_too ∙ ap (take 4) second_kept in
+-- the sum of a packet whose addresses are replaced
+pub addresses_total : (first second n : ℕ) (source destination bytes : List ℕ) → first % 2 ≡ 0 → second % 2 ≡ 0 → first + n ≤ second
+    → length source ≡ n → length destination ≡ n → second + n ≤ length bytes
+    → total (with_bytes second destination (with_bytes first source bytes))
+    + (total (take n (drop first bytes)) + total (take n (drop second bytes)))
+    ≡ total bytes + (total source + total destination)
+addresses_total first second n source destination bytes even even_too apart is is_too there =
+    let middle : List ℕ = with_bytes first source bytes in
+    let first_there : first + length source ≤ length bytes = omega (arith, apart, is, there) in
+    let middle_len : length middle ≡ length bytes = length_kept first source bytes first_there in
+    let old_source : take (length source) (drop first bytes) ≡ take n (drop first bytes) = ap (λ n. take n (drop first bytes)) is in
+    let old_destination : take (length destination) (drop second middle) ≡ take n (drop second bytes) =
+    ap (λ n. take n (drop second middle)) is_too ∙ ap (take n) (drop_after first source bytes first_there second (omega (arith, is, apart)))
+    in
     omega (
       arith,
-      stored_number_total 10 checksum packet refl small (omega (arith, there)),
-      bytes_total 12 source first refl second_there,
-      bytes_total 16 destination second refl (omega (arith, four_too, there, second_len)),
+      bytes_total first source bytes even first_there,
+      bytes_total second destination middle even_too (omega (arith, is_too, there, middle_len)),
       ap total old_source,
       ap total old_destination,
     )
 
--- replacing the checksum and the addresses does not change the bytes after the header
-after_header : (len checksum : ℕ) (source destination packet : List ℕ) → length source ≡ 4 → length destination ≡ 4 → 20 ≤ len
-    → 20 ≤ length packet
-    → drop len (with_bytes 16 destination (with_bytes 12 source (with_checksum 10 packet checksum))) ≡ drop len packet
-after_header len checksum source destination packet four four_too five there =
-    let first : List ℕ = with_checksum 10 packet checksum in
-    let second : List ℕ = with_bytes 12 source first in
-    let first_len : length first ≡ length packet = length_kept 10 (to_be_bytes w16 checksum) packet (omega (arith, there)) in
-    let second_there : 12 + length source ≤ length first = omega (arith, four, there, first_len) in
-    let second_len : length second ≡ length packet = length_kept 12 source first second_there ∙ first_len in
-    drop_after 16 destination second (omega (arith, four_too, there, second_len)) len (omega (arith, four_too, five))
-    ∙ drop_after 12 source first second_there len (omega (arith, four, five))
-    ∙ drop_after 10 (to_be_bytes w16 checksum) packet (omega (arith, there)) len (omega (arith, five))
+-- the checksum and the addresses in the header of a packet are replaced
+module _ (checksum : ℕ) (source destination packet : List ℕ) (four : length source ≡ 4) (four_too : length destination ≡ 4)
+    (there : 20 ≤ length packet) where
+  abbrev stored : List ℕ
+  stored = with_checksum 10 packet checksum
 
-packet_len : (checksum : ℕ) (source destination packet : List ℕ) → length source ≡ 4 → length destination ≡ 4 → 20 ≤ length packet
-    → length (with_bytes 16 destination (with_bytes 12 source (with_checksum 10 packet checksum))) ≡ length packet
-packet_len checksum source destination packet four four_too there =
-    let first : List ℕ = with_checksum 10 packet checksum in
-    let first_len : length first ≡ length packet = length_kept 10 (to_be_bytes w16 checksum) packet (omega (arith, there)) in
-    let second_there : 12 + length source ≤ length first = omega (arith, four, there, first_len) in
-    let second_len : length (with_bytes 12 source first) ≡ length packet = length_kept 12 source first second_there ∙ first_len in
-    length_kept 16 destination (with_bytes 12 source first) (omega (arith, four_too, there, second_len)) ∙ second_len
+  stored_len : length stored ≡ length packet
+  stored_len = length_kept 10 (to_be_bytes w16 checksum) packet (omega (arith, there))
+
+  stored_after : (n : ℕ) → 12 ≤ n → drop n stored ≡ drop n packet
+  stored_after n after = drop_after 10 (to_be_bytes w16 checksum) packet (omega (arith, there)) n (omega (arith, after))
+
+  room : 20 ≤ length stored
+  room = omega (arith, there, stored_len)
+
+  -- the sum of the packet
+  pub packet_total : checksum < 65536 → total (with_bytes 16 destination (with_bytes 12 source stored))
+      + (number 10 packet + (total (slice_range packet 12 16) + total (slice_range packet 16 20)))
+      ≡ total packet + (checksum + (total source + total destination))
+  packet_total small =
+      omega (
+        arith,
+        stored_number_total 10 checksum packet refl small (omega (arith, there)),
+        addresses_total 12 16 4 source destination stored refl refl (omega arith) four four_too room,
+        ap (λ bytes. total (take 4 bytes)) (stored_after 12 (omega arith)),
+        ap (λ bytes. total (take 4 bytes)) (stored_after 16 (omega arith)),
+      )
+
+  -- the bytes after the header do not change
+  after_header : (len : ℕ) → 20 ≤ len → drop len (with_bytes 16 destination (with_bytes 12 source stored)) ≡ drop len packet
+  after_header len five =
+      both_after 12 16 4 source destination stored (omega arith) four four_too room len five ∙ stored_after len (omega (arith, five))
+
+  packet_len : length (with_bytes 16 destination (with_bytes 12 source stored)) ≡ length packet
+  packet_len = both_len 12 16 4 source destination stored (omega arith) four four_too room ∙ stored_len
+
+  new_first : slice_index (with_bytes 16 destination (with_bytes 12 source stored)) 0 ≡ slice_index packet 0
+  new_first =
+      both_before 12 16 4 source destination stored (omega arith) four four_too room 0 (omega arith)
+      ∙ index_before 10 (to_be_bytes w16 checksum) packet (omega (arith, there)) 0 (omega arith)
 
 -- the sum of the header of a packet whose checksum and addresses are replaced
 header_total : (len checksum : ℕ) (source destination packet : List ℕ) → checksum < 65536 → length source ≡ 4 → length destination ≡ 4
@@ -754,10 +727,10 @@ header_total len checksum source destination packet small four four_too even fiv
     let long : 20 ≤ length packet = omega (arith, five, there) in
     omega (
       arith,
-      packet_total checksum source destination packet small four four_too long,
+      packet_total checksum source destination packet four four_too long small,
       front_total len packet even there,
       front_total len new even (omega (arith, packet_len checksum source destination packet four four_too long, there)),
-      ap total (after_header len checksum source destination packet four four_too five long),
+      ap total (after_header checksum source destination packet four four_too long len five),
     )
 
 long_enough : (packet : List ℕ) → 12 ≤ length packet → nat_le 12 (length packet) ≡ true
@@ -771,17 +744,6 @@ header_number len packet five there =
     ∙ number_at true 10 packet (take len packet) (get_or-take len packet 10 0 (omega (arith, five)))
     (get_or-take len packet 11 0 (omega (arith, five)))
     ∙ sym (ap (λ b. if b then be_number packet 10 2 else 0) (long_enough packet (omega (arith, five, there))))
-
-new_first : (packet source destination : List ℕ) (checksum : ℕ) → 20 ≤ length packet → length source ≡ 4 → length destination ≡ 4
-    → slice_index (with_bytes 16 destination (with_bytes 12 source (with_checksum 10 packet checksum))) 0 ≡ slice_index packet 0
-new_first packet source destination checksum there four four_too =
-    let first : List ℕ = with_checksum 10 packet checksum in
-    let first_len : length first ≡ length packet = length_kept 10 (to_be_bytes w16 checksum) packet (omega (arith, there)) in
-    let second_there : 12 + length source ≤ length first = omega (arith, four, there, first_len) in
-    let second_len : length (with_bytes 12 source first) ≡ length packet = length_kept 12 source first second_there ∙ first_len in
-    index_before 16 destination (with_bytes 12 source first) (omega (arith, four_too, there, second_len)) 0 (omega arith)
-    ∙ index_before 12 source first second_there 0 (omega arith)
-    ∙ index_before 10 (to_be_bytes w16 checksum) packet (omega (arith, there)) 0 (omega arith)
 
 pub header_accepted : (len : ℕ) (packet source destination : List ℕ) (checksum : ℕ) → len % 2 ≡ 0 → 20 ≤ len → len ≤ length packet
     → slice_index packet 0 ≢ 0 → length source ≡ 4 → length destination ≡ 4 → checksum < 65536
@@ -811,7 +773,7 @@ header_accepted len packet source destination checksum even five there some four
     let first : slice_index (take len packet) 0 ≢ 0 = λ none. some (sym (get_or-take len packet 0 0 (omega (arith, five))) ∙ none) in
     let first_too : slice_index (take len new) 0 ≢ 0 = λ none.
     some (sym (get_or-take len new 0 0 (omega (arith, five))
-    ∙ new_first packet source destination checksum (omega (arith, five, there)) four four_too) ∙ none) in
+    ∙ new_first checksum source destination packet four four_too (omega (arith, five, there))) ∙ none) in
     both_accepted (total (take len packet)) (total (take len new))
     (ap (λ n. n % 65535) sum_too ∙ remainder without without_too turned ∙ sym (ap (λ n. n % 65535) sum))
     (first_counts (take len packet) first) (first_counts (take len new) first_too)
@@ -969,23 +931,3 @@ pub error_alike : (before after : ℕ) (message between translated : List ℕ) (
     → before + total message ≢ 0 → after + total translated ≢ 0 → IsAcceptedAlike before after message translated
 error_alike before after message between translated quoted changed replaced same some some_too =
     both_accepted (before + total message) (after + total translated) (omega (arith, replaced, same)) some some_too
-
--- ---- the addresses of an IPv6 packet
-
-pub ipv6_addresses_total : (source destination packet : List ℕ) → length source ≡ 16 → length destination ≡ 16 → 40 ≤ length packet
-    → total (with_bytes 24 destination (with_bytes 8 source packet)) + (total (slice_range packet 8 24) + total (slice_range packet 24 40))
-    ≡ total packet + (total source + total destination)
-ipv6_addresses_total source destination packet sixteen sixteen_too there =
-    let first : List ℕ = with_bytes 8 source packet in
-    let first_there : 8 + length source ≤ length packet = omega (arith, sixteen, there) in
-    let first_len : length first ≡ length packet = length_kept 8 source packet first_there in
-    let old_source : take (length source) (drop 8 packet) ≡ slice_range packet 8 24 = ap (λ n. take n (drop 8 packet)) sixteen in
-    let old_destination : take (length destination) (drop 24 first) ≡ slice_range packet 24 40 =
-    ap (λ n. take n (drop 24 first)) sixteen_too ∙ ap (take 16) (drop_after 8 source packet first_there 24 (omega (arith, sixteen))) in
-    omega (
-      arith,
-      bytes_total 8 source packet refl first_there,
-      bytes_total 24 destination first refl (omega (arith, sixteen_too, there, first_len)),
-      ap total old_source,
-      ap total old_destination,
-    )

@@ -1,7 +1,6 @@
 -- How an address translator translates an IPv4 packet (RFC 3022; RFC 5508 for ICMP): new addresses, a checksum of the header that is
 -- updated from the addresses (RFC 1624), and the translated message.
 use Rattle.std.specs.Prelude.{◌≡◌, ◌≤◌, ◌↔◌, ℕ, ◌+◌, ◌==◌, ◌&&◌, ◌||◌, Bool, false, true, is_none, not, List, [], ◌∷◌, drop, length, slice_index, slice_range, take, Option, Some, None, unwrap_or}
-use Rattle.std.specs.Int.{to_be_bytes, w16}
 use Rattle.std.specs.Borrow.{Bor}
 use Rattle.std.specs.Option.{option_map}
 use Rattle.ip_part.specs.Addresses.{Addresses, Ipv4}
@@ -10,53 +9,19 @@ use Rattle.ip_part.specs.Ip as ip
 use Rattle.ip_part.specs.Protocols.{proto_over}
 use Rattle.ip_part.specs.declared.ip_error.IpError.{IpError}
 use Rattle.ip_part.specs.declared.proto.Proto.{Proto}
-use Rattle.ip_part.specs.declared.proto.Proto.TheVariants as protos
 use Rattle.net_base.specs.IpHeaders.{ipv4_fragment_offset, ipv4_header_len, ipv4_header_of, version}
-use Rattle.net_base.specs.IpNumbers.{icmpv6_number, tcp_number, udp_number}
+use Rattle.net_base.specs.IpNumbers.{icmpv6_number}
 use Rattle.net_base.specs.PseudoHeader.{ipv4_pseudo_header}
 use Rattle.net_base.specs.Refusals.{first_of, refused_if}
 use Rattle.net_base.specs.declared.ipv4_header.Ipv4Header.{Ipv4Header}
-use Rattle.word_sum.specs.Checksum.{Verifies, sum_of_pieces, total}
-use Rattle.word_sum.specs.UpdatedChecksum.{updated_checksum_of}
+use Rattle.word_sum.specs.Checksum.{Verifies, total}
 use Rattle.etherparse_transport.specs.SourceRoutes.{contain_source_route}
-use Rattle.etherparse_transport.specs.Translations.{IsUpdated, IsVerifiedAlike, counted_after, has_port, least_summed, message_refusal, number, quoted_in, translated_in, with_bytes, with_quote}
+use Rattle.etherparse_transport.specs.Families.{IsAcceptedBy, AddressPair, AreAddresses, Family, Translation, flow_message, message_by, message_in, message_of_both, opposite, quoted_packet, quoted_refusal, refusal_with, sum_of, translated_flow, translated_with, with_addresses, with_message}
+use Rattle.etherparse_transport.specs.Translations.{IsVerifiedAlike, has_port, number}
 use Rattle.etherparse_transport.specs.declared.ip.ipv4_translation.Ipv4Translation.{Ipv4Translation}
 use Rattle.etherparse_transport.specs.declared.ip.message_place.Place.{Place}
 use Rattle.etherparse_transport.specs.declared.err.packet.translate_error.TranslateError.{TranslateError}
-use Rattle.etherparse_transport.specs.declared.err.packet.translate_error.TranslateError.TheVariants.{Ip, OtherVersion, Protocol, QuotedPacket, SourceRoute}
-
--- ---- the addresses
-
--- the place of the source in a header (RFC 791, section 3.1)
-abbrev pub ipv4_source_place : ℕ
-ipv4_source_place = 12
-
--- the place of the destination in a header
-abbrev pub ipv4_destination_place : ℕ
-ipv4_destination_place = 16
-
--- the sum of source and destination
-abbrev pub sum_of_ipv4 : Ipv4Header → ℕ
-sum_of_ipv4 addresses = sum_of_pieces 0 (addresses.source ∷ addresses.destination ∷ [])
-
--- the sum of source and destination without the end-around carry
-abbrev pub total_of_ipv4 : Ipv4Header → ℕ
-total_of_ipv4 addresses = total addresses.source + total addresses.destination
-
--- the place of the checksum in an IPv4 header (RFC 791, section 3.1)
-abbrev pub header_checksum_place : ℕ
-header_checksum_place = 10
-
--- the checksum of the header after these addresses replace the addresses in it (RFC 1624)
-abbrev pub updated_header_checksum : Ipv4Header → List ℕ → ℕ
-updated_header_checksum new packet =
-    updated_checksum_of (number header_checksum_place packet) (sum_of_ipv4 (ipv4_header_of packet)) (sum_of_ipv4 new)
-
--- an IPv4 packet with these addresses, and with the checksum of its header updated
-abbrev pub with_ipv4_addresses : Ipv4Header → List ℕ → List ℕ
-with_ipv4_addresses new packet =
-    with_bytes ipv4_destination_place new.destination (with_bytes ipv4_source_place new.source
-    (with_bytes header_checksum_place (to_be_bytes w16 (updated_header_checksum new packet)) packet))
+use Rattle.etherparse_transport.specs.declared.err.packet.translate_error.TranslateError.TheVariants.{Ip, OtherVersion, Protocol, SourceRoute}
 
 -- ---- the protocol
 
@@ -64,55 +29,9 @@ with_ipv4_addresses new packet =
 abbrev pub ipv4_proto : List ℕ → Option Proto
 ipv4_proto packet = proto_over (Ipv4 (ipv4_header_of packet).source (ipv4_header_of packet).destination) (slice_index packet 9)
 
--- ---- a packet of a flow
-
--- the addresses of an IPv4 packet after the translation
-abbrev pub ipv4_addresses : Ipv4Translation → List ℕ → Ipv4Header
-ipv4_addresses new packet = record {
-  source = unwrap_or new.source (ipv4_header_of packet).source;
-  destination = unwrap_or new.destination (ipv4_header_of packet).destination;
-}
-
 -- the packet is a later fragment: its fragment offset is above 0
 abbrev pub ipv4_is_later_fragment : List ℕ → Bool
 ipv4_is_later_fragment packet = not (ipv4_fragment_offset packet == 0)
-
--- The message of an IPv4 packet, which begins after the header and its options. If an ICMP error quotes the packet, the message extends to
--- the end of the quote. The total length is then ignored, since some hosts quote a packet with a total length that leaves out the header.
-abbrev pub message_in_ipv4 : Bool → List ℕ → List ℕ
-message_in_ipv4 is_quoted packet = counted_after is_quoted (ipv4_header_len packet) packet
-
--- this message of an IPv4 packet, with new ports
-abbrev pub ipv4_flow_message : Ipv4Translation → List ℕ → List ℕ → List ℕ
-ipv4_flow_message new message packet =
-    translated_in (ipv4_is_later_fragment packet) (ipv4_proto packet) (sum_of_ipv4 (ipv4_header_of packet))
-    (sum_of_ipv4 (ipv4_addresses new packet))
-    new.source_port new.destination_port message
-
--- an IPv4 packet with new addresses and this message
-abbrev pub ipv4_with_message : Ipv4Translation → List ℕ → List ℕ → List ℕ
-ipv4_with_message new message packet = with_ipv4_addresses (ipv4_addresses new packet) (with_bytes (ipv4_header_len packet) message packet)
-
--- an IPv4 packet with new addresses, and with new ports in this message
-abbrev pub ipv4_translated_flow : Ipv4Translation → List ℕ → List ℕ → List ℕ
-ipv4_translated_flow new message packet = ipv4_with_message new (ipv4_flow_message new message packet) packet
-
--- ---- an ICMP error
-
--- The translation of the packet that an ICMP error quotes. Source and destination are exchanged, since the quoted packet went in the other
--- direction (RFC 5508, section 4).
-abbrev pub ipv4_opposite : Ipv4Translation → Ipv4Translation
-ipv4_opposite new = record {
-  source = new.destination;
-  destination = new.source;
-  source_port = new.destination_port;
-  destination_port = new.source_port;
-}
-
--- the translation of the quoted packet: the passed translation, or else the opposite of the translation of the packet
-abbrev pub ipv4_of_quoted : Ipv4Translation → Option (Bor Ipv4Translation) → Ipv4Translation
-ipv4_of_quoted new None = ipv4_opposite new
-ipv4_of_quoted new (Some passed) = passed.now
 
 -- ---- errors
 
@@ -146,6 +65,89 @@ ipv4_place_refusal is_quoted has_port packet = first_of (
     (Protocol (record { 0 = slice_index packet 9 }))
     ∷ [])
 
+-- ---- the family
+
+-- the place of the checksum in an IPv4 header (RFC 791, section 3.1)
+abbrev pub header_checksum_place : ℕ
+header_checksum_place = 10
+
+-- the family of IPv4 (RFC 791, section 3.1)
+abbrev pub ipv4 : Family
+ipv4 = record {
+  address_len = 4;
+  source_place = 12;
+  destination_place = 16;
+  header_checksum = Some header_checksum_place;
+  covers_addresses = false;
+  ignores_len = true;
+  pseudo_header = λ addresses. ipv4_pseudo_header addresses.source addresses.destination;
+  start = ipv4_header_len;
+  proto = ipv4_proto;
+  is_later_fragment = ipv4_is_later_fragment;
+  place_refusal = ipv4_place_refusal;
+}
+
+-- what is replaced in an IPv4 packet
+abbrev pub of_ipv4 : Ipv4Translation → Translation
+of_ipv4 new =
+    record { source = new.source; destination = new.destination; source_port = new.source_port; destination_port = new.destination_port }
+
+-- the translation of an IPv4 packet that replaces this
+abbrev pub to_ipv4 : Translation → Ipv4Translation
+to_ipv4 new =
+    record { source = new.source; destination = new.destination; source_port = new.source_port; destination_port = new.destination_port }
+
+-- source and destination of an IPv4 packet
+abbrev pub pair_of_ipv4 : Ipv4Header → AddressPair
+pair_of_ipv4 addresses = record { source = addresses.source; destination = addresses.destination }
+
+-- both addresses have four bytes
+abbrev pub AreIpv4Addresses : Ipv4Header → Type 0
+AreIpv4Addresses addresses = AreAddresses ipv4 (pair_of_ipv4 addresses)
+
+-- ---- the addresses
+
+-- the sum of source and destination
+abbrev pub sum_of_ipv4 : Ipv4Header → ℕ
+sum_of_ipv4 addresses = sum_of (pair_of_ipv4 addresses)
+
+-- the sum of source and destination without the end-around carry
+abbrev pub total_of_ipv4 : Ipv4Header → ℕ
+total_of_ipv4 addresses = total addresses.source + total addresses.destination
+
+-- an IPv4 packet with these addresses, and with the checksum of its header updated
+abbrev pub with_ipv4_addresses : Ipv4Header → List ℕ → List ℕ
+with_ipv4_addresses new packet = with_addresses ipv4 (pair_of_ipv4 new) packet
+
+-- the addresses of an IPv4 packet after the translation
+abbrev pub ipv4_addresses : Ipv4Translation → List ℕ → Ipv4Header
+ipv4_addresses new packet = record {
+  source = unwrap_or new.source (ipv4_header_of packet).source;
+  destination = unwrap_or new.destination (ipv4_header_of packet).destination;
+}
+
+-- the addresses after the translation, as a value of `Addresses`
+abbrev pub ipv4_between : Ipv4Translation → List ℕ → Addresses
+ipv4_between new packet = Ipv4 (ipv4_addresses new packet).source (ipv4_addresses new packet).destination
+
+-- ---- the message
+
+-- the message of an IPv4 packet, which begins after the header and its options
+abbrev pub message_in_ipv4 : Bool → List ℕ → List ℕ
+message_in_ipv4 is_quoted packet = message_in ipv4 is_quoted packet
+
+-- this message of an IPv4 packet, with new ports
+abbrev pub ipv4_flow_message : Ipv4Translation → List ℕ → List ℕ → List ℕ
+ipv4_flow_message new message packet = flow_message ipv4 (of_ipv4 new) message packet
+
+-- an IPv4 packet with new addresses and this message
+abbrev pub ipv4_with_message : Ipv4Translation → List ℕ → List ℕ → List ℕ
+ipv4_with_message new message packet = with_message ipv4 (of_ipv4 new) message packet
+
+-- an IPv4 packet with new addresses, and with new ports in this message
+abbrev pub ipv4_translated_flow : Ipv4Translation → List ℕ → List ℕ → List ℕ
+ipv4_translated_flow new message packet = translated_flow ipv4 (of_ipv4 new) message packet
+
 -- `place` states where these bytes, the message of an IPv4 packet, begin and end, and which protocol they have
 pub record IsIpv4Place (bytes packet : List ℕ) (place : Place) : Type 0 where
   pub is_ipv4 : version packet ≡ 4
@@ -157,28 +159,30 @@ pub record IsIpv4Place (bytes packet : List ℕ) (place : Place) : Type 0 where
   pub proto : place.proto ≡ ipv4_proto packet
   pub later : place.is_later_fragment ≡ ipv4_is_later_fragment packet
 
--- the error for the message of an IPv4 packet
-abbrev pub ipv4_message_refusal : List ℕ → Option TranslateError
-ipv4_message_refusal packet = message_refusal (ipv4_is_later_fragment packet) (ipv4_proto packet) (message_in_ipv4 false packet)
+-- ---- an ICMP error
+
+-- the opposite of a translation, as `opposite` states
+abbrev pub ipv4_opposite : Ipv4Translation → Ipv4Translation
+ipv4_opposite new = to_ipv4 (opposite (of_ipv4 new))
+
+-- the translation of the quoted packet: the passed translation, or else the opposite of the translation of the packet
+abbrev pub ipv4_of_quoted : Ipv4Translation → Option (Bor Ipv4Translation) → Ipv4Translation
+ipv4_of_quoted new None = ipv4_opposite new
+ipv4_of_quoted new (Some passed) = passed.now
 
 -- the packet that an IPv4 packet quotes
 abbrev pub ipv4_quoted : List ℕ → Option (List ℕ)
-ipv4_quoted packet = quoted_in (ipv4_is_later_fragment packet) (ipv4_proto packet) (message_in_ipv4 false packet)
+ipv4_quoted packet = quoted_packet ipv4 packet
+
+-- ---- the errors of a translation
 
 -- the error if a packet quotes a packet that can't be translated
 abbrev pub ipv4_quoted_refusal : Bool → Option (List ℕ) → Option TranslateError
-ipv4_quoted_refusal has_port None = None
-ipv4_quoted_refusal has_port (Some quoted) = option_map (λ _. QuotedPacket) (ipv4_place_refusal true has_port quoted)
-
--- the first error that applies: for the packet, for its message, for the packet that it quotes
-abbrev pub ipv4_refusal_by : Bool → Bool → List ℕ → Option TranslateError
-ipv4_refusal_by has_port has_quoted_port packet = first_of (
-    ipv4_place_refusal false has_port packet ∷ ipv4_message_refusal packet ∷ ipv4_quoted_refusal has_quoted_port (ipv4_quoted packet) ∷ [])
+ipv4_quoted_refusal has_port quoted = quoted_refusal ipv4 has_port quoted
 
 -- the error for a translation of the packet, and another translation of the quoted packet
 abbrev pub ipv4_refusal_with : Ipv4Translation → Ipv4Translation → List ℕ → Option TranslateError
-ipv4_refusal_with new of_quoted packet =
-    ipv4_refusal_by (has_port new.source_port new.destination_port) (has_port of_quoted.source_port of_quoted.destination_port) packet
+ipv4_refusal_with new of_quoted packet = refusal_with ipv4 (of_ipv4 new) (of_ipv4 of_quoted) packet
 
 -- the error for this translation; the opposite translation applies to the quoted packet
 abbrev pub ipv4_refusal : Ipv4Translation → List ℕ → Option TranslateError
@@ -188,57 +192,29 @@ ipv4_refusal new packet = ipv4_refusal_with new (ipv4_opposite new) packet
 
 -- the translated message of an IPv4 packet; `quoted` is the quoted packet, if there is one, and `of_quoted` is its translation
 abbrev pub ipv4_message_by : Option (List ℕ) → Ipv4Translation → Ipv4Translation → List ℕ → List ℕ
-ipv4_message_by None new of_quoted packet = ipv4_flow_message new (message_in_ipv4 false packet) packet
-ipv4_message_by (Some quoted) new of_quoted packet =
-    with_quote 0 0 quoted (ipv4_translated_flow of_quoted (message_in_ipv4 true quoted) quoted) (message_in_ipv4 false packet)
-
--- the translated message, if the opposite translation applies to the quoted packet
-abbrev pub ipv4_message_with : Option (List ℕ) → Ipv4Translation → List ℕ → List ℕ
-ipv4_message_with quoted new packet = ipv4_message_by quoted new (ipv4_opposite new) packet
+ipv4_message_by quoted new of_quoted packet = message_by ipv4 quoted (of_ipv4 new) (of_ipv4 of_quoted) packet
 
 -- the translated message; the translation `of_quoted` applies to the packet that an ICMP error quotes
 abbrev pub ipv4_message_of_both : Ipv4Translation → Ipv4Translation → List ℕ → List ℕ
-ipv4_message_of_both new of_quoted packet = ipv4_message_by (ipv4_quoted packet) new of_quoted packet
+ipv4_message_of_both new of_quoted packet = message_of_both ipv4 (of_ipv4 new) (of_ipv4 of_quoted) packet
 
 -- the translated packet; the translation `of_quoted` applies to the packet that an ICMP error quotes
 abbrev pub ipv4_translated_with : Ipv4Translation → Ipv4Translation → List ℕ → List ℕ
-ipv4_translated_with new of_quoted packet = ipv4_with_message new (ipv4_message_of_both new of_quoted packet) packet
+ipv4_translated_with new of_quoted packet = translated_with ipv4 (of_ipv4 new) (of_ipv4 of_quoted) packet
 
 -- the translated message of an IPv4 packet; the opposite translation applies to the quoted packet
 abbrev pub ipv4_translated_message : Ipv4Translation → List ℕ → List ℕ
-ipv4_translated_message new packet = ipv4_message_with (ipv4_quoted packet) new packet
+ipv4_translated_message new packet = ipv4_message_of_both new (ipv4_opposite new) packet
 
 -- the translated packet; it is the old packet except for the checksum of the header, the addresses and the message
 abbrev pub ipv4_translated : Ipv4Translation → List ℕ → List ℕ
-ipv4_translated new packet = ipv4_with_message new (ipv4_translated_message new packet) packet
-
--- the addresses after the translation, as a value of `Addresses`
-abbrev pub ipv4_between : Ipv4Translation → List ℕ → Addresses
-ipv4_between new packet = Ipv4 (ipv4_addresses new packet).source (ipv4_addresses new packet).destination
-
--- both addresses have four bytes
-pub record AreIpv4Addresses (addresses : Ipv4Header) : Type 0 where
-  pub source : length addresses.source ≡ 4
-  pub destination : length addresses.destination ≡ 4
+ipv4_translated new packet = ipv4_translated_with new (ipv4_opposite new) packet
 
 -- ---- a receiver's check
 
--- the pseudo header of a message of this protocol and this length between these addresses; ICMPv4 has no pseudo header
-abbrev pub ipv4_pseudo_header_of : Proto → Ipv4Header → ℕ → List ℕ
-ipv4_pseudo_header_of protos.Udp addresses len = ipv4_pseudo_header addresses.source addresses.destination udp_number len
-ipv4_pseudo_header_of protos.Tcp addresses len = ipv4_pseudo_header addresses.source addresses.destination tcp_number len
-ipv4_pseudo_header_of protos.Icmpv4 addresses len = []
-ipv4_pseudo_header_of protos.Icmpv6 addresses len = ipv4_pseudo_header addresses.source addresses.destination icmpv6_number len
-
--- Assume that the packet is not a later fragment, and that the checksum of its message is updated. Then a receiver accepts the translated
--- message between the new addresses exactly if it accepts the message between the old addresses. The message may be only a part of a
--- message.
+-- a receiver accepts the translated message of a packet exactly if it accepts this message, as `IsAcceptedBy` states
 abbrev pub IsAcceptedByIpv4 : Ipv4Translation → List ℕ → List ℕ → List ℕ → Type 0
-IsAcceptedByIpv4 new message packet translated = (proto : Proto) → ipv4_proto packet ≡ Some proto
-    → (ipv4_is_later_fragment packet ≡ false) → IsUpdated proto message
-    → IsVerifiedAlike (least_summed proto (length message))
-    (ipv4_pseudo_header_of proto (ipv4_header_of packet)) (ipv4_pseudo_header_of proto (ipv4_addresses new packet))
-    message translated
+IsAcceptedByIpv4 new message packet translated = IsAcceptedBy ipv4 (of_ipv4 new) message packet translated
 
 -- a receiver accepts this translated message of the packet exactly if it accepts the message, as `IsAcceptedByIpv4` states
 abbrev pub IsIpv4Accepted : Ipv4Translation → List ℕ → List ℕ → Type 0

@@ -22,6 +22,7 @@ pub use Rattle.udp_part.specs.UdpSlice
 pub use Rattle.udp_part.specs.UdpValidity
 pub mod EchoReplies
 pub mod ErrorTexts
+pub mod Families
 pub mod Flows
 pub mod Formats
 pub mod Headers

@@ -4,11 +4,11 @@ use Rattle.std.specs.Prelude.{◌≡◌, ◌≢◌, ⊤, true, false, ℕ, ◌<�
 use Rattle.std.specs.Option.{option_map}
 use Rattle.ip_part.specs.declared.proto.Proto.{Proto}
 use Rattle.ip_part.specs.declared.proto.Proto.TheVariants as protos
-use Rattle.net_base.specs.IpHeaders.{ipv4_header_of, ipv6_header_of}
 use Rattle.net_base.specs.StoredChecksum.{icmp_checksum_place, tcp_checksum_place}
 use Rattle.word_sum.specs.Checksum.{all_ones}
-use Rattle.etherparse_transport.specs.Ipv4Translations.{header_checksum_place, ipv4_is_later_fragment, ipv4_opposite, ipv4_proto, ipv4_quoted, message_in_ipv4}
-use Rattle.etherparse_transport.specs.Ipv6Translations.{ipv6_is_later_fragment, ipv6_opposite, ipv6_proto, ipv6_quoted, message_in_ipv6}
+use Rattle.etherparse_transport.specs.Families.{Family, Translation, addresses_of, message_in, opposite, quoted_packet}
+use Rattle.etherparse_transport.specs.Ipv4Translations.{ipv4, of_ipv4, to_ipv4}
+use Rattle.etherparse_transport.specs.Ipv6Translations.{ipv6, of_ipv6, to_ipv6}
 use Rattle.etherparse_transport.specs.Translations.{destination_port_place, identifier_place, is_query, number, rest_of_message, source_port_place}
 use Rattle.etherparse_transport.specs.declared.ip.ipv4_translation.Ipv4Translation.{Ipv4Translation}
 use Rattle.etherparse_transport.specs.declared.ip.ipv6_translation.Ipv6Translation.{Ipv6Translation}
@@ -54,141 +54,128 @@ pub record ArePorts (first second : Option ℕ) : Type 0 where
   pub source : IfSome first (λ port. port < 65536)
   pub destination : IfSome second (λ port. port < 65536)
 
--- ---- IPv4
+-- ---- the way back of a packet
 
 -- the addresses and ports of the translation have the lengths of their types
-pub record IsIpv4Translation (new : Ipv4Translation) : Type 0 where
-  pub source : IfSome new.source (λ address. length address ≡ 4)
-  pub destination : IfSome new.destination (λ address. length address ≡ 4)
+pub record IsTranslation (family : Family) (new : Translation) : Type 0 where
+  pub source : IfSome new.source (λ address. length address ≡ family.address_len)
+  pub destination : IfSome new.destination (λ address. length address ≡ family.address_len)
   pub ports : ArePorts new.source_port new.destination_port
 
 -- the way back of a packet with this message; it does not depend on a packet that the message quotes
-abbrev pub ipv4_flow_back : Ipv4Translation → List ℕ → List ℕ → Ipv4Translation
-ipv4_flow_back new message packet = record {
-  source = instead (ipv4_header_of packet).source new.source;
-  destination = instead (ipv4_header_of packet).destination new.destination;
-  source_port = instead (port_in (ipv4_proto packet) source_port_place message) new.source_port;
-  destination_port = instead (port_in (ipv4_proto packet) destination_port_place message) new.destination_port;
+abbrev pub flow_back : Family → Translation → List ℕ → List ℕ → Translation
+flow_back family new message packet = record {
+  source = instead (addresses_of family packet).source new.source;
+  destination = instead (addresses_of family packet).destination new.destination;
+  source_port = instead (port_in (family.proto packet) source_port_place message) new.source_port;
+  destination_port = instead (port_in (family.proto packet) destination_port_place message) new.destination_port;
 }
 
 -- The way back of a packet, given the packet that it quotes, if any. If it quotes a packet, its way back is the opposite of the way back of
 -- the quoted packet.
-abbrev pub ipv4_back_by : Option (List ℕ) → Ipv4Translation → List ℕ → Ipv4Translation
-ipv4_back_by None new packet = ipv4_flow_back new (message_in_ipv4 false packet) packet
-ipv4_back_by (Some quoted) new packet = ipv4_opposite (ipv4_flow_back (ipv4_opposite new) (message_in_ipv4 true quoted) quoted)
+abbrev pub back_by : Family → Option (List ℕ) → Translation → List ℕ → Translation
+back_by family None new packet = flow_back family new (message_in family false packet) packet
+back_by family (Some quoted) new packet = opposite (flow_back family (opposite new) (message_in family true quoted) quoted)
 
 -- the way back of a packet
-abbrev pub ipv4_way_back : Ipv4Translation → List ℕ → Ipv4Translation
-ipv4_way_back new packet = ipv4_back_by (ipv4_quoted packet) new packet
+abbrev pub way_back : Family → Translation → List ℕ → Translation
+way_back family new packet = back_by family (quoted_packet family packet) new packet
 
 -- the way back of the quoted packet, which has its own translation; if no packet is quoted, that translation itself
-abbrev pub ipv4_quoted_back : Option (List ℕ) → Ipv4Translation → Ipv4Translation
-ipv4_quoted_back None of_quoted = of_quoted
-ipv4_quoted_back (Some quoted) of_quoted = ipv4_flow_back of_quoted (message_in_ipv4 true quoted) quoted
+abbrev pub quoted_back : Family → Option (List ℕ) → Translation → Translation
+quoted_back family None of_quoted = of_quoted
+quoted_back family (Some quoted) of_quoted = flow_back family of_quoted (message_in family true quoted) quoted
+
+-- the checksum of the header, if it has one, is restored
+abbrev pub IsHeaderRestored : Family → List ℕ → Type 0
+IsHeaderRestored family packet = IfSome family.header_checksum (λ place. number place packet ≢ all_ones)
 
 -- the checksums of the header and of this message are restored
-abbrev pub IsIpv4FlowRestored : List ℕ → List ℕ → Type 0
-IsIpv4FlowRestored message packet = (number header_checksum_place packet ≢ all_ones)
-    × IsChecksumRestoredIn (ipv4_is_later_fragment packet) (ipv4_proto packet) message
+abbrev pub IsFlowRestored : Family → List ℕ → List ℕ → Type 0
+IsFlowRestored family message packet =
+    IsHeaderRestored family packet × IsChecksumRestoredIn (family.is_later_fragment packet) (family.proto packet) message
+
+-- The checksums of an ICMP error and of the quoted packet are restored. Addresses are always restored if each packet has its own
+-- translation.
+pub record AreChecksumsRestored (family : Family) (packet quoted : List ℕ) : Type 0 where
+  pub header : IsHeaderRestored family packet
+  pub message : number icmp_checksum_place (message_in family false packet) ≢ all_ones
+  pub quoted_packet : IsFlowRestored family (message_in family true quoted) quoted
 
 -- The checksums of the error and of the quoted packet are restored. If the source of the error is replaced, it equals the destination of
 -- the quoted packet. If the destination of the error is replaced, it equals the source of the quoted packet. Otherwise the translation can
 -- make two different addresses equal, for example if a router sent the error. Then the way back can't restore both.
-pub record IsIpv4ErrorRestored (new : Ipv4Translation) (packet quoted : List ℕ) : Type 0 where
-  pub header : number header_checksum_place packet ≢ all_ones
-  pub message : number icmp_checksum_place (message_in_ipv4 false packet) ≢ all_ones
-  pub quoted_packet : IsIpv4FlowRestored (message_in_ipv4 true quoted) quoted
-  pub source : IfSome new.source (λ _. (ipv4_header_of quoted).destination ≡ (ipv4_header_of packet).source)
-  pub destination : IfSome new.destination (λ _. (ipv4_header_of quoted).source ≡ (ipv4_header_of packet).destination)
+pub record IsErrorRestored (family : Family) (new : Translation) (packet quoted : List ℕ) : Type 0 where
+  pub checksums : AreChecksumsRestored family packet quoted
+  pub source : IfSome new.source (λ _. (addresses_of family quoted).destination ≡ (addresses_of family packet).source)
+  pub destination : IfSome new.destination (λ _. (addresses_of family quoted).source ≡ (addresses_of family packet).destination)
 
 -- the way back restores a packet, given the packet that it quotes, if any
-abbrev pub IsIpv4RestoredBy : Option (List ℕ) → Ipv4Translation → List ℕ → Type 0
-IsIpv4RestoredBy None new packet = IsIpv4FlowRestored (message_in_ipv4 false packet) packet
-IsIpv4RestoredBy (Some quoted) new packet = IsIpv4ErrorRestored new packet quoted
+abbrev pub IsRestoredBy : Family → Option (List ℕ) → Translation → List ℕ → Type 0
+IsRestoredBy family None new packet = IsFlowRestored family (message_in family false packet) packet
+IsRestoredBy family (Some quoted) new packet = IsErrorRestored family new packet quoted
+
+-- the ways back of both translations restore a packet, given the packet that it quotes, if any
+abbrev pub IsRestoredWithBy : Family → Option (List ℕ) → List ℕ → Type 0
+IsRestoredWithBy family None packet = IsFlowRestored family (message_in family false packet) packet
+IsRestoredWithBy family (Some quoted) packet = AreChecksumsRestored family packet quoted
+
+-- the way back restores the packet
+abbrev pub IsRestored : Family → Translation → List ℕ → Type 0
+IsRestored family new packet = IsRestoredBy family (quoted_packet family packet) new packet
+
+-- the ways back of both translations restore the packet
+abbrev pub IsRestoredWith : Family → List ℕ → Type 0
+IsRestoredWith family packet = IsRestoredWithBy family (quoted_packet family packet) packet
+
+-- ---- IPv4
+
+-- the addresses and ports of the translation have the lengths of their types
+abbrev pub IsIpv4Translation : Ipv4Translation → Type 0
+IsIpv4Translation new = IsTranslation ipv4 (of_ipv4 new)
+
+-- the way back of a packet with this message; it does not depend on a packet that the message quotes
+abbrev pub ipv4_flow_back : Ipv4Translation → List ℕ → List ℕ → Ipv4Translation
+ipv4_flow_back new message packet = to_ipv4 (flow_back ipv4 (of_ipv4 new) message packet)
+
+-- the way back of a packet
+abbrev pub ipv4_way_back : Ipv4Translation → List ℕ → Ipv4Translation
+ipv4_way_back new packet = to_ipv4 (way_back ipv4 (of_ipv4 new) packet)
+
+-- the way back of the quoted packet, which has its own translation; if no packet is quoted, that translation itself
+abbrev pub ipv4_quoted_back : Option (List ℕ) → Ipv4Translation → Ipv4Translation
+ipv4_quoted_back quoted of_quoted = to_ipv4 (quoted_back ipv4 quoted (of_ipv4 of_quoted))
 
 -- the way back restores the packet
 abbrev pub IsIpv4Restored : Ipv4Translation → List ℕ → Type 0
-IsIpv4Restored new packet = IsIpv4RestoredBy (ipv4_quoted packet) new packet
-
--- The checksums of an ICMP error and of the quoted packet are restored. Addresses are always restored if each packet has its own
--- translation.
-pub record AreIpv4ChecksumsRestored (packet quoted : List ℕ) : Type 0 where
-  pub header : number header_checksum_place packet ≢ all_ones
-  pub message : number icmp_checksum_place (message_in_ipv4 false packet) ≢ all_ones
-  pub quoted_packet : IsIpv4FlowRestored (message_in_ipv4 true quoted) quoted
-
--- the ways back of both translations restore a packet, given the packet that it quotes, if any
-abbrev pub IsIpv4RestoredWithBy : Option (List ℕ) → List ℕ → Type 0
-IsIpv4RestoredWithBy None packet = IsIpv4FlowRestored (message_in_ipv4 false packet) packet
-IsIpv4RestoredWithBy (Some quoted) packet = AreIpv4ChecksumsRestored packet quoted
+IsIpv4Restored new packet = IsRestored ipv4 (of_ipv4 new) packet
 
 -- the ways back of both translations restore the packet
 abbrev pub IsIpv4RestoredWith : List ℕ → Type 0
-IsIpv4RestoredWith packet = IsIpv4RestoredWithBy (ipv4_quoted packet) packet
+IsIpv4RestoredWith packet = IsRestoredWith ipv4 packet
 
--- ---- IPv6
+-- ---- IPv4
 
 -- the addresses and ports of the translation have the lengths of their types
-pub record IsIpv6Translation (new : Ipv6Translation) : Type 0 where
-  pub source : IfSome new.source (λ address. length address ≡ 16)
-  pub destination : IfSome new.destination (λ address. length address ≡ 16)
-  pub ports : ArePorts new.source_port new.destination_port
+abbrev pub IsIpv6Translation : Ipv6Translation → Type 0
+IsIpv6Translation new = IsTranslation ipv6 (of_ipv6 new)
 
 -- the way back of a packet; it does not depend on a packet that its message quotes
 abbrev pub ipv6_flow_back : Ipv6Translation → List ℕ → Ipv6Translation
-ipv6_flow_back new packet = record {
-  source = instead (ipv6_header_of packet).source new.source;
-  destination = instead (ipv6_header_of packet).destination new.destination;
-  source_port = instead (port_in (ipv6_proto packet) source_port_place (message_in_ipv6 packet)) new.source_port;
-  destination_port = instead (port_in (ipv6_proto packet) destination_port_place (message_in_ipv6 packet)) new.destination_port;
-}
-
--- The way back of a packet, given the packet that it quotes, if any. If it quotes a packet, its way back is the opposite of the way back of
--- the quoted packet.
-abbrev pub ipv6_back_by : Option (List ℕ) → Ipv6Translation → List ℕ → Ipv6Translation
-ipv6_back_by None new packet = ipv6_flow_back new packet
-ipv6_back_by (Some quoted) new packet = ipv6_opposite (ipv6_flow_back (ipv6_opposite new) quoted)
+ipv6_flow_back new packet = to_ipv6 (flow_back ipv6 (of_ipv6 new) (message_in ipv6 false packet) packet)
 
 -- the way back of a packet
 abbrev pub ipv6_way_back : Ipv6Translation → List ℕ → Ipv6Translation
-ipv6_way_back new packet = ipv6_back_by (ipv6_quoted packet) new packet
+ipv6_way_back new packet = to_ipv6 (way_back ipv6 (of_ipv6 new) packet)
 
 -- the way back of the quoted packet, which has its own translation; if no packet is quoted, that translation itself
 abbrev pub ipv6_quoted_back : Option (List ℕ) → Ipv6Translation → Ipv6Translation
-ipv6_quoted_back None of_quoted = of_quoted
-ipv6_quoted_back (Some quoted) of_quoted = ipv6_flow_back of_quoted quoted
-
--- the checksum of the message is restored; an IPv6 header has no checksum
-abbrev pub IsIpv6FlowRestored : List ℕ → Type 0
-IsIpv6FlowRestored packet = IsChecksumRestoredIn (ipv6_is_later_fragment packet) (ipv6_proto packet) (message_in_ipv6 packet)
-
--- the conditions of `IsIpv4ErrorRestored` for an ICMP error over IPv6, without a header checksum
-pub record IsIpv6ErrorRestored (new : Ipv6Translation) (packet quoted : List ℕ) : Type 0 where
-  pub message : number icmp_checksum_place (message_in_ipv6 packet) ≢ all_ones
-  pub quoted_packet : IsIpv6FlowRestored quoted
-  pub source : IfSome new.source (λ _. (ipv6_header_of quoted).destination ≡ (ipv6_header_of packet).source)
-  pub destination : IfSome new.destination (λ _. (ipv6_header_of quoted).source ≡ (ipv6_header_of packet).destination)
-
--- the way back restores a packet, given the packet that it quotes, if any
-abbrev pub IsIpv6RestoredBy : Option (List ℕ) → Ipv6Translation → List ℕ → Type 0
-IsIpv6RestoredBy None new packet = IsIpv6FlowRestored packet
-IsIpv6RestoredBy (Some quoted) new packet = IsIpv6ErrorRestored new packet quoted
+ipv6_quoted_back quoted of_quoted = to_ipv6 (quoted_back ipv6 quoted (of_ipv6 of_quoted))
 
 -- the way back restores the packet
 abbrev pub IsIpv6Restored : Ipv6Translation → List ℕ → Type 0
-IsIpv6Restored new packet = IsIpv6RestoredBy (ipv6_quoted packet) new packet
-
--- The checksums of an ICMP error and of the quoted packet are restored. Addresses are always restored if each packet has its own
--- translation.
-pub record AreIpv6ChecksumsRestored (packet quoted : List ℕ) : Type 0 where
-  pub message : number icmp_checksum_place (message_in_ipv6 packet) ≢ all_ones
-  pub quoted_packet : IsIpv6FlowRestored quoted
-
--- the ways back of both translations restore a packet, given the packet that it quotes, if any
-abbrev pub IsIpv6RestoredWithBy : Option (List ℕ) → List ℕ → Type 0
-IsIpv6RestoredWithBy None packet = IsIpv6FlowRestored packet
-IsIpv6RestoredWithBy (Some quoted) packet = AreIpv6ChecksumsRestored packet quoted
+IsIpv6Restored new packet = IsRestored ipv6 (of_ipv6 new) packet
 
 -- the ways back of both translations restore the packet
 abbrev pub IsIpv6RestoredWith : List ℕ → Type 0
-IsIpv6RestoredWith packet = IsIpv6RestoredWithBy (ipv6_quoted packet) packet
+IsIpv6RestoredWith packet = IsRestoredWith ipv6 packet

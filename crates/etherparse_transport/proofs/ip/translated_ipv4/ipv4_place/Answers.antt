@@ -1,4 +1,4 @@
-use Rattle.std.proofs.Common.{rules, refl}
+use Rattle.std.proofs.Common.{rules}
 use Rattle.net_base.specs.IpHeaders.{BeginsWithIpv4Header}
 use Rattle.etherparse_transport.proofs.TranslationLemmas.{ipv4_place_is}
 use Rattle.etherparse_transport.proofs.ip.translated_ipv4.ipv4_place.Goals as goal

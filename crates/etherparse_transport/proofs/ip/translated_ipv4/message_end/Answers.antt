@@ -1,5 +1,5 @@
-use Rattle.std.proofs.Common.{rules, ◌∙◌}
-use Rattle.etherparse_transport.proofs.TranslationLemmas.{ends_with_packet, ends_with_total}
+use Rattle.std.proofs.Common.{rules}
+use Rattle.etherparse_transport.proofs.TranslationLemmas.{ends_with_total}
 use Rattle.etherparse_transport.proofs.ip.translated_ipv4.message_end.Goals as goal
 
 pub returns-clause-message : goal.returns-clause-message

@@ -44,5 +44,5 @@ returns-clause-total c =
       arith,
       ap total new_is,
       c.number-old.ensures,
-      packet_total checksum source destination packet (search rules) (search rules) (search rules) c.requires.header,
+      packet_total checksum source destination packet (search rules) (search rules) c.requires.header (search rules),
     )

@@ -1,4 +1,4 @@
-use Rattle.std.proofs.Common.{◌≡◌, ◌≢◌, None, false, true, ◌+◌, ◌-◌, List, ℕ, length, slice_index, slice_range, ap, ◌∙◌, subst, sym, rules}
+use Rattle.std.proofs.Common.{◌≡◌, ◌≢◌, None, true, ◌+◌, ◌-◌, List, ℕ, length, slice_index, slice_range, ap, ◌∙◌, subst, sym, rules}
 use Rattle.std.specs.Option.{option_map}
 use Rattle.etherparse_transport.specs.Ipv4Translations.{ipv4_addresses, ipv4_of_quoted, ipv4_place_refusal, ipv4_translated_flow, message_in_ipv4, sum_of_ipv4, with_ipv4_addresses}
 use Rattle.net_base.specs.IpHeaders.{ipv4_header_len}
@@ -7,8 +7,23 @@ use Rattle.etherparse_transport.specs.declared.err.packet.translate_error.Transl
 use Rattle.etherparse_transport.proofs.TranslationLemmas.{put_is, quoted_is_refused}
 use Rattle.etherparse_transport.proofs.TranslationSums.{header_in_front, ipv4_header_put}
 use Rattle.etherparse_transport.proofs.ip.translated_ipv4.translate_ipv4_error.Goals as goal
+use Rattle.etherparse_transport.specs.declared.ip.ipv4_translation.Ipv4Translation.{Ipv4Translation}
 use Rattle.etherparse_transport.specs.WaysBack.{IsIpv4Translation}
 use borrow.Rule.Slice.PartMut.{put_mid}
+
+-- a message in which the translated packet replaces the quoted packet, which ends at this place
+abbrev with_translated : Ipv4Translation → ℕ → List ℕ → List ℕ
+with_translated rule end message =
+    with_quote 0 0 (slice_range message 8 end)
+    (ipv4_translated_flow rule (message_in_ipv4 true (slice_range message 8 end)) (slice_range message 8 end)) message
+
+changed_is : (c : goal.After-slice_known-3-1) → c.translate_ipv4_quoted.new.message
+    ≡ with_translated (ipv4_of_quoted c.args.new.now c.args.passed) (8 + c.args.quoted_len)
+    (slice_range c.args.packet.now c.args.place.now.start c.args.place.now.end)
+changed_is c =
+    c.translate_ipv4_quoted.ensures.translated
+    ∙ ap (λ new. with_translated new (8 + c.args.quoted_len) (slice_range c.args.packet.now c.args.place.now.start c.args.place.now.end))
+    c.of_quoted-for_quoted.ensures.passed
 
 pub returns-clause-refused : goal.returns-clause-refused
 returns-clause-refused c =
@@ -35,19 +50,7 @@ returns-in_default-clause-refused c =
 pub returns-clause-translated : goal.returns-clause-translated
 returns-clause-translated c =
     let packet : List ℕ = c.args.packet.now in
-    let end : ℕ = 8 + c.args.quoted_len in
     let changed : List ℕ = c.translate_ipv4_quoted.new.message in
-    let with_translated : List ℕ → List ℕ = λ message.
-    with_quote 0 0 (slice_range message 8 end)
-    (ipv4_translated_flow (ipv4_of_quoted c.args.new.now c.args.passed) (message_in_ipv4 true (slice_range message 8 end))
-    (slice_range message 8 end)) message in
-    let changed_is : changed ≡ with_translated (message_in_ipv4 false packet) = (c.translate_ipv4_quoted.ensures.translated
-    ∙ ap (λ new. with_quote 0 0 (slice_range (slice_range c.args.packet.now c.args.place.now.start c.args.place.now.end) 8 end)
-    (ipv4_translated_flow new (message_in_ipv4 true
-    (slice_range (slice_range c.args.packet.now c.args.place.now.start c.args.place.now.end) 8 end))
-    (slice_range (slice_range c.args.packet.now c.args.place.now.start c.args.place.now.end) 8 end))
-    (slice_range c.args.packet.now c.args.place.now.start c.args.place.now.end)) c.of_quoted-for_quoted.ensures.passed)
-    ∙ ap with_translated c.requires.place.message in
     c.replace_ipv4_addresses.ensures.replaced
     ∙ ap (λ addresses. with_ipv4_addresses addresses
     (put_mid c.args.place.now.start (c.args.place.now.end - c.args.place.now.start) packet changed))
@@ -55,23 +58,13 @@ returns-clause-translated c =
     ∙ ap (with_ipv4_addresses (ipv4_addresses c.args.new.now packet))
     (put_is c.args.place.now.start c.args.place.now.end packet changed (search rules)
     ∙ ap (λ start. with_bytes start changed packet) c.requires.place.start
-    ∙ ap (λ message. with_bytes (ipv4_header_len packet) message packet) changed_is)
+    ∙ ap (λ message. with_bytes (ipv4_header_len packet) message packet)
+    (changed_is c ∙ ap (with_translated (ipv4_of_quoted c.args.new.now c.args.passed) (8 + c.args.quoted_len)) c.requires.place.message))
 
 pub returns-clause-len : goal.returns-clause-len
 returns-clause-len c =
-    let packet : List ℕ = c.args.packet.now in
-    let end : ℕ = 8 + c.args.quoted_len in
-    let with_translated : List ℕ → List ℕ = λ message.
-    with_quote 0 0 (slice_range message 8 end)
-    (ipv4_translated_flow (ipv4_of_quoted c.args.new.now c.args.passed) (message_in_ipv4 true (slice_range message 8 end))
-    (slice_range message 8 end)) message in
-    sym (ap length ((c.translate_ipv4_quoted.ensures.translated
-    ∙ ap (λ new. with_quote 0 0 (slice_range (slice_range c.args.packet.now c.args.place.now.start c.args.place.now.end) 8 end)
-    (ipv4_translated_flow new (message_in_ipv4 true
-    (slice_range (slice_range c.args.packet.now c.args.place.now.start c.args.place.now.end) 8 end))
-    (slice_range (slice_range c.args.packet.now c.args.place.now.start c.args.place.now.end) 8 end))
-    (slice_range c.args.packet.now c.args.place.now.start c.args.place.now.end)) c.of_quoted-for_quoted.ensures.passed)
-    ∙ ap with_translated c.requires.place.message))
+    sym (ap length (changed_is c ∙ ap (with_translated (ipv4_of_quoted c.args.new.now c.args.passed) (8 + c.args.quoted_len))
+    c.requires.place.message))
     ∙ c.translate_ipv4_quoted.auto.message ∙ ap length c.requires.place.message
 
 pub returns-clause-header : goal.returns-clause-header
@@ -88,20 +81,10 @@ replace_ipv4_addresses-requires-clause-removed c =
 
 pub returns-clause-verifies : goal.returns-clause-verifies
 returns-clause-verifies c = λ some sum.
-    let packet : List ℕ = c.args.packet.now in
-    let end : ℕ = 8 + c.args.quoted_len in
-    let range : List ℕ = slice_range packet c.args.place.now.start c.args.place.now.end in
-    let with_translated : List ℕ → List ℕ = λ message.
-    with_quote 0 0 (slice_range message 8 end)
-    (ipv4_translated_flow (ipv4_of_quoted c.args.new.now c.args.passed) (message_in_ipv4 true (slice_range message 8 end))
-    (slice_range message 8 end)) message in
-    subst (λ message. IsAcceptedAlike sum sum message (with_translated message)) c.requires.place.message
-    (subst (IsAcceptedAlike sum sum range) (c.translate_ipv4_quoted.ensures.translated
-    ∙ ap (λ new. with_quote 0 0 (slice_range (slice_range c.args.packet.now c.args.place.now.start c.args.place.now.end) 8 end)
-    (ipv4_translated_flow new (message_in_ipv4 true
-    (slice_range (slice_range c.args.packet.now c.args.place.now.start c.args.place.now.end) 8 end))
-    (slice_range (slice_range c.args.packet.now c.args.place.now.start c.args.place.now.end) 8 end))
-    (slice_range c.args.packet.now c.args.place.now.start c.args.place.now.end)) c.of_quoted-for_quoted.ensures.passed)
+    subst (λ message. IsAcceptedAlike sum sum message
+    (with_translated (ipv4_of_quoted c.args.new.now c.args.passed) (8 + c.args.quoted_len) message))
+    c.requires.place.message
+    (subst (IsAcceptedAlike sum sum (slice_range c.args.packet.now c.args.place.now.start c.args.place.now.end)) (changed_is c)
     (c.translate_ipv4_quoted.ensures.verifies
     (λ none. some (sym (ap (λ message. slice_index message 0) c.requires.place.message) ∙ none)) sum))
 

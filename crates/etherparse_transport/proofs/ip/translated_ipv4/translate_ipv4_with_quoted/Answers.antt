@@ -1,9 +1,10 @@
 use Rattle.std.proofs.Common.{◌≡◌, false, List, ℕ, sym, subst}
 use Rattle.std.specs.Prelude.{◌↔◌}
-use Rattle.etherparse_transport.specs.Ipv4Translations.{ipv4_quoted, ipv4_translated_with, message_in_ipv4}
+use Rattle.etherparse_transport.specs.Ipv4Translations.{ipv4, ipv4_quoted, ipv4_translated_with, message_in_ipv4, of_ipv4}
 use Rattle.etherparse_transport.specs.WaysBack.{IsIpv4RestoredWith, ipv4_flow_back, ipv4_quoted_back}
 use Rattle.etherparse_transport.specs.declared.ip.ipv4_translation.Ipv4Translation.{Ipv4Translation}
-use Rattle.etherparse_transport.proofs.Ipv4ThereAndBack.{ipv4_both_there_and_back}
+use Rattle.etherparse_transport.proofs.Ipv4ThereAndBack.{ipv4_laws}
+use Rattle.etherparse_transport.proofs.PacketsThereAndBack.{both_there_and_back}
 use Rattle.etherparse_transport.proofs.TranslationSums.{if_ok_accepted, if_ok_four}
 use Rattle.etherparse_transport.proofs.ip.translated_ipv4.translate_ipv4_with_quoted.Goals as goal
 
@@ -17,4 +18,4 @@ returns-clause-there_and_back c =
     (λ bytes types accepted is. subst
     (λ changed. (ipv4_translated_with (ipv4_flow_back new (message_in_ipv4 false packet) packet)
     (ipv4_quoted_back (ipv4_quoted packet) c.args.quoted.now) changed ≡ packet) ↔ IsIpv4RestoredWith packet)
-    (sym is) (ipv4_both_there_and_back _ _ new c.args.quoted.now packet bytes types.0 types.1 accepted))
+    (sym is) (both_there_and_back ipv4 ipv4_laws _ _ (of_ipv4 new) (of_ipv4 c.args.quoted.now) packet bytes types.0 types.1 accepted))

@@ -1,9 +1,9 @@
-use Rattle.std.proofs.Common.{◌≡◌, ◌+◌, ◌≤◌, IfSome, List, None, Option, Some, ℕ, ap, arith, drop, length, slice_range, take, unwrap_or, ◌∙◌}
+use Rattle.std.proofs.Common.{◌≡◌, ◌+◌, ◌≤◌, IfSome, List, None, Option, Some, ℕ, ap, arith, drop, length, refl, slice_range, take, unwrap_or, ◌∙◌}
 use Rattle.std.proofs.lemmas.List.{length-drop, length-take-le}
 use Rattle.word_sum.specs.Checksum.{total}
 use Rattle.etherparse_transport.specs.Translations.{with_bytes}
 use Rattle.etherparse_transport.proofs.TranslationReading.{drop_after}
-use Rattle.etherparse_transport.proofs.TranslationSums.{ipv6_addresses_total}
+use Rattle.etherparse_transport.proofs.TranslationSums.{addresses_total}
 use Rattle.etherparse_transport.proofs.ip.translated_ipv6.replace_ipv6_addresses.Goals as goal
 
 -- a new address has 16 bytes, and so has an address of the packet
@@ -38,7 +38,7 @@ returns-clause-total c =
     omega (
       arith,
       ap total (returns-clause-replaced c),
-      ipv6_addresses_total (unwrap_or c.args.new.now.source (slice_range packet 8 24))
+      addresses_total 8 24 16 (unwrap_or c.args.new.now.source (slice_range packet 8 24))
           (unwrap_or c.args.new.now.destination (slice_range packet 24 40))
-          packet (source_len c) (destination_len c) c.requires.header,
+          packet refl refl (omega arith) (source_len c) (destination_len c) c.requires.header,
     )

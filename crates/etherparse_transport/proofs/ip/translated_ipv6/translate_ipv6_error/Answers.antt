@@ -1,6 +1,6 @@
 use Rattle.std.proofs.Common.{◌≡◌, ◌+◌, ◌-◌, List, ℕ, length, slice_range, unwrap_or, ap, ◌∙◌, subst, sym, rules}
 use Rattle.std.specs.Option.{option_map}
-use Rattle.etherparse_transport.specs.Ipv6Translations.{sum_of_ipv6, ipv6_addresses, ipv6_of_quoted, ipv6_place_refusal, ipv6_start, ipv6_translated_flow, message_in_ipv6, with_ipv6_addresses}
+use Rattle.etherparse_transport.specs.Ipv6Translations.{sum_of_ipv6, ipv6_addresses, ipv6_of_quoted, ipv6_place_refusal, ipv6_start, ipv6_translated_flow, with_ipv6_addresses}
 use Rattle.etherparse_transport.specs.Translations.{IsAcceptedAlike, has_port, with_bytes, with_quote}
 use Rattle.etherparse_transport.specs.declared.err.packet.translate_error.TranslateError.TheVariants.{QuotedPacket}
 use Rattle.etherparse_transport.specs.declared.ip.ipv6_translation.Ipv6Translation.{Ipv6Translation}
@@ -29,27 +29,33 @@ returns-clause-refused c =
 abbrev pub addresses_from : Ipv6Translation → Ipv6Header → Ipv6Header
 addresses_from new old = record { source = unwrap_or new.source old.source; destination = unwrap_or new.destination old.destination }
 
+-- a message in which the translated packet replaces the quoted packet, which ends at this place
+abbrev with_translated : Ipv6Translation → ℕ → ℕ → ℕ → List ℕ → List ℕ
+with_translated rule old new end message =
+    with_quote old new (slice_range message 8 end) (ipv6_translated_flow rule (slice_range message 8 end)) message
+
+added_is : (c : goal.After-slice_known-3-1) → added_value c.ipv6_change-change.result ≡ sum_of_ipv6
+    (ipv6_addresses c.args.new.now c.args.packet.now)
+added_is c = c.ipv6_change-change.ensures.added ∙ ap sum_of_ipv6 c.new_ipv6_addresses-addresses.ensures.new
+
+changed_is : (c : goal.After-slice_known-3-1) → c.translate_ipv6_quoted.new.message
+    ≡ with_translated (ipv6_of_quoted c.args.new.now c.args.passed) (sum_of_ipv6 (ipv6_header_of c.args.packet.now))
+    (sum_of_ipv6 (ipv6_addresses c.args.new.now c.args.packet.now)) (8 + c.args.quoted_len)
+    (slice_range c.args.packet.now c.args.place.now.start c.args.place.now.end)
+changed_is c =
+    let by : Ipv6Translation → ℕ → ℕ → List ℕ = λ rule old new.
+    with_translated rule old new (8 + c.args.quoted_len) (slice_range c.args.packet.now c.args.place.now.start c.args.place.now.end) in
+    c.translate_ipv6_quoted.ensures.translated
+    ∙ ap (λ new. by new (removed_value c.ipv6_change-change.result) (added_value c.ipv6_change-change.result))
+    c.of_quoted-for_quoted.ensures.passed
+    ∙ ap (λ removed. by (ipv6_of_quoted c.args.new.now c.args.passed) removed (added_value c.ipv6_change-change.result))
+    c.ipv6_change-change.ensures.removed
+    ∙ ap (by (ipv6_of_quoted c.args.new.now c.args.passed) (sum_of_ipv6 (ipv6_header_of c.args.packet.now))) (added_is c)
+
 pub returns-clause-translated : goal.returns-clause-translated
 returns-clause-translated c =
     let packet : List ℕ = c.args.packet.now in
-    let end : ℕ = 8 + c.args.quoted_len in
     let changed : List ℕ = c.translate_ipv6_quoted.new.message in
-    let with_translated : ℕ → ℕ → List ℕ → List ℕ = λ old new message.
-    with_quote old new (slice_range message 8 end)
-    (ipv6_translated_flow (ipv6_of_quoted c.args.new.now c.args.passed) (slice_range message 8 end)) message in
-    let old : ℕ = sum_of_ipv6 (ipv6_header_of packet) in
-    let new : ℕ = sum_of_ipv6 (ipv6_addresses c.args.new.now packet) in
-    let range : List ℕ = slice_range packet c.args.place.now.start c.args.place.now.end in
-    let changed_is : changed ≡ with_translated old new (message_in_ipv6 packet) =
-    (c.translate_ipv6_quoted.ensures.translated
-    ∙ ap (λ new. with_quote (removed_value c.ipv6_change-change.result) (added_value c.ipv6_change-change.result)
-    (slice_range (slice_range c.args.packet.now c.args.place.now.start c.args.place.now.end) 8 end)
-    (ipv6_translated_flow new (slice_range (slice_range c.args.packet.now c.args.place.now.start c.args.place.now.end) 8 end))
-    (slice_range c.args.packet.now c.args.place.now.start c.args.place.now.end)) c.of_quoted-for_quoted.ensures.passed)
-    ∙ ap (λ removed. with_translated removed (added_value c.ipv6_change-change.result) range) c.ipv6_change-change.ensures.removed
-    ∙ ap (λ added. with_translated old added range)
-    (c.ipv6_change-change.ensures.added ∙ ap sum_of_ipv6 c.new_ipv6_addresses-addresses.ensures.new)
-    ∙ ap (with_translated old new) c.requires.place.message in
     c.replace_ipv6_addresses.ensures.replaced
     ∙ ap (λ header. with_ipv6_addresses (addresses_from c.args.new.now header)
     (put_mid c.args.place.now.start (c.args.place.now.end - c.args.place.now.start) packet changed))
@@ -58,29 +64,15 @@ returns-clause-translated c =
     ∙ ap (with_ipv6_addresses (ipv6_addresses c.args.new.now packet))
     (put_is c.args.place.now.start c.args.place.now.end packet changed (search rules)
     ∙ ap (λ start. with_bytes start changed packet) c.requires.place.start
-    ∙ ap (λ message. with_bytes (ipv6_start packet) message packet) changed_is)
+    ∙ ap (λ message. with_bytes (ipv6_start packet) message packet)
+    (changed_is c ∙ ap (with_translated (ipv6_of_quoted c.args.new.now c.args.passed) (sum_of_ipv6 (ipv6_header_of c.args.packet.now))
+    (sum_of_ipv6 (ipv6_addresses c.args.new.now c.args.packet.now)) (8 + c.args.quoted_len)) c.requires.place.message))
 
 pub returns-clause-len : goal.returns-clause-len
 returns-clause-len c =
-    let packet : List ℕ = c.args.packet.now in
-    let end : ℕ = 8 + c.args.quoted_len in
-    let changed : List ℕ = c.translate_ipv6_quoted.new.message in
-    let with_translated : ℕ → ℕ → List ℕ → List ℕ = λ old new message.
-    with_quote old new (slice_range message 8 end)
-    (ipv6_translated_flow (ipv6_of_quoted c.args.new.now c.args.passed) (slice_range message 8 end)) message in
-    let old : ℕ = sum_of_ipv6 (ipv6_header_of packet) in
-    let new : ℕ = sum_of_ipv6 (ipv6_addresses c.args.new.now packet) in
-    let range : List ℕ = slice_range packet c.args.place.now.start c.args.place.now.end in
-    sym (ap length (
-    (c.translate_ipv6_quoted.ensures.translated
-    ∙ ap (λ new. with_quote (removed_value c.ipv6_change-change.result) (added_value c.ipv6_change-change.result)
-    (slice_range (slice_range c.args.packet.now c.args.place.now.start c.args.place.now.end) 8 end)
-    (ipv6_translated_flow new (slice_range (slice_range c.args.packet.now c.args.place.now.start c.args.place.now.end) 8 end))
-    (slice_range c.args.packet.now c.args.place.now.start c.args.place.now.end)) c.of_quoted-for_quoted.ensures.passed)
-    ∙ ap (λ removed. with_translated removed (added_value c.ipv6_change-change.result) range) c.ipv6_change-change.ensures.removed
-    ∙ ap (λ added. with_translated old added range)
-    (c.ipv6_change-change.ensures.added ∙ ap sum_of_ipv6 c.new_ipv6_addresses-addresses.ensures.new)
-    ∙ ap (with_translated old new) c.requires.place.message))
+    sym (ap length (changed_is c ∙ ap
+    (with_translated (ipv6_of_quoted c.args.new.now c.args.passed) (sum_of_ipv6 (ipv6_header_of c.args.packet.now))
+    (sum_of_ipv6 (ipv6_addresses c.args.new.now c.args.packet.now)) (8 + c.args.quoted_len)) c.requires.place.message))
     ∙ c.translate_ipv6_quoted.auto.message ∙ ap length c.requires.place.message
 
 pub returns-in_default-clause-refused : goal.returns-in_default-clause-refused
@@ -96,28 +88,12 @@ returns-in_default-clause-refused c =
 
 pub returns-clause-verifies : goal.returns-clause-verifies
 returns-clause-verifies c = λ before after turns some some_too.
-    let packet : List ℕ = c.args.packet.now in
-    let end : ℕ = 8 + c.args.quoted_len in
-    let range : List ℕ = slice_range packet c.args.place.now.start c.args.place.now.end in
-    let with_translated : ℕ → ℕ → List ℕ → List ℕ = λ old new message.
-    with_quote old new (slice_range message 8 end)
-    (ipv6_translated_flow (ipv6_of_quoted c.args.new.now c.args.passed) (slice_range message 8 end)) message in
-    let old : ℕ = sum_of_ipv6 (ipv6_header_of packet) in
-    let new : ℕ = sum_of_ipv6 (ipv6_addresses c.args.new.now packet) in
-    let added : added_value c.ipv6_change-change.result ≡ new =
-    c.ipv6_change-change.ensures.added ∙ ap sum_of_ipv6 c.new_ipv6_addresses-addresses.ensures.new in
-    let removed : removed_value c.ipv6_change-change.result ≡ old = c.ipv6_change-change.ensures.removed in
     let turned : TurnsInto c.ipv6_change-change.result before after =
-    ap (λ n. folded (before + n)) added ∙ turns ∙ sym (ap (λ n. folded (after + n)) removed) in
-    subst (λ message. IsAcceptedAlike before after message (with_translated old new message)) c.requires.place.message
-    (subst (IsAcceptedAlike before after range)
-    ((c.translate_ipv6_quoted.ensures.translated
-    ∙ ap (λ new. with_quote (removed_value c.ipv6_change-change.result) (added_value c.ipv6_change-change.result)
-    (slice_range (slice_range c.args.packet.now c.args.place.now.start c.args.place.now.end) 8 end)
-    (ipv6_translated_flow new (slice_range (slice_range c.args.packet.now c.args.place.now.start c.args.place.now.end) 8 end))
-    (slice_range c.args.packet.now c.args.place.now.start c.args.place.now.end)) c.of_quoted-for_quoted.ensures.passed)
-    ∙ ap (λ removed. with_translated removed (added_value c.ipv6_change-change.result) range) removed
-    ∙ ap (λ added. with_translated old added range) added)
+    ap (λ n. folded (before + n)) (added_is c) ∙ turns ∙ sym (ap (λ n. folded (after + n)) c.ipv6_change-change.ensures.removed) in
+    subst (λ message. IsAcceptedAlike before after message
+    (with_translated (ipv6_of_quoted c.args.new.now c.args.passed) (sum_of_ipv6 (ipv6_header_of c.args.packet.now))
+    (sum_of_ipv6 (ipv6_addresses c.args.new.now c.args.packet.now)) (8 + c.args.quoted_len) message)) c.requires.place.message
+    (subst (IsAcceptedAlike before after (slice_range c.args.packet.now c.args.place.now.start c.args.place.now.end)) (changed_is c)
     (c.translate_ipv6_quoted.ensures.verifies before after turned some some_too))
 
 pub returns-clause-types : goal.returns-clause-types

@@ -1,9 +1,10 @@
 use Rattle.std.proofs.Common.{◌≡◌, List, ℕ, sym, subst}
 use Rattle.std.specs.Prelude.{◌↔◌}
-use Rattle.etherparse_transport.specs.Ipv6Translations.{ipv6_quoted, ipv6_translated_with}
+use Rattle.etherparse_transport.specs.Ipv6Translations.{ipv6, ipv6_quoted, ipv6_translated_with, of_ipv6}
 use Rattle.etherparse_transport.specs.WaysBack.{IsIpv6RestoredWith, ipv6_flow_back, ipv6_quoted_back}
 use Rattle.etherparse_transport.specs.declared.ip.ipv6_translation.Ipv6Translation.{Ipv6Translation}
-use Rattle.etherparse_transport.proofs.Ipv6ThereAndBack.{ipv6_both_there_and_back}
+use Rattle.etherparse_transport.proofs.Ipv6ThereAndBack.{ipv6_laws}
+use Rattle.etherparse_transport.proofs.PacketsThereAndBack.{both_there_and_back}
 use Rattle.etherparse_transport.proofs.TranslationSums.{if_ok_accepted, if_ok_four}
 use Rattle.etherparse_transport.proofs.ip.translated_ipv6.translate_ipv6_with_quoted.Goals as goal
 
@@ -17,4 +18,4 @@ returns-clause-there_and_back c =
     (λ bytes types accepted is. subst
     (λ changed. (ipv6_translated_with (ipv6_flow_back new packet) (ipv6_quoted_back (ipv6_quoted packet) c.args.quoted.now) changed
     ≡ packet) ↔ IsIpv6RestoredWith packet)
-    (sym is) (ipv6_both_there_and_back _ _ new c.args.quoted.now packet bytes types.0 types.1 accepted))
+    (sym is) (both_there_and_back ipv6 ipv6_laws _ _ (of_ipv6 new) (of_ipv6 c.args.quoted.now) packet bytes types.0 types.1 accepted))
