@@ -89,11 +89,13 @@ ipv4 = record {
 
 -- what is replaced in an IPv4 packet
 abbrev pub of_ipv4 : Ipv4Translation → Translation
-of_ipv4 new = record { source = new.source; destination = new.destination; source_port = new.source_port; destination_port = new.destination_port }
+of_ipv4 new =
+    record { source = new.source; destination = new.destination; source_port = new.source_port; destination_port = new.destination_port }
 
 -- the translation of an IPv4 packet that replaces this
 abbrev pub to_ipv4 : Translation → Ipv4Translation
-to_ipv4 new = record { source = new.source; destination = new.destination; source_port = new.source_port; destination_port = new.destination_port }
+to_ipv4 new =
+    record { source = new.source; destination = new.destination; source_port = new.source_port; destination_port = new.destination_port }
 
 -- source and destination of an IPv4 packet
 abbrev pub pair_of_ipv4 : Ipv4Header → AddressPair

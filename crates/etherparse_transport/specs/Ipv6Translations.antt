@@ -83,11 +83,13 @@ ipv6 = record {
 
 -- what is replaced in an IPv6 packet
 abbrev pub of_ipv6 : Ipv6Translation → Translation
-of_ipv6 new = record { source = new.source; destination = new.destination; source_port = new.source_port; destination_port = new.destination_port }
+of_ipv6 new =
+    record { source = new.source; destination = new.destination; source_port = new.source_port; destination_port = new.destination_port }
 
 -- the translation of an IPv6 packet that replaces this
 abbrev pub to_ipv6 : Translation → Ipv6Translation
-to_ipv6 new = record { source = new.source; destination = new.destination; source_port = new.source_port; destination_port = new.destination_port }
+to_ipv6 new =
+    record { source = new.source; destination = new.destination; source_port = new.source_port; destination_port = new.destination_port }
 
 -- source and destination of an IPv6 packet
 abbrev pub pair_of_ipv6 : Ipv6Header → AddressPair
