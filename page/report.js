@@ -50,6 +50,8 @@ async function startWorker() {
 
 /** The capture that is shown, the filter on its packets, and what the worker counted with this filter. */
 const state = { capture: undefined, filter: {}, shown: undefined };
+/** The verdicts of the packets that the option `--wrong` of the program selects. */
+const FAULTS = ["wrong", "refused"];
 const sorts = { protocols: "packets", conversations: "packets", endpoints: "packets" };
 const orders = { protocols: "descending", conversations: "descending", endpoints: "descending" };
 
@@ -61,8 +63,9 @@ function element(tag, properties = {}, ...children) {
 
 function sizeText(size) {
     if (size < 1000) return `${size} bytes`;
-    const power = Math.min(4, Math.floor(Math.log10(size) / 3));
-    return `${(size / 1000 ** power).toPrecision(3)} ${["", "kB", "MB", "GB", "TB"][power]}`;
+    const rounded = Number(size.toPrecision(3));
+    const power = Math.min(4, Math.floor(Math.log10(rounded) / 3));
+    return `${(rounded / 1000 ** power).toPrecision(3)} ${["", "kB", "MB", "GB", "TB"][power]}`;
 }
 
 const secondsText = (seconds) => `${Number(seconds.toFixed(9))} s`;
@@ -78,18 +81,26 @@ function showProgress({ read, size, count, memory }) {
     find("progress-text").textContent = `${sizeText(read)} of ${sizeText(size)}, ${thousands.format(count)} packets${kept}`;
 }
 
+let opening = 0;
+
 async function open(file) {
+    opening += 1;
+    const turn = opening;
+    if (document.body.dataset.state === "reading") ask("stop");
     showError("");
     find("report").hidden = true;
     find("reading").hidden = false;
     showProgress({ read: 0, size: file.size, count: 0, memory: 0 });
     document.body.dataset.state = "reading";
     try {
-        state.capture = await ask("open", { file, options: { udpTunnels: find("udp-tunnels").checked } });
+        const capture = await ask("open", { file, options: { udpTunnels: find("udp-tunnels").checked } });
+        if (turn !== opening) return;
+        state.capture = capture;
         await showCapture();
     } catch (reason) {
-        showError(reason.message);
+        if (turn === opening) showError(reason.message);
     }
+    if (turn !== opening) return;
     find("reading").hidden = true;
     document.body.dataset.state = "ready";
 }
@@ -104,6 +115,8 @@ async function showCapture() {
     find("facts").textContent = state.capture.facts;
     fillChoices("protocol", state.capture.protocols);
     fillChoices("verdict", state.capture.verdicts);
+    const faults = groupsNamed(state.capture.verdicts, FAULTS);
+    if (faults.length > 1) find("verdict").append(element("option", { value: String(faults), textContent: FAULTS.join(" or ") }));
     find("timeline-section").hidden = !state.capture.hasTimes;
     find("report").hidden = false;
     state.filter = {};
@@ -115,8 +128,14 @@ function fillChoices(id, names) {
     find(id).replaceChildren(element("option", { value: "", textContent: "any" }), ...options);
 }
 
+/** The numbers of these names. */
+function groupsNamed(names, wanted) {
+    return Object.entries(names).filter(([, name]) => wanted.includes(name)).map(([group]) => Number(group));
+}
+
 /** Counts and shows the packets of the filter. */
 async function update() {
+    hideCommand();
     state.shown = await ask("show", { filter: state.filter, sorts });
     showFilter();
     showVerdicts();
@@ -136,10 +155,10 @@ function showFilter() {
     find("host").value = state.filter.host ?? "";
     find("port").value = state.filter.port ?? "";
     find("protocol").value = state.filter.protocol ?? "";
-    find("verdict").value = state.filter.verdicts?.[0] ?? "";
+    find("verdict").value = String(state.filter.verdicts ?? "");
     find("from").value = state.filter.from ?? "";
     find("to").value = state.filter.to ?? "";
-    const conversation = state.filter.conversation ? ` Conversation: ${state.filter.name}.` : "";
+    const conversation = state.filter.conversation ? ` Conversation: ${state.filter.conversation.name}.` : "";
     find("filter-text").textContent =
         `${thousands.format(state.shown.total)} of ${thousands.format(state.shown.all)} packets, ${sizeText(state.shown.totalBytes)}.${conversation}`;
 }
@@ -151,14 +170,28 @@ function numberIn(id) {
     return text === "" ? undefined : number;
 }
 
-find("filter").addEventListener("submit", (event) => {
+function portIn(id) {
+    const port = numberIn(id);
+    if (port !== undefined && !(Number.isInteger(port) && port >= 0 && port <= 65535)) find(id).setCustomValidity("A port is a number from 0 to 65535.");
+    return port;
+}
+
+/** The address in a field, as the page shows addresses. */
+async function addressIn(id) {
+    const text = find(id).value.trim();
+    const address = text === "" ? undefined : await ask("address", { text });
+    find(id).setCustomValidity(text !== "" && address === undefined ? "This is not an IPv4 or IPv6 address." : "");
+    return address;
+}
+
+find("filter").addEventListener("submit", async (event) => {
     event.preventDefault();
-    const optional = (id) => (find(id).value === "" ? undefined : Number(find(id).value));
-    const numbers = { port: numberIn("port"), from: numberIn("from"), to: numberIn("to") };
-    if (!find("filter").reportValidity()) return;
-    const verdict = optional("verdict");
-    choose({ host: find("host").value.trim(), protocol: optional("protocol"), verdicts: verdict === undefined ? undefined : [verdict], ...numbers });
+    const groups = (id) => (find(id).value === "" ? undefined : find(id).value.split(",").map(Number));
+    const ends = { host: await addressIn("host"), port: portIn("port") };
+    const times = { from: numberIn("from"), to: numberIn("to") };
+    if (find("filter").reportValidity()) choose({ protocol: groups("protocol")?.[0], verdicts: groups("verdict"), ...ends, ...times });
 });
+for (const id of ["host", "port", "from", "to"]) find(id).addEventListener("input", () => find(id).setCustomValidity(""));
 find("reset").addEventListener("click", () => {
     state.filter = {};
     update();
@@ -303,12 +336,12 @@ find("split").addEventListener("change", showTimeline);
 
 const FILTERS = {
     protocols: (row) => ({ protocol: state.filter.protocol === row.group ? undefined : row.group }),
-    conversations: (row) => (state.filter.conversation === row.conversation ? { conversation: undefined, name: undefined } : { conversation: row.conversation, name: row.name }),
+    conversations: (row) => ({ conversation: isChosen.conversations(row) ? undefined : row }),
     endpoints: (row) => ({ host: state.filter.host === row.host ? undefined : row.host }),
 };
 const isChosen = {
     protocols: (row) => state.filter.protocol === row.group,
-    conversations: (row) => state.filter.conversation === row.conversation,
+    conversations: (row) => state.filter.conversation?.id === row.id,
     endpoints: (row) => state.filter.host === row.host,
 };
 
@@ -358,6 +391,7 @@ let active = 0;
 let drawing = 0;
 const list = find("packets");
 const rowsInView = () => Math.max(1, Math.floor(list.clientHeight / LINE_HEIGHT));
+const lineOptions = () => ({ absolute: find("absolute").checked, verbose: find("verbose").checked });
 const spacerHeight = () => Math.min(MAX_HEIGHT, state.shown.total * LINE_HEIGHT);
 
 function startLines() {
@@ -379,10 +413,9 @@ async function drawLines() {
     drawing += 1;
     const turn = drawing;
     const from = firstInView();
-    const options = { absolute: find("absolute").checked, verbose: find("verbose").checked };
-    const lines = await ask("lines", { from, to: Math.min(state.shown.total, from + rowsInView() + 1), options });
+    const lines = await ask("lines", { from, to: Math.min(state.shown.total, from + rowsInView() + 1), options: lineOptions() });
     if (turn !== drawing) return;
-    const wrong = Object.entries(state.capture.verdicts).filter(([, name]) => name === "wrong" || name === "refused").map(([key]) => Number(key));
+    const wrong = groupsNamed(state.capture.verdicts, FAULTS);
     find("lines").replaceChildren(...lines.map(({ line, verdict, number }, at) => {
         const made = element("div", { className: wrong.includes(verdict) ? "packet wrong" : "packet", textContent: line.replace(/\n$/, ""), id: `packet-${number}` });
         made.setAttribute("role", "option");
@@ -420,9 +453,112 @@ list.addEventListener("click", (event) => {
     const chosen = event.target.closest(".packet");
     if (chosen) moveTo(Number(chosen.getAttribute("aria-posinset")) - 1);
 });
-find("absolute").addEventListener("change", drawLines);
-find("verbose").addEventListener("change", drawLines);
+for (const id of ["absolute", "verbose"]) {
+    find(id).addEventListener("change", () => {
+        hideCommand();
+        drawLines();
+    });
+}
 new ResizeObserver(() => { if (state.shown) drawLines(); }).observe(list);
+
+// ---- the command line
+
+/** A word as a POSIX shell reads it. Control characters are written as octal numbers. */
+function quoted(word) {
+    const isControl = /[\0-\x1f\x7f]/g;
+    const inQuotes = (text) => `'${text.replaceAll("'", "'\\''")}'`;
+    if (/^[\w:,./-]+$/.test(word)) return word;
+    if (word.search(isControl) < 0) return inQuotes(word);
+    const octal = (character) => `\\${character.charCodeAt(0).toString(8).padStart(3, "0")}`;
+    return `"$(printf ${inQuotes(word.replace(/[\\%]/g, "$&$&").replace(isControl, octal))})"`;
+}
+
+/**
+ * The options of the program for the filter, and the filter that they stand for. It selects further packets if the program has no option
+ * for a part of the filter. These parts are named.
+ */
+function optionsOf({ host, port, protocol, verdicts, conversation, from, to }) {
+    const faults = groupsNamed(state.capture.verdicts, FAULTS);
+    const isWrong = verdicts?.every((group) => faults.includes(group)) ?? false;
+    // Several ports or protocols would select the packets of each of them. The greater port of a conversation is more often its own.
+    const kept = {
+        host, verdicts: isWrong ? faults : undefined, between: conversation?.hosts,
+        port: port ?? (conversation && Math.max(...conversation.ports)), protocol: protocol ?? conversation?.protocol,
+    };
+    const words = isWrong ? ["--wrong"] : [];
+    if (host) words.push("--host", host);
+    for (const end of new Set(kept.between)) words.push("--source", end, "--destination", end);
+    if (kept.port !== undefined) words.push("--port", String(kept.port));
+    if (kept.protocol !== undefined) words.push("--protocol", state.capture.protocols[kept.protocol].toLowerCase().replaceAll(" ", "-"));
+    const parts = [verdicts && "these checksums", conversation && "one conversation", (from ?? to) !== undefined && "a range of time"];
+    return { words, kept, parts: parts.filter(Boolean) };
+}
+
+/** The command that writes the lines, in the folder of the file. */
+function commandOf(words) {
+    const { name, decompressor, options } = state.capture;
+    const flags = [find("absolute").checked && "--absolute", find("verbose").checked && "--verbose", options.udpTunnels && "--tunnels"];
+    const program = ["capture_report", "--packets", ...flags.filter(Boolean), ...words].map(quoted).join(" ");
+    const file = quoted(name.startsWith("-") ? `./${name}` : name);
+    return decompressor ? `${decompressor} -dc ${file} | ${program}` : `${program} ${file}`;
+}
+
+/** Copies the text of a field. Without the API for the clipboard, as on a page without HTTPS, the browser copies what is selected. */
+async function copyField(field) {
+    try {
+        await navigator.clipboard.writeText(field.value);
+        return true;
+    } catch {
+        field.focus();
+        field.select();
+        return document.execCommand("copy");
+    }
+}
+
+function hideCommand() {
+    find("command").hidden = true;
+    find("command-text").textContent = "";
+}
+
+async function copyCommand() {
+    const { words, kept, parts } = optionsOf(state.filter);
+    const { shown } = state;
+    find("command").value = commandOf(words);
+    find("command").hidden = false;
+    const isCopied = await copyField(find("command"));
+    if (isCopied) find("copy-command").focus();
+    const others = await ask("count", { filter: kept }) - shown.total;
+    if (shown !== state.shown) return;
+    const more = [];
+    if (others > 0) more.push(`It also writes ${thousands.format(others)} other lines, since the program has no option for ${parts.join(" or ")}.`);
+    if (state.capture.isShort) more.push("It also reads the packets that this page did not read.");
+    const done = isCopied ? "Copied." : "Copy the selected command with Ctrl+C or Command+C.";
+    find("command-text").textContent = [done, more.length ? more.join(" ") : "It writes exactly the lines of this list."].join(" ");
+}
+
+find("copy-command").addEventListener("click", copyCommand);
+
+// ---- the lines as a file
+
+let isSaving = false;
+
+async function saveLines() {
+    if (isSaving) return;
+    isSaving = true;
+    find("command-text").textContent = "Saving the lines.";
+    try {
+        const file = await ask("linesFile", { options: lineOptions() });
+        const link = element("a", { href: URL.createObjectURL(file), download: `${state.capture.name}.txt` });
+        link.click();
+        setTimeout(() => URL.revokeObjectURL(link.href), 60_000);
+        find("command-text").textContent = `The lines were passed to the browser to save: ${sizeText(file.size)}.`;
+    } catch (reason) {
+        find("command-text").textContent = `The lines can't be saved: ${reason.message}`;
+    }
+    isSaving = false;
+}
+
+find("save-lines").addEventListener("click", saveLines);
 
 // ---- opening
 

@@ -21,10 +21,13 @@ const INTERVALS = 200;
 
 // The structs of the reader: where their fields are, in bytes.
 const ROW = { size: 104, end: 0, time: 8, originalLen: 40, hasLen: 56, verdict: 57, protocol: 58, version: 59, hasDestination: 60,
-    hasFlow: 61, sourcePort: 62, destinationPort: 64, source: 66, destination: 82 };
+    hasFlow: 61, sourcePort: 62, destinationPort: 64, source: 66, destination: 82, inTunnel: 98 };
 const TIME = { size: 32, seconds: 0, fraction: 8, offset: 16, exponent: 24, isPowerOfTwo: 25, isKnown: 26 };
 const END = { size: 40, count: 0, offset: 8, requiredLen: 16, len: 24, status: 32, isPcapng: 36 };
 const LINE = { size: 48, number: 0, first: 8, isAbsolute: 40, isVerbose: 41, opensUdpTunnels: 42 };
+const CHOICE = { size: 22, host: 0, version: 16, hasPort: 17, port: 18, opensUdpTunnels: 20 };
+/** What report_page_chooses returns for a packet that is chosen. */
+const CHOSEN = 1;
 const Status = { FULL: 0, END: 1, CUT_OFF: 2, REFUSED: 3, BEGINNING_REFUSED: 4, FAILED: 5 };
 /** The length of the header of a classic capture, which is its head. */
 const CLASSIC_HEAD_LEN = 24;
@@ -58,7 +61,7 @@ async function load(module) {
     calls = instance.exports;
     memory = calls.memory;
     let next = Math.ceil(memory.buffer.byteLength / 65536) * 65536;
-    const sizes = { rows: ROWS * ROW.size, end: 64, line: 64, cut: 64, text: TEXT_LEN, buffer: PACKET_LEN, head: HEAD_LEN, piece: 0 };
+    const sizes = { rows: ROWS * ROW.size, end: 64, line: 64, cut: 64, choice: 64, text: TEXT_LEN, buffer: PACKET_LEN, head: HEAD_LEN, piece: 0 };
     for (const [name, size] of Object.entries(sizes)) {
         place[name] = next;
         next += Math.ceil(size / 64) * 64;
@@ -81,7 +84,7 @@ function takeText(len) {
 /** The numbers that are kept of each packet. */
 const COLUMNS = { start: Float64Array, size: Uint32Array, head: Uint32Array, time: Float64Array, len: Uint32Array, verdict: Uint8Array,
     protocol: Uint8Array, source: Uint32Array, destination: Uint32Array, sourcePort: Uint16Array, destinationPort: Uint16Array,
-    conversation: Uint32Array };
+    conversation: Uint32Array, inTunnel: Uint8Array };
 
 let capture;
 
@@ -107,6 +110,8 @@ class Capture {
         this.protocols = new Map();
         this.status = Status.FULL;
         this.error = "";
+        /** Whether packets follow that were not read. */
+        this.isShort = false;
         this.facts = "";
     }
 
@@ -174,6 +179,7 @@ class Capture {
         values.destination[row] = destination;
         values.sourcePort[row] = sourcePort;
         values.destinationPort[row] = destinationPort;
+        values.inTunnel[row] = bytes[at + ROW.inTunnel];
         values.conversation[row] = hasFlow ? this.conversationOf(protocol, source, sourcePort, destination, destinationPort) : 0;
         this.count += 1;
     }
@@ -196,6 +202,25 @@ function addressText(version, address) {
     if (!longest) return groups.join(":");
     const [front, ...back] = groups.join(" ").split(longest);
     return `${front.trim().replaceAll(" ", ":")}::${back.join(longest).trim().replaceAll(" ", ":")}`;
+}
+
+/** The IP version and the bytes of an address. `undefined` if the text is not an address. */
+function addressIn(text) {
+    if (/^(0|[1-9]\d{0,2})(\.(0|[1-9]\d{0,2})){3}$/.test(text)) {
+        const octets = text.split(".").map(Number);
+        return octets.every((octet) => octet < 256) ? { version: 4, octets } : undefined;
+    }
+    if (!/^[0-9a-f:.]+$/i.test(text) || !URL.canParse(`http://[${text}]/`)) return undefined;
+    // A URL has its address in groups of hex digits, without a dot.
+    const [front, back] = new URL(`http://[${text}]/`).hostname.slice(1, -1).split("::").map((part) => (part ? part.split(":") : []));
+    const groups = [...front, ...new Array(8 - front.length - (back ?? []).length).fill("0"), ...(back ?? [])].map((group) => parseInt(group, 16));
+    return { version: 6, octets: groups.flatMap((group) => [group >> 8, group & 0xff]) };
+}
+
+/** An address as the page shows it. `undefined` if the text is not an address. */
+function address({ text }) {
+    const found = addressIn(text);
+    return found && addressText(found.version, Uint8Array.from(found.octets));
 }
 
 // ---- reading
@@ -312,7 +337,7 @@ function readPieces(chunkLen, isLast) {
         if (isNewHead) capture.head = capture.heads.push(nextHead) - 1;
         at += end.offset - head.length;
         capture.offset += end.offset - head.length;
-        if (capture.count >= MAX_PACKETS) return endWith(`The page keeps ${MAX_PACKETS.toLocaleString("en")} packets, and reads no more.`);
+        if (capture.count >= MAX_PACKETS) return endEarly(`The page keeps ${MAX_PACKETS.toLocaleString("en")} packets, and reads no more.`);
         if (end.status === Status.FULL) continue;
         return afterPiece(end, isLast);
     }
@@ -324,14 +349,18 @@ function afterPiece(end, isLast) {
     if (end.status === Status.END) return isLast ? endWith("") : CHUNK_LEN;
     const isCutOff = isLast || capture.offset + end.requiredLen > capture.source.size;
     if (isCutOff) return endWith(cutOffText(end.requiredLen));
-    if (end.requiredLen > MAX_CHUNK_LEN) return endWith(`A record of ${end.requiredLen} bytes is longer than the page reads.`);
+    if (end.requiredLen > MAX_CHUNK_LEN) return endEarly(`A record of ${end.requiredLen} bytes is longer than the page reads.`);
     return Math.max(CHUNK_LEN, end.requiredLen);
 }
 
 function endWith(error) {
     capture.error = error;
-    capture.isWhole = error === "";
     return 0;
+}
+
+function endEarly(error) {
+    capture.isShort = true;
+    return endWith(error);
 }
 
 /** The facts of the capture: of the head after the packets. */
@@ -354,19 +383,24 @@ async function readCapture() {
             postMessage({ kind: "progress", read: capture.offset, size: capture.source.size, count: capture.count, memory: capture.memory() });
         }
     }
-    if (isStopped && len > 0) capture.error = "Reading was stopped. The numbers are those of the packets before.";
+    if (isStopped && len > 0) endEarly("Reading was stopped. The numbers are those of the packets before.");
     capture.facts = takeFacts();
 }
 
-/** The bytes of a compressed file, without compression, or the file itself. */
-async function sourceOf(file) {
+/** The command that decompresses a file. `undefined` if the file is not compressed. */
+async function decompressorOf(file) {
     const start = new Uint8Array(await file.slice(0, 4).arrayBuffer());
-    const isGzip = start[0] === 0x1f && start[1] === 0x8b;
-    const isZstandard = start[0] === 0x28 && start[1] === 0xb5 && start[2] === 0x2f && start[3] === 0xfd;
-    if (!isGzip && !isZstandard) return file;
+    if (start[0] === 0x1f && start[1] === 0x8b) return "gzip";
+    if (start[0] === 0x28 && start[1] === 0xb5 && start[2] === 0x2f && start[3] === 0xfd) return "zstd";
+    return undefined;
+}
+
+/** The bytes of a compressed file, without compression, or the file itself. */
+async function sourceOf(file, decompressor) {
+    if (decompressor === undefined) return file;
     let stream;
     try {
-        stream = new DecompressionStream(isGzip ? "gzip" : "zstd");
+        stream = new DecompressionStream(decompressor);
     } catch {
         throw new Error("This browser can't decompress the file. Decompress it, and open the result.");
     }
@@ -384,7 +418,8 @@ async function sourceOf(file) {
 
 async function open({ file, options }) {
     isStopped = false;
-    capture = new Capture(file.name, await sourceOf(file), options);
+    const decompressor = await decompressorOf(file);
+    capture = new Capture(file.name, await sourceOf(file, decompressor), options);
     try {
         await readCapture();
     } catch (reason) {
@@ -394,6 +429,7 @@ async function open({ file, options }) {
     return {
         name: file.name, size: file.size, count: capture.count, facts: capture.facts, error: capture.error, memory: capture.memory(),
         verdicts: named(capture.verdicts), protocols: named(capture.protocols), hasTimes: capture.first !== undefined,
+        decompressor, options, isShort: capture.isShort,
     };
 }
 
@@ -401,17 +437,101 @@ async function open({ file, options }) {
 
 let selection = new Uint32Array(0);
 
-/** The condition that a filter sets: a function of a row, without the range of times. */
-function conditionOf(filter) {
-    const { verdict, protocol, source, destination, sourcePort, destinationPort, conversation } = capture.values;
+/** The condition that a filter sets on everything except the host, the port and the time: a function of a row. */
+function basicCondition(filter) {
+    const { verdict, protocol, source, destination, conversation } = capture.values;
     const verdicts = filter.verdicts && new Set(filter.verdicts);
-    const host = filter.host ? capture.addresses.indexOf(filter.host) : 0;
+    const ends = filter.between && new Set(filter.between.map((host) => capture.addresses.indexOf(host)));
     return (row) =>
         (!verdicts || verdicts.has(verdict[row])) &&
         (filter.protocol === undefined || protocol[row] === filter.protocol) &&
-        (!host || source[row] === host || destination[row] === host) &&
-        (filter.port === undefined || (conversation[row] !== 0 && (sourcePort[row] === filter.port || destinationPort[row] === filter.port))) &&
-        (!filter.conversation || conversation[row] === filter.conversation);
+        (!ends || (ends.has(source[row]) && ends.has(destination[row]))) &&
+        (!filter.conversation || conversation[row] === filter.conversation.id);
+}
+
+/** The conditions that a host and a port set on the addresses and ports of a row, and whether the packet can match them in another way. */
+function endConditions({ host, port }) {
+    const { protocol, source, destination, sourcePort, destinationPort, conversation, inTunnel } = capture.values;
+    const named = (...names) => new Set([...capture.protocols].filter(([, name]) => names.includes(name)).map(([group]) => group));
+    const [errors, portless] = [named("ICMPv4", "ICMPv6"), named("ICMPv4", "ICMPv6", "UDP", "TCP")];
+    const id = host ? capture.addresses.indexOf(host) : 0;
+    return {
+        hasHost: (row) => !host || source[row] === id || destination[row] === id,
+        hasPort: (row) => port === undefined || (conversation[row] !== 0 && (sourcePort[row] === port || destinationPort[row] === port)),
+        // An ICMP error quotes a packet, and tunnels have ends. A packet has ports without a conversation if its destination is not known.
+        canHaveHost: (row) => inTunnel[row] !== 0 || errors.has(protocol[row]),
+        canHavePort: (row) => conversation[row] === 0 && portless.has(protocol[row]),
+    };
+}
+
+/** Puts the host and the port of a filter where the reader expects them. */
+function putChoice({ host, port }) {
+    bytes.fill(0, place.choice, place.choice + CHOICE.size);
+    const found = host && addressIn(host);
+    if (found) {
+        bytes.set(found.octets, place.choice + CHOICE.host);
+        bytes[place.choice + CHOICE.version] = found.version;
+    }
+    if (port !== undefined) {
+        bytes[place.choice + CHOICE.hasPort] = 1;
+        view.setUint16(place.choice + CHOICE.port, port, true);
+    }
+    bytes[place.choice + CHOICE.opensUdpTunnels] = udpTunnels();
+}
+
+/** The condition that a filter sets, without the range of times: a function of a row. The reader decides what the page keeps too little of. */
+async function conditionOf(filter) {
+    const isBasic = basicCondition(filter);
+    const { hasHost, hasPort, canHaveHost, canHavePort } = endConditions(filter);
+    const asked = [];
+    for (let row = 0; row < capture.count; row += 1) {
+        if (!isBasic(row) || (hasHost(row) && hasPort(row))) continue;
+        if ((hasHost(row) || canHaveHost(row)) && (hasPort(row) || canHavePort(row))) asked.push(row);
+    }
+    const isChosen = new Uint8Array(asked.length ? capture.count : 0);
+    putChoice(filter);
+    await visitRecords(asked, (row, record) => {
+        const [pieceAt, len] = putPiece(row, record);
+        if (read("report_page_chooses", pieceAt, len, BigInt(place.choice)) === CHOSEN) isChosen[row] = 1;
+    });
+    return (row) => isBasic(row) && ((hasHost(row) && hasPort(row)) || isChosen[row] === 1);
+}
+
+/** Calls `visit` with each of these rows, which are in the order of the file, and with the bytes of its record or block. */
+async function visitRecords(rows, visit) {
+    const { source, values: { start, size } } = capture;
+    const endOf = (at) => start[rows[at]] + size[rows[at]];
+    for (let at = 0; at < rows.length;) {
+        const from = start[rows[at]];
+        let next = at + 1;
+        while (next < rows.length && endOf(next) - from <= CHUNK_LEN) next += 1;
+        const chunk = new Uint8Array(await source.slice(from, endOf(next - 1)).arrayBuffer());
+        for (; at < next; at += 1) visit(rows[at], chunk.subarray(start[rows[at]] - from, endOf(at) - from));
+    }
+}
+
+/** Makes a piece of the head of a row and the bytes of its record or block. Returns where the piece begins, and its length. */
+function putPiece(row, record) {
+    const head = capture.heads[capture.values.head[row]];
+    growTo(place.piece + HEAD_LEN + record.length);
+    bytes.set(record, place.piece + HEAD_LEN);
+    return [putHead(place.piece + HEAD_LEN, head), head.length + record.length];
+}
+
+/** The condition that the range of times of a filter sets: a function of a row. */
+function timeCondition(filter) {
+    const { time } = capture.values;
+    const [from, to] = [filter.from ?? -Infinity, filter.to ?? Infinity];
+    const hasRange = filter.from !== undefined || filter.to !== undefined;
+    return (row) => !hasRange || (time[row] >= from && time[row] < to);
+}
+
+/** How many packets a filter selects. */
+async function count({ filter }) {
+    const [isMet, isInRange] = [await conditionOf(filter), timeCondition(filter)];
+    let total = 0;
+    for (let row = 0; row < capture.count; row += 1) if (isMet(row) && isInRange(row)) total += 1;
+    return total;
 }
 
 /** The first and the last time of a packet, in seconds since the first packet. */
@@ -452,16 +572,14 @@ class Counts {
 
 const GROUPS = 256;
 
-function show({ filter, sorts }) {
+async function show({ filter, sorts }) {
     const { count } = capture;
     const { time, len, verdict, protocol, source, destination, conversation } = capture.values;
-    const isMet = conditionOf(filter);
+    const [isMet, isInRange] = [await conditionOf(filter), timeCondition(filter)];
     const [least, greatest] = timeRange();
     const width = intervalWidth(greatest - least);
     const origin = Math.floor(least / width);
     const intervals = Math.floor(greatest / width) - origin + 1;
-    const [from, to] = [filter.from ?? -Infinity, filter.to ?? Infinity];
-    const hasRange = filter.from !== undefined || filter.to !== undefined;
     const [byVerdict, byProtocol] = [new Counts(GROUPS * intervals), new Counts(GROUPS * intervals)];
     const [verdicts, protocols, conversations] = [new Counts(GROUPS), new Counts(GROUPS), new Counts(capture.conversations.length)];
     const endpoints = new Counts(capture.addresses.length);
@@ -474,7 +592,7 @@ function show({ filter, sorts }) {
             byVerdict.add(verdict[row] * intervals + interval, len[row]);
             byProtocol.add(protocol[row] * intervals + interval, len[row]);
         }
-        if (hasRange && !(time[row] >= from && time[row] < to)) continue;
+        if (!isInRange(row)) continue;
         chosen[total] = row;
         total += 1;
         totalBytes += len[row];
@@ -497,7 +615,8 @@ function show({ filter, sorts }) {
         protocols: tableOf(protocols, sorts.protocols, 0, (at) => ({ group: at, name: capture.protocols.get(at) })),
         conversations: tableOf(conversations, sorts.conversations, 1, (at) => {
             const { protocol: number, ends } = capture.conversations[at];
-            return { conversation: at, name: `${capture.protocols.get(number)} ${end(ends[0], ends[1])} <> ${end(ends[2], ends[3])}` };
+            return { id: at, protocol: number, hosts: [capture.addresses[ends[0]], capture.addresses[ends[2]]], ports: [ends[1], ends[3]],
+                name: `${capture.protocols.get(number)} ${end(ends[0], ends[1])} <> ${end(ends[2], ends[3])}` };
         }),
         endpoints: tableOf(endpoints, sorts.endpoints, 1, (at) => ({ host: capture.addresses[at], name: capture.addresses[at] })),
         conversationCount: conversations.packets.reduce((sum, packets) => sum + (packets > 0), 0),
@@ -508,38 +627,57 @@ function show({ filter, sorts }) {
 
 /** The line of a packet, from the bytes of its record or block. */
 function lineOf(row, record, options) {
-    const head = capture.heads[capture.values.head[row]];
-    growTo(place.piece + HEAD_LEN + record.length);
-    const at = place.piece + HEAD_LEN;
-    bytes.set(record, at);
-    const pieceAt = putHead(at, head);
+    const [pieceAt, len] = putPiece(row, record);
     bytes.fill(0, place.line, place.line + LINE.size);
     view.setBigUint64(place.line + LINE.number, BigInt(row + 1), true);
     if (capture.first && row > capture.firstAt) bytes.set(capture.first.raw, place.line + LINE.first);
     bytes[place.line + LINE.isAbsolute] = options.absolute ? 1 : 0;
     bytes[place.line + LINE.isVerbose] = options.verbose ? 1 : 0;
     bytes[place.line + LINE.opensUdpTunnels] = udpTunnels();
-    return textOf("report_page_line", pieceAt, head.length + record.length, BigInt(place.line));
+    return textOf("report_page_line", pieceAt, len, BigInt(place.line));
 }
 
 /** The lines of the chosen packets from one place in their list to another. */
 async function lines({ from, to, options }) {
-    const rows = [...selection.subarray(from, to)];
-    const { source, values: { start, size, verdict } } = capture;
-    const records = await Promise.all(rows.map((row) => source.slice(start[row], start[row] + size[row]).arrayBuffer()));
-    return rows.map((row, at) => ({
-        line: lineOf(row, new Uint8Array(records[at]), options), verdict: verdict[row], number: row + 1,
-    }));
+    const found = [];
+    await visitRecords(selection.subarray(from, to), (row, record) => {
+        found.push({ line: lineOf(row, record, options), verdict: capture.values.verdict[row], number: row + 1 });
+    });
+    return found;
+}
+
+/** A file with the lines of all chosen packets. */
+async function linesFile({ options }) {
+    const saved = capture;
+    const parts = [];
+    let part = "";
+    await visitRecords(selection, (row, record) => {
+        if (capture !== saved) throw new Error("another capture was opened.");
+        part += lineOf(row, record, options);
+        if (part.length < CHUNK_LEN) return;
+        parts.push(new Blob([part]));
+        part = "";
+    });
+    return new Blob([...parts, part], { type: "text/plain" });
 }
 
 // ---- messages
 
-const answers = { load: ({ module }) => load(module), open, show, lines, stop: () => { isStopped = true; } };
+const answers = { load: ({ module }) => load(module), open, show, lines, linesFile, count, address, stop: () => { isStopped = true; } };
 
-onmessage = async ({ data }) => {
+async function answer(data) {
     try {
         postMessage({ id: data.id, answer: await answers[data.kind](data) });
     } catch (reason) {
         postMessage({ id: data.id, failure: String(reason.message ?? reason) });
     }
+}
+
+/** What needs no turn: `stop`, and a file of lines, which can take long. */
+const AT_ONCE = ["stop", "linesFile"];
+/** Other questions are answered one after the other, since they change the capture or what is chosen of it. */
+let last = Promise.resolve();
+onmessage = ({ data }) => {
+    if (AT_ONCE.includes(data.kind)) answer(data);
+    else last = last.then(() => answer(data));
 };

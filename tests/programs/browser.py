@@ -14,7 +14,7 @@ import urllib.request
 SECONDS = 60
 SIZE = (1280, 1900)
 ELEMENT = "element-6066-11e4-a52e-4f735466cecf"
-END, ARROW_RIGHT = "\uE010", "\uE014"
+END, ARROW_RIGHT, ENTER, CONTROL = "\uE010", "\uE014", "\uE007", "\uE009"
 
 
 def free_port():
@@ -39,6 +39,7 @@ class Browser:
 
     def __init__(self, *command):
         self.profile = tempfile.TemporaryDirectory(ignore_cleanup_errors=True)
+        self.downloads = pathlib.Path(self.profile.name, "downloads")
         words = [word.replace("PROFILE", self.profile.name) for word in command]
         with open(pathlib.Path(self.profile.name, "said"), "wb") as said:
             self.process = subprocess.Popen(words, stdout=said, stderr=said, start_new_session=True,
@@ -57,6 +58,15 @@ class Browser:
 
     def run_async(self, script, *arguments):
         return self.command("ExecuteAsyncScript", "execute/async", {"script": script, "args": list(arguments)})
+
+    def downloaded(self, name):
+        """The bytes of the file that the browser saves under this name. It is removed."""
+        path = self.downloads / name
+        # A part of a file that is still saved is under another name, beside it in Firefox.
+        until(lambda: path.exists() and path.stat().st_size and len(list(self.downloads.iterdir())) == 1 or None)
+        found = path.read_bytes()
+        path.unlink()
+        return found
 
     def find(self, selector):
         found = self.command("FindElement", "element", {"using": "css selector", "value": selector})
@@ -88,7 +98,8 @@ class Chromium(Browser):
         super().__init__("chromedriver", f"--port={self.port}")
         self.session = ""
         words = ["--headless=new", "--no-sandbox", "--disable-gpu", f"--window-size={SIZE[0]},{SIZE[1]}", f"--user-data-dir={self.profile.name}/data"]
-        wanted = {"browserName": "chrome", "goog:chromeOptions": {"args": words, "binary": shutil.which("chromium")}, "goog:loggingPrefs": {"browser": "ALL"},
+        options = {"args": words, "binary": shutil.which("chromium"), "prefs": {"download.default_directory": str(self.downloads)}}
+        wanted = {"browserName": "chrome", "goog:chromeOptions": options, "goog:loggingPrefs": {"browser": "ALL"},
                   "timeouts": {"script": SECONDS * 1000}}
         until(self.is_ready)
         self.session = "/" + self.post("/session", {"capabilities": {"alwaysMatch": wanted}})["sessionId"]
@@ -129,7 +140,9 @@ class Firefox(Browser):
     def __init__(self):
         port = free_port()
         program = shutil.which("firefox-esr") or shutil.which("firefox")
-        super().__init__("sh", "-c", f'echo \'user_pref("marionette.port", {port});\' > PROFILE/user.js && exec "$0" "$@"', program, "--headless",
+        preferences = {"marionette.port": port, "browser.download.folderList": 2, "browser.download.dir": '"PROFILE/downloads"'}
+        lines = "".join(f'user_pref("{name}", {value});\n' for name, value in preferences.items())
+        super().__init__("sh", "-c", f"echo '{lines}' > PROFILE/user.js && exec \"$0\" \"$@\"", program, "--headless",
                          "--no-remote", "--marionette", "--profile", "PROFILE", f"--width={SIZE[0]}", f"--height={SIZE[1]}")
         self.socket = until(lambda: self.connected(port))
         self.socket.settimeout(2 * SECONDS)

@@ -3,19 +3,26 @@
 # SPDX-License-Identifier: MIT OR Apache-2.0
 """page.py PAGE [FOLDER]: tests the page of the report in Chromium and Firefox, without a window.
 
-PAGE is the file capture_report.html. Screenshots go to FOLDER. A browser that is missing is left out, which a line says. What the page shows has to be what the program writes: the stored run of crates/capture_report, and a run of the program on
-each further capture if `rt ci` left the program. The last line is 'N passed, N failed'.
+PAGE is the file capture_report.html. Screenshots go to FOLDER. A browser that is missing is left out, which a line says. What the page
+shows has to be what the program writes: the stored run of crates/capture_report, and a run of the program on each further capture if `rt ci`
+left the program. The page is opened as a file, and from a plain web server. The last line is 'N passed, N failed'.
 """
 import base64
+import contextlib
 import gzip
+import os
 import pathlib
 import random
+import re
 import shutil
+import socket
 import struct
+import subprocess
 import sys
+import tempfile
 
 sys.path.insert(0, str(pathlib.Path(__file__).resolve().parent.parent))
-from programs.browser import ARROW_RIGHT, END, Chromium, Firefox, until
+from programs.browser import ARROW_RIGHT, CONTROL, END, ENTER, Chromium, Firefox, free_port, until
 from programs.build import ETHERNET, IPV4, START, block, capture_parts, frame, ipv4, section_header, udp
 from programs.kinds import every_kind
 from programs.program import TOP, Program, Tally
@@ -33,6 +40,29 @@ open(new File([bytes], name)).then(() => done(document.getElementById("error").t
 LINES = """const done = arguments[1];
 ask("show", { filter: state.filter, sorts }).then(({ total }) => ask("lines", { from: 0, to: total, options: arguments[0] }))
     .then((lines) => done(lines.map(({ line }) => line).join("")), (reason) => done("fault: " + reason));"""
+FILL = """for (const field of find("filter").querySelectorAll("input, select")) {
+    const text = arguments[0][field.id];
+    if (field.tagName === "SELECT") field.value = text === undefined ? "" : [...field.options].find((option) => option.textContent === text).value;
+    else field.value = text ?? "";
+}"""
+# What a page with this policy may not do.
+FETCH = """const done = arguments[0];
+(window.wrappedJSObject ?? window).fetch("other").then(() => done("answered"), () => done("refused"));"""
+# The fields of a filter, the options of its command, the numbers of its packets in the stored capture, and how many others the command has.
+FILTERS = (
+    ({}, [], range(1, 71), 0),
+    ({"host": "198.51.100.7"}, ["--host", "198.51.100.7"], (12, 13, 14), 0),
+    ({"host": "2001:DB8:0::7"}, ["--host", "2001:db8::7"], (22, 23), 0),
+    ({"port": "33434"}, ["--port", "33434"], (14, 23), 0),
+    ({"port": "80"}, ["--port", "80"], (6, 7, 8, 9, 22, 35, 49, 50, 59, 69), 0),
+    ({"host": "2001:db8::1", "port": "53", "protocol": "UDP"}, ["--host", "2001:db8::1", "--port", "53", "--protocol", "udp"],
+     (4, 5, 31, 32, 36, 47, 70), 0),
+    ({"protocol": "no next header"}, ["--protocol", "no-next-header"], (38,), 0),
+    ({"verdict": "wrong or refused"}, ["--wrong"], (2, 5, 7, 11, 20, 39, 40, 41, *range(43, 54), 66, 67), 0),
+    ({"verdict": "wrong", "port": "80"}, ["--wrong", "--port", "80"], (7,), 2),
+    ({"verdict": "none"}, [], (3,), 69),
+    ({"from": "0.0001", "to": "0.0003", "host": "192.0.2.1"}, ["--host", "192.0.2.1"], (2, 3), 35),
+)
 
 
 def two_sections():
@@ -60,8 +90,8 @@ class Page:
     def expect(self, what, found, stated):
         self.tally.expect(f"{self.browser.name}: {what}", found, stated)
 
-    def start(self, path):
-        self.browser.open(path.resolve().as_uri())
+    def start(self, address):
+        self.browser.open(address)
         self.browser.run(FAULTS)
         self.wait("document.body.dataset.state === 'ready'")
 
@@ -144,6 +174,131 @@ def check_mutants(page, captures):
     page.check_faults("after mutants")
 
 
+def filtered(page, fields):
+    """Fills the form of the filter, and presses its button."""
+    page.browser.run(PAGE + FILL, fields)
+    page.browser.click("#filter [type=submit]")
+    page.wait("document.getElementById('filter-text').textContent !== ''")
+
+
+def copied(page):
+    """Presses the button for the command. Returns the command, what the page says of it, and what the clipboard then contains."""
+    page.browser.click("#copy-command")
+    page.wait("find('command-text').textContent")
+    command, text = page.value("find('command').value"), page.value("find('command-text').textContent")
+    page.browser.run(PAGE + "find('host').value = '';")
+    page.browser.press("#host", CONTROL + "v")
+    return command, text, page.value("find('host').value")
+
+
+def words_of(command):
+    """The words that a shell passes to the program."""
+    done = subprocess.run(["sh", "-c", f"capture_report() {{ printf '%s\\n' \"$@\"; }}\n{command}"], capture_output=True, text=True)
+    return done.stdout.splitlines()
+
+
+def written_by(command, name, data):
+    """What the command writes in a folder with the file. None if there is no program."""
+    if PROGRAM.is_stale():
+        return None
+    with tempfile.TemporaryDirectory() as folder:
+        pathlib.Path(folder, name).write_bytes(data)
+        path = {"PATH": f"{PROGRAM.path.parent}:{os.environ['PATH']}"}
+        return subprocess.run(["sh", "-c", command], cwd=folder, env={**os.environ, **path}, capture_output=True, text=True).stdout
+
+
+def check_commands(page, folder):
+    """The command that the page copies for a filter writes the lines that are shown."""
+    data, name = (STORED / "stdin").read_bytes(), "it's 100% a capture.pcap"
+    page.open(data, name)
+    for fields, options, numbers, others in FILTERS:
+        filtered(page, fields)
+        page.wait(f"state.shown.total === {len(numbers)}")
+        lines = page.lines()
+        page.expect(f"{fields}: packets", [int(line.split()[0]) for line in lines.splitlines()], list(numbers))
+        command, text, pasted = copied(page)
+        page.expect(f"{fields}: command", words_of(command), ["--packets", *options, name])
+        page.expect(f"{fields}: clipboard", pasted, command)
+        page.expect(f"{fields}: other lines", int("".join(re.findall(r"writes (\d+) other lines", text)) or 0), others)
+        stated = written_by(command, name, data)
+        if stated is not None:
+            found = stated.splitlines(keepends=True)
+            page.expect(f"{fields}: lines", "".join(line for line in found if others == 0 or int(line.split()[0]) in numbers), lines)
+            page.expect(f"{fields}: number of lines", len(found), len(numbers) + others)
+    page.screenshot(folder, "command")
+
+
+def check_command_forms(page):
+    """The other words of a command, the keys, and a browser without the API for the clipboard."""
+    data = (STORED / "stdin").read_bytes()
+    page.open(gzip.compress(data), "-capture.pcap.gz")
+    for checkbox in ("absolute", "verbose"):
+        page.browser.click(f"#{checkbox}")
+    page.browser.press("#copy-command", ENTER)
+    page.wait("find('command-text').textContent")
+    page.expect("the command for a compressed capture", page.value("find('command').value"),
+                "gzip -dc ./-capture.pcap.gz | capture_report --packets --absolute --verbose")
+    page.expect("the focus stays on the button", page.value("document.activeElement.id"), "copy-command")
+    for checkbox in ("absolute", "verbose"):
+        page.browser.click(f"#{checkbox}")
+    page.expect("another choice hides the command", page.value("find('command').hidden"), True)
+
+    page.open(data, "capture.pcap")
+    page.browser.click("#conversations tbody button")
+    page.wait("state.filter.conversation")
+    command, text, _ = copied(page)
+    page.expect("the command for a conversation", words_of(command), [
+        "--packets", "--source", "192.0.2.1", "--destination", "192.0.2.1", "--source", "192.0.2.2", "--destination", "192.0.2.2",
+        "--port", "49152", "--protocol", "udp", "capture.pcap"])
+    page.expect("the lines for a conversation", "exactly" in text, True)
+    stated = written_by(command, "capture.pcap", data)
+    if stated is not None:
+        page.expect("what the command for a conversation writes", stated, page.lines())
+
+    page.browser.click("#save-lines")
+    page.expect("the saved lines", page.browser.downloaded("capture.pcap.txt").decode(), page.lines())
+
+    page.browser.run("Object.defineProperty((window.wrappedJSObject ?? window).navigator, 'clipboard', { value: undefined });")
+    filtered(page, {"port": "80"})
+    page.wait("state.filter.port === 80")
+    command, text, pasted = copied(page)
+    page.expect("the clipboard without its API", (pasted, text.split(".")[0]), (command, "Copied"))
+    filtered(page, {"host": "192.0.2"})
+    page.wait("find('host').validity.customError")
+    page.check_faults("after commands")
+
+
+@contextlib.contextmanager
+def served(folder):
+    """A plain web server for a folder: its address, and a call that returns its log."""
+    port = free_port()
+    words = [sys.executable, "-m", "http.server", str(port), "--bind", "127.0.0.1", "--directory", str(folder)]
+    with tempfile.TemporaryFile() as log, subprocess.Popen(words, stdout=subprocess.DEVNULL, stderr=log) as server:
+        def is_ready():
+            with contextlib.suppress(OSError), socket.create_connection(("127.0.0.1", port), timeout=5):
+                return True
+
+        def text():
+            log.seek(0)
+            return log.read().decode()
+        try:
+            until(is_ready)
+            yield f"http://127.0.0.1:{port}", text
+        finally:
+            server.kill()
+
+
+def check_server(page, path):
+    """From a web server the page shows the same, and requests nothing else."""
+    with tempfile.TemporaryDirectory() as folder:
+        shutil.copy(path, pathlib.Path(folder, path.name))
+        with served(folder) as (address, log):
+            page.start(f"{address}/{path.name}")
+            check_stored(page, None)
+            page.expect("a request is refused", page.browser.run_async(FETCH), "refused")
+            page.expect("requests to the server", re.findall(r'"(\S+ \S+) HTTP/', log()), [f"GET /{path.name}"])
+
+
 def show_all(page, button="reset"):
     page.browser.click(f"#{button}")
     page.wait("state.shown.total === state.shown.all")
@@ -198,10 +353,13 @@ def check_browser(kind, path, folder, tally):
         return
     with kind() as browser:
         page = Page(browser, tally)
-        page.start(path)
+        page.start(path.resolve().as_uri())
         check_stored(page, folder)
         check_mutants(page, check_captures(page))
         check_view(page, folder)
+        check_commands(page, folder)
+        check_command_forms(page)
+        check_server(page, path)
 
 
 def main():

@@ -1,3 +1,4 @@
+pub mod Choices
 pub mod Facts
 pub mod Heads
 pub mod Lines

@@ -1,10 +1,11 @@
 -- The row of a packet: what the page keeps of it as numbers.
-use Rattle.std.specs.Prelude.{◌≡◌, ℕ, ◌<◌, List, [], ◌++◌, replicate, pos, Option, Some, None}
+use Rattle.std.specs.Prelude.{◌≡◌, ℕ, ◌<◌, List, [], ◌∷◌, ◌++◌, replicate, pos, Option, Some, None}
 use Rattle.std.specs.Net.Socket.{socket_port}
 use Rattle.ip_part.specs.Addresses.{Addresses, Ipv4, Ipv6, by_value}
 use Rattle.capture_packet.specs.declared.content.Content.{Content}
 use Rattle.capture_packet.specs.declared.content.Content.TheVariants as contents
 use Rattle.capture_packet.specs.declared.packet.Packet.{Packet}
+use Rattle.capture_packet.specs.declared.tunnel.Tunnel.{Tunnel}
 use Rattle.capture_summary.specs.FlowOf.{IsFlowOf}
 use Rattle.capture_summary.specs.Kinds.{verdict_kind, verdict_place}
 use Rattle.capture_summary.specs.Protocols.{content_protocol, protocol_place}
@@ -31,6 +32,7 @@ empty_row = record {
   destination_port = 0;
   source = replicate 16 0;
   destination = replicate 16 0;
+  in_tunnel = 0;
 }
 
 -- a row with these lengths of a frame, if they are known
@@ -67,6 +69,11 @@ with_ports row (Some flow) =
 abbrev pub AddsFlow : PageRow → Content → PageRow → Type 0
 AddsFlow before content after = (flow : Option Flow) × IsFlowOf content flow × (after ≡ with_ports before flow)
 
+-- 1 if there are tunnels around a packet, and 0 if there are none
+abbrev pub in_tunnel : List Tunnel → ℕ
+in_tunnel [] = 0
+in_tunnel (tunnel ∷ tunnels) = 1
+
 -- This is the row of a packet. Its record or block ends at `end`, and `info` is what the capture states about it.
 abbrev pub IsRowOf : ℕ → CaptureInfo → Packet → PageRow → Type 0
 IsRowOf end info packet row =
@@ -75,5 +82,6 @@ IsRowOf end info packet row =
       time = page_time info.time;
       verdict = verdict_place (verdict_kind packet.verdict);
       protocol = protocol_place (content_protocol packet.content);
+      in_tunnel = in_tunnel packet.tunnels.items;
     } in
     AddsFlow (with_ends counted packet.content) packet.content row

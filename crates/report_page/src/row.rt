@@ -1,10 +1,10 @@
 ghost use Rattle.std.specs.Prelude.{◌≡◌};
 ghost use Rattle.ip_part.specs.Addresses.{by_value};
-ghost use Rattle.report_page.specs.Rows.{IsRowOf, ipv4_address, with_ends};
+ghost use Rattle.report_page.specs.Rows.{IsRowOf, in_tunnel, ipv4_address, with_ends};
 ghost use Rattle.report_page.specs.Rows as specs;
 
 use crate::time::{PageTime, UNKNOWN, page_time};
-use capture_packet::{Content, Packet};
+use capture_packet::{Content, Packet, Tunnel};
 use capture_summary::{CaptureInfo, FrameLen, Protocol, VerdictKind, flow_of};
 use ip_part::IpAddresses;
 
@@ -40,6 +40,8 @@ pub struct PageRow {
     pub source: [u8; 16],
     /// The final destination, in the form of the source. All bytes are 0 if it is not known.
     pub destination: [u8; 16],
+    /// 1 if the packet is in a tunnel, otherwise 0.
+    pub in_tunnel: u8,
 }
 
 /// A row before anything is known about the packet.
@@ -58,6 +60,7 @@ const EMPTY: PageRow = PageRow {
     destination_port: 0,
     source: [0; 16],
     destination: [0; 16],
+    in_tunnel: 0,
 };
 
 /// Returns the row of a packet whose record or block ends at this place. `info` is what the capture states about the packet.
@@ -73,9 +76,20 @@ pub(crate) fn row_of(end: u64, info: &CaptureInfo, packet: &Packet<'_>) -> PageR
         time: page_time(info.time),
         verdict: verdict.place() as u8,
         protocol: protocol.place() as u8,
+        in_tunnel: in_tunnel(packet.tunnels.as_slice()),
         ..with_len(info.len)
     };
     with_flow(with_ends(row, &packet.content), packet)
+}
+
+/// Returns 1 if there are tunnels around a packet, otherwise 0.
+fn in_tunnel(tunnels: &[Tunnel<'_>]) -> u8
+    ensures { result ≡ in_tunnel tunnels.now }
+{
+    match tunnels {
+        [] => 0,
+        _ => 1,
+    }
 }
 
 /// Returns a row with these lengths of a frame.
