@@ -592,3 +592,93 @@ etherparse_status plain_echo_answer_ipv4(uint8_t *packet, size_t packet_len, con
     *reply_len = end;
     return ETHERPARSE_OK;
 }
+
+/* Whether this is a prefix of 96 bits with an octet 64 to 71 of 0. The library also takes the other lengths of RFC 6052. */
+static int is_prefix_of_96_bits(const etherparse_prefix64 *prefix)
+{
+    return prefix->len == 96 && prefix->address[8] == 0 && big_endian_32(prefix->address + 12) == 0;
+}
+
+/* Where the checksum of a message of UDP or TCP is. 0 if it is shorter than its header, or of another protocol. */
+static size_t checksum_place_of(uint8_t protocol, size_t message_len)
+{
+    if (protocol == ETHERPARSE_PROTOCOL_UDP && message_len >= 8)
+        return 6;
+    return protocol == ETHERPARSE_PROTOCOL_TCP && message_len >= 20 ? 16 : 0;
+}
+
+/* The sum of words of two bytes, from a sum in the byte order of this machine. */
+static uint16_t sum_of_words(uint64_t sum)
+{
+    uint16_t number = folded(sum);
+    uint8_t bytes[2];
+    memcpy(bytes, &number, 2);
+    return big_endian_16(bytes);
+}
+
+/* Updates the checksum of a message after the words of its addresses have other sums. */
+static void update_addresses(uint8_t *message, size_t checksum_place, uint64_t old_sum, uint64_t new_sum)
+{
+    uint16_t checksum = updated(message + checksum_place, (uint64_t)(uint16_t)~sum_of_words(old_sum) + sum_of_words(new_sum));
+    put_16(message + checksum_place, checksum == 0 && checksum_place == 6 ? 0xffff : checksum);
+}
+
+/* Messages of other protocols than UDP and TCP, fragments, options and UDP without a checksum are refused, which the library translates. */
+etherparse_status plain_ipv4_to_ipv6(const uint8_t *packet, size_t packet_len, const etherparse_prefix64 *source,
+                                     const etherparse_prefix64 *destination, uint8_t *buffer, size_t buffer_len, size_t *written,
+                                     etherparse_error *error)
+{
+    size_t end = ipv4_end(packet, packet_len), place;
+    if (!is_prefix_of_96_bits(source) || !is_prefix_of_96_bits(destination) || end == 0 || folded(add(0, packet, 20)) != 0xffff)
+        return refuse(error, 20, packet_len);
+    if (packet[8] < 2 || (big_endian_16(packet + 6) & 0xbfff) != 0 || !is_host(packet + 12) || !is_host(packet + 16))
+        return refuse(error, 2, packet[8]);
+    place = checksum_place_of(packet[9], end - 20);
+    if (place == 0 || buffer_len < end + 20 || (place == 6 && big_endian_16(packet + 26) == 0))
+        return refuse(error, end + 20, buffer_len);
+    put_16(buffer, (uint16_t)(0x6000 | packet[1] << 4));
+    put_16(buffer + 2, 0);
+    put_16(buffer + 4, (uint16_t)(end - 20));
+    buffer[6] = packet[9];
+    buffer[7] = (uint8_t)(packet[8] - 1);
+    memcpy(buffer + 8, source->address, 12);
+    memcpy(buffer + 20, packet + 12, 4);
+    memcpy(buffer + 24, destination->address, 12);
+    memcpy(buffer + 36, packet + 16, 4);
+    memcpy(buffer + 40, packet + 20, end - 20);
+    update_addresses(buffer + 40, place, add(0, packet + 12, 8), add(0, buffer + 8, 32));
+    *written = end + 20;
+    return ETHERPARSE_OK;
+}
+
+/* Extension headers and messages of other protocols than UDP and TCP are refused, which the library translates. */
+etherparse_status plain_ipv6_to_ipv4(const uint8_t *packet, size_t packet_len, const etherparse_prefix64 *source,
+                                     const etherparse_prefix64 *destination, uint16_t identification, uint8_t *buffer,
+                                     size_t buffer_len, size_t *written, etherparse_error *error)
+{
+    size_t len, place;
+    if (packet_len < 40 || packet[0] >> 4 != 6 || !is_prefix_of_96_bits(source) || !is_prefix_of_96_bits(destination))
+        return refuse(error, 40, packet_len);
+    len = big_endian_16(packet + 4);
+    if (packet_len - 40 < len || len > 65515 || packet[7] < 2 || !is_host(packet + 20) || !is_host(packet + 36)
+        || memcmp(packet + 8, source->address, 12) != 0 || memcmp(packet + 24, destination->address, 12) != 0)
+        return refuse(error, len, packet_len - 40);
+    place = checksum_place_of(packet[6], len);
+    if (place == 0 || buffer_len < len + 20 || (place == 6 && big_endian_16(packet + 46) == 0))
+        return refuse(error, len + 20, buffer_len);
+    buffer[0] = 0x45;
+    buffer[1] = (uint8_t)(big_endian_16(packet) >> 4);
+    put_16(buffer + 2, (uint16_t)(len + 20));
+    put_16(buffer + 4, identification);
+    put_16(buffer + 6, len + 20 > 1260 ? 0x4000 : 0);
+    buffer[8] = (uint8_t)(packet[7] - 1);
+    buffer[9] = packet[6];
+    put_16(buffer + 10, 0);
+    memcpy(buffer + 12, packet + 20, 4);
+    memcpy(buffer + 16, packet + 36, 4);
+    put_16(buffer + 10, (uint16_t)~sum_of_words(add(0, buffer, 20)));
+    memcpy(buffer + 20, packet + 40, len);
+    update_addresses(buffer + 20, place, add(0, packet + 8, 32), add(0, buffer + 12, 8));
+    *written = len + 20;
+    return ETHERPARSE_OK;
+}

@@ -26,5 +26,11 @@ etherparse_status plain_translate_ipv4(uint8_t *packet, size_t packet_len, const
                                        etherparse_error *error);
 etherparse_status plain_echo_answer_ipv4(uint8_t *packet, size_t packet_len, const uint8_t source[4], uint8_t time_to_live,
                                          size_t *reply_len, etherparse_error *error);
+etherparse_status plain_ipv4_to_ipv6(const uint8_t *packet, size_t packet_len, const etherparse_prefix64 *source,
+                                     const etherparse_prefix64 *destination, uint8_t *buffer, size_t buffer_len, size_t *written,
+                                     etherparse_error *error);
+etherparse_status plain_ipv6_to_ipv4(const uint8_t *packet, size_t packet_len, const etherparse_prefix64 *source,
+                                     const etherparse_prefix64 *destination, uint16_t identification, uint8_t *buffer,
+                                     size_t buffer_len, size_t *written, etherparse_error *error);
 
 #endif

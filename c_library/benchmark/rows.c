@@ -43,6 +43,10 @@ enum { CHANGED = 64 };
 static uint8_t changed[CHANGED][32];
 static size_t changed_place, reply_len;
 
+/* Packets of UDP that are translated to the other version of IP. `main` fills them. The source has the first prefix over IPv6. */
+static const etherparse_prefix64 host = {{0x20, 1, 0x0d, 0xb8, 0, 1}, 96}, network = {{0, 0x64, 0xff, 0x9b}, 96};
+static uint8_t short_ipv4[64], long_ipv4[1400], short_ipv6[64], long_ipv6[1400], translated[1420];
+
 static etherparse_error error;
 static etherparse_ip_transport transport;
 static etherparse_udp_packet udp_packet;
@@ -129,6 +133,16 @@ ROW(echo,
     etherparse_echo_answer_ipv4(next_of(ping_over_ipv4, sizeof ping_over_ipv4), sizeof ping_over_ipv4, destination4, 64, &reply_len,
                                 &error),
     plain_echo_answer_ipv4(next_of(ping_over_ipv4, sizeof ping_over_ipv4), sizeof ping_over_ipv4, destination4, 64, &reply_len, &error))
+#define TO_IPV6(function, packet)                                                                                                      \
+    ROW(function, etherparse_ipv4_to_ipv6(packet, sizeof packet, &host, &network, translated, sizeof translated, &written, &error),    \
+        plain_ipv4_to_ipv6(packet, sizeof packet, &host, &network, translated, sizeof translated, &written, &error))
+#define TO_IPV4(function, packet)                                                                                                      \
+    ROW(function, etherparse_ipv6_to_ipv4(packet, sizeof packet, &host, &network, 7, translated, sizeof translated, &written, &error), \
+        plain_ipv6_to_ipv4(packet, sizeof packet, &host, &network, 7, translated, sizeof translated, &written, &error))
+TO_IPV6(short_to_ipv6, short_ipv4)
+TO_IPV6(long_to_ipv6, long_ipv4)
+TO_IPV4(short_to_ipv4, short_ipv6)
+TO_IPV4(long_to_ipv4, long_ipv6)
 
 static const struct {
     const char *name;
@@ -149,6 +163,10 @@ static const struct {
     {"icmpv6_packet_read, echo request", icmpv6_read},
     {"translate_ipv4, UDP with 3 bytes, source address and port", translate},
     {"echo_answer_ipv4, 4 bytes", echo},
+    {"ipv4_to_ipv6, UDP, 64 bytes", short_to_ipv6},
+    {"ipv4_to_ipv6, UDP, 1400 bytes", long_to_ipv6},
+    {"ipv6_to_ipv4, UDP, 64 bytes", short_to_ipv4},
+    {"ipv6_to_ipv4, UDP, 1400 bytes", long_to_ipv4},
 };
 enum { ROWS = sizeof rows / sizeof rows[0] };
 
@@ -198,7 +216,8 @@ static size_t answer(int row, int is_plain)
     memset(&raw_option, 0, sizeof raw_option);
     memset(buffer, 0, sizeof buffer);
     memset(changed, 0, sizeof changed);
-    changed_place = reply_len = 0;
+    memset(translated, 0, sizeof translated);
+    changed_place = reply_len = written = 0;
     total = 0;
     rows[row].calls(is_plain, 1);
     all = mixed(mixed(total, transport.version), transport.protocol);
@@ -217,6 +236,7 @@ static size_t answer(int row, int is_plain)
     all = mixed(mixed(all, option.value_count), option.values[0]);
     all = mixed(mixed(all, raw_option.value_offset), raw_option.value_len);
     all = mixed_bytes(mixed(all, reply_len), changed[0], sizeof changed[0]);
+    all = mixed_bytes(mixed(all, written), translated, sizeof translated);
     return mixed_bytes(all, buffer, 8);
 }
 
@@ -226,12 +246,39 @@ static int agree(int row)
     return answer(row, 0) == answer(row, 1);
 }
 
+/* Fills an IPv4 packet of UDP, from 192.0.2.33 to 198.51.100.7, and an IPv6 packet of the same length with these addresses embedded. */
+static void fill_packets(uint8_t *over_4, uint8_t *over_6, size_t len)
+{
+    static const uint8_t front[20] = {0x45, 0, 0, 0, 0, 7, 0x40, 0, 64, 17, 0, 0, 192, 0, 2, 33, 198, 51, 100, 7};
+    size_t i;
+    for (i = 0; i < len; i++)
+        over_4[i] = over_6[i] = (uint8_t)(i * 7);
+    memcpy(over_4, front, sizeof front);
+    over_4[2] = (uint8_t)(len >> 8);
+    over_4[3] = (uint8_t)len;
+    i = etherparse_sum_checksum(etherparse_sum_add(etherparse_sum_new(), over_4, sizeof front));
+    over_4[10] = (uint8_t)(i >> 8);
+    over_4[11] = (uint8_t)i;
+    memset(over_6, 0, 40);
+    over_6[0] = 0x60;
+    over_6[4] = (uint8_t)((len - 40) >> 8);
+    over_6[5] = (uint8_t)(len - 40);
+    over_6[6] = 17;
+    over_6[7] = 64;
+    memcpy(over_6 + 8, host.address, 12);
+    memcpy(over_6 + 20, front + 12, 4);
+    memcpy(over_6 + 24, network.address, 12);
+    memcpy(over_6 + 36, front + 16, 4);
+}
+
 int main(int argc, char **argv)
 {
     static const uint8_t front[8] = {0, 21, 4, 210, 1508 / 256, 1508 % 256, 0x11, 0x22}, middle_front[8] = {0, 21, 4, 210, 0, 64, 0x77, 0x33};
     int row;
     memcpy(long_packet, front, sizeof front);
     memcpy(middle_packet, middle_front, sizeof middle_front);
+    fill_packets(short_ipv4, short_ipv6, sizeof short_ipv4);
+    fill_packets(long_ipv4, long_ipv6, sizeof long_ipv4);
     for (row = 0; row < ROWS; row++) {
         if (argc == 3) {
             int is_plain = strncmp(argv[1], "plain ", 6) == 0;
