@@ -377,7 +377,7 @@ fn source_routes_at_their_end_are_ignored(rt: HostRuntime) {
             7, *pointer, 1, 2, 3, 4, 0,
         ];
         let header = expect_some(&rt, Ipv4HeaderSlice::from_slice(&bytes));
-        let outcome = header_to_ipv6(&header, &PREFIXES);
+        let outcome = header_to_ipv6(&header, &two_prefixes());
         let error = outcome.err();
         if *is_translated {
             expect_at(&rt, pointer, &error, &None);
@@ -649,11 +649,14 @@ fn packets_are_restored(rt: HostRuntime) {
     for (row, row_back) in &RESTORED {
         let padded = joined(&rt, &[PACKETS[*row].0, &[1, 2]]);
         let mut there = [0xEE; 80];
-        let len = expect_ok(&rt, ipv4_to_ipv6(padded.as_slice(), &PREFIXES, &mut there));
+        let len = expect_ok(
+            &rt,
+            ipv4_to_ipv6(padded.as_slice(), &two_prefixes(), &mut there),
+        );
         let mut back = [0xEE; 80];
         let len = expect_ok(
             &rt,
-            ipv6_to_ipv4(&there[..len], &PREFIXES, 0xBEEF, &mut back),
+            ipv6_to_ipv4(&there[..len], &two_prefixes(), 0xBEEF, &mut back),
         );
         expect_bytes(&rt, bytes_to(&rt, &back, len), PACKETS_BACK[*row_back].1);
     }
@@ -665,10 +668,10 @@ fn expect_restored(rt: &(impl Abort + AllocGlobal), packet: &[u8], expected: &[u
     let mut there = [0xEE; 100];
     let len = expect_ok(
         rt,
-        ipv6_to_ipv4(padded.as_slice(), &PREFIXES, 0xBEEF, &mut there),
+        ipv6_to_ipv4(padded.as_slice(), &two_prefixes(), 0xBEEF, &mut there),
     );
     let mut back = [0xEE; 100];
-    let len = expect_ok(rt, ipv4_to_ipv6(&there[..len], &PREFIXES, &mut back));
+    let len = expect_ok(rt, ipv4_to_ipv6(&there[..len], &two_prefixes(), &mut back));
     let hops = [expected[7] - 2];
     let lowered = joined(rt, &[&expected[..7], &hops, &expected[8..]]);
     expect_bytes(rt, bytes_to(rt, &back, len), lowered.as_slice());
@@ -1438,7 +1441,7 @@ static QUOTED_EXTENSION_HEADERS: [(&[u8], &[u8]); 6] = [
 fn quoted_fragments_are_translated(rt: HostRuntime) {
     for (packet, expected) in &QUOTED_FRAGMENTS {
         let mut buffer = [0xEE; 130];
-        let len = expect_ok(&rt, ipv4_to_ipv6(packet, &PREFIXES, &mut buffer));
+        let len = expect_ok(&rt, ipv4_to_ipv6(packet, &two_prefixes(), &mut buffer));
         expect_bytes(&rt, bytes_to(&rt, &buffer, len), expected);
         expect_equal(&rt, &buffer[129], &0xEE);
     }
@@ -1448,7 +1451,10 @@ fn quoted_fragments_are_translated(rt: HostRuntime) {
 fn quoted_extension_headers_are_translated(rt: HostRuntime) {
     for (packet, expected) in &QUOTED_EXTENSION_HEADERS {
         let mut buffer = [0xEE; 80];
-        let len = expect_ok(&rt, ipv6_to_ipv4(packet, &PREFIXES, 0xBEEF, &mut buffer));
+        let len = expect_ok(
+            &rt,
+            ipv6_to_ipv4(packet, &two_prefixes(), 0xBEEF, &mut buffer),
+        );
         expect_bytes(&rt, bytes_to(&rt, &buffer, len), expected);
         expect_equal(&rt, &buffer[79], &0xEE);
     }
@@ -1477,7 +1483,7 @@ fn quoted_extension_headers_are_refused(rt: HostRuntime) {
         let mut packet = joined(&rt, &[QUOTED_EXTENSION_HEADERS[*row].0]);
         packet.as_mut_slice()[*place] = *value;
         let mut buffer = [0xEE; 80];
-        let outcome = ipv6_to_ipv4(packet.as_slice(), &PREFIXES, 0, &mut buffer);
+        let outcome = ipv6_to_ipv4(packet.as_slice(), &two_prefixes(), 0, &mut buffer);
         expect_at(&rt, row, &outcome.err().as_ref(), &Some(error));
         expect_bytes(&rt, &buffer, &[0xEE; 80]);
     }
@@ -1500,7 +1506,7 @@ fn long_quotes_are_cut(rt: HostRuntime) {
     expect_equal(&rt, &buffer[1280], &0xEE);
     // A fragment has 8 bytes more of headers.
     packet[34] = 0x20;
-    let outcome = ipv4_to_ipv6(&packet, &PREFIXES, &mut buffer);
+    let outcome = ipv4_to_ipv6(&packet, &two_prefixes(), &mut buffer);
     expect_equal(&rt, &outcome, &Ok(1280));
     expect_bytes(&rt, &buffer[52..54], &[5, 0xD0]);
     expect_equal(&rt, &buffer[1280], &0xEE);
