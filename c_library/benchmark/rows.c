@@ -44,7 +44,7 @@ static uint8_t changed[CHANGED][32];
 static size_t changed_place, reply_len;
 
 /* Packets of UDP that are translated to the other version of IP. `main` fills them. The source has the first prefix over IPv6. */
-static const etherparse_prefix64 host = {{0x20, 1, 0x0d, 0xb8, 0, 1}, 96}, network = {{0, 0x64, 0xff, 0x9b}, 96};
+static const etherparse_prefix64 host = {{0x20, 1, 0x0d, 0xb8, 0, 1}, 96}, network = {{0x20, 1, 0x0d, 0xb8, 0, 0x64}, 96};
 static uint8_t short_ipv4[64], long_ipv4[1400], short_ipv6[64], long_ipv6[1400], translated[1420];
 
 static etherparse_error error;
