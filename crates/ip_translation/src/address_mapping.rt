@@ -168,10 +168,8 @@ fn high_bits(number: u128, len: u32) -> u128
 fn low_bits(number: u128, len: u32) -> u128
     ensures { result ≡ number % 2 ^ len }
 {
-    match 2u128.checked_pow(len) {
-        Some(count) => number % count,
-        None => number,
-    }
+    // A remainder of 128 bits would need a function of the compiler's library.
+    number - with_zeros(high_bits(number, len), len)
 }
 
 /// A number with `len` more bits at its end, which are 0.
