@@ -467,13 +467,26 @@ static PACKETS: [(&[u8], &[u8]); 7] = [
     ]),
 ];
 
-/// The buffer has 80 bytes of 0xEE, and the bytes after the packet stay.
+/// The buffer has 130 bytes of 0xEE, and the bytes after the packet stay.
 fn expect_translated(rt: &impl Abort, packet: &[u8], expected: &[u8]) {
-    let mut buffer = [0xEE; 80];
+    let mut buffer = [0xEE; 130];
     let len = expect_ok(rt, ipv4_to_ipv6(packet, &two_prefixes(), &mut buffer));
     expect_equal(rt, &len, &expected.len());
     expect_bytes(rt, bytes_to(rt, &buffer, len), expected);
-    expect_equal(rt, &buffer[79], &0xEE);
+    expect_equal(rt, &buffer[129], &0xEE);
+}
+
+/// Stops the test unless the packet is translated to this IPv4 packet, with the identification 0xBEEF if it is no fragment. The buffer has
+/// 130 bytes of 0xEE, and the bytes after the packet stay.
+fn expect_translated_back(rt: &impl Abort, packet: &[u8], expected: &[u8]) {
+    let mut buffer = [0xEE; 130];
+    let len = expect_ok(
+        rt,
+        ipv6_to_ipv4(packet, &two_prefixes(), 0xBEEF, &mut buffer),
+    );
+    expect_equal(rt, &len, &expected.len());
+    expect_bytes(rt, bytes_to(rt, &buffer, len), expected);
+    expect_equal(rt, &buffer[129], &0xEE);
 }
 
 #[test]
@@ -950,23 +963,14 @@ static FRAGMENTS_BACK: [(&[u8], &[u8]); 7] = [
 #[test]
 fn fragments_are_translated(rt: HostRuntime) {
     for (packet, expected) in &FRAGMENTS {
-        let mut buffer = [0xEE; 80];
-        let len = expect_ok(&rt, ipv4_to_ipv6(packet, &two_prefixes(), &mut buffer));
-        expect_bytes(&rt, bytes_to(&rt, &buffer, len), expected);
-        expect_equal(&rt, &buffer[79], &0xEE);
+        expect_translated(&rt, packet, expected);
     }
 }
 
 #[test]
 fn fragments_are_translated_back(rt: HostRuntime) {
     for (packet, expected) in &FRAGMENTS_BACK {
-        let mut buffer = [0xEE; 80];
-        let len = expect_ok(
-            &rt,
-            ipv6_to_ipv4(packet, &two_prefixes(), 0xBEEF, &mut buffer),
-        );
-        expect_bytes(&rt, bytes_to(&rt, &buffer, len), expected);
-        expect_equal(&rt, &buffer[79], &0xEE);
+        expect_translated_back(&rt, packet, expected);
     }
 }
 
@@ -1294,23 +1298,14 @@ static ERROR_PACKETS_BACK: [(&[u8], &[u8]); 5] = [
 #[test]
 fn icmp_errors_are_translated(rt: HostRuntime) {
     for (packet, expected) in &ERROR_PACKETS {
-        let mut buffer = [0xEE; 120];
-        let len = expect_ok(&rt, ipv4_to_ipv6(packet, &two_prefixes(), &mut buffer));
-        expect_bytes(&rt, bytes_to(&rt, &buffer, len), expected);
-        expect_equal(&rt, &buffer[119], &0xEE);
+        expect_translated(&rt, packet, expected);
     }
 }
 
 #[test]
 fn icmp_errors_are_translated_back(rt: HostRuntime) {
     for (packet, expected) in &ERROR_PACKETS_BACK {
-        let mut buffer = [0xEE; 80];
-        let len = expect_ok(
-            &rt,
-            ipv6_to_ipv4(packet, &two_prefixes(), 0xBEEF, &mut buffer),
-        );
-        expect_bytes(&rt, bytes_to(&rt, &buffer, len), expected);
-        expect_equal(&rt, &buffer[79], &0xEE);
+        expect_translated_back(&rt, packet, expected);
     }
 }
 
@@ -1440,23 +1435,14 @@ static QUOTED_EXTENSION_HEADERS: [(&[u8], &[u8]); 6] = [
 #[test]
 fn quoted_fragments_are_translated(rt: HostRuntime) {
     for (packet, expected) in &QUOTED_FRAGMENTS {
-        let mut buffer = [0xEE; 130];
-        let len = expect_ok(&rt, ipv4_to_ipv6(packet, &two_prefixes(), &mut buffer));
-        expect_bytes(&rt, bytes_to(&rt, &buffer, len), expected);
-        expect_equal(&rt, &buffer[129], &0xEE);
+        expect_translated(&rt, packet, expected);
     }
 }
 
 #[test]
 fn quoted_extension_headers_are_translated(rt: HostRuntime) {
     for (packet, expected) in &QUOTED_EXTENSION_HEADERS {
-        let mut buffer = [0xEE; 80];
-        let len = expect_ok(
-            &rt,
-            ipv6_to_ipv4(packet, &two_prefixes(), 0xBEEF, &mut buffer),
-        );
-        expect_bytes(&rt, bytes_to(&rt, &buffer, len), expected);
-        expect_equal(&rt, &buffer[79], &0xEE);
+        expect_translated_back(&rt, packet, expected);
     }
 }
 

@@ -18,7 +18,7 @@ longer_of : {A : Type 0} (len : A → ℕ) (most : ℕ) (test : Bool) (value oth
 longer_of len most true value other is chosen = (grind (arith, nat_tests, is, chosen), (λ _. chosen))
 longer_of len most false value other is chosen = (chosen, (λ _. grind (arith, nat_tests, is, chosen)))
 
--- with a test of two parts, of which the second compares two numbers
+-- with a test of two parts; the second part compares two numbers
 chosen_longer : {A : Type 0} (len : A → ℕ) (most : ℕ) (applies : Bool) (value other : A)
     → IfSome (if applies && nat_lt (len other) (len value) then Some value else Some other) (λ value. len value ≤ most)
     → (len other ≤ most) × (applies ≡ true → len value ≤ most)

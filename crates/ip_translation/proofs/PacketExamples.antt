@@ -180,7 +180,7 @@ later_fragment_translated : translated_packet prefixes later_fragment ≡ later_
 unfolding embedded extracted to_ipv4_refusal to_ipv6_refusal folded prefixes later_fragment later_fragment_ipv6
 later_fragment_translated = refl
 
--- "time exceeded" about the last fragment of a UDP packet, of which four bytes are quoted
+-- "time exceeded" about the last fragment of a UDP packet; four bytes of its payload are quoted
 quoted_fragment : List ℕ
 quoted_fragment =
     0x45 ∷ 0 ∷ 0 ∷ 0x34 ∷ 0x12 ∷ 0x34 ∷ 0x40 ∷ 0 ∷ 0x40 ∷ 1 ∷ 0x3c ∷ 0x39 ∷ 0xc0 ∷ 0 ∷ 2 ∷ 0x21

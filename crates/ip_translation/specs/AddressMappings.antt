@@ -32,7 +32,7 @@ mapping_refusal ipv4 ipv4_len ipv6 ipv6_len = first_of (
     ∷ refused_if (not (from_be_bytes w128 ipv6 % 2 ^ ipv6_suffix_len ipv6_len == 0)) Ipv6Bits
     ∷ [])
 
--- the number of bits by which the IPv6 suffix is longer than the IPv4 suffix
+-- how many bits longer the IPv6 suffix is than the IPv4 suffix
 abbrev pub ignored_len : AddressMapping → ℕ
 ignored_len mapping = ipv6_suffix_len mapping.ipv6_len - ipv4_suffix_len mapping.ipv4_len
 

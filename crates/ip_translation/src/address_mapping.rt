@@ -125,7 +125,7 @@ impl AddressMapping {
         }
     }
 
-    /// The number of bits by which the IPv6 suffix is longer than the IPv4 suffix.
+    /// How many bits longer the IPv6 suffix is than the IPv4 suffix.
     fn ignored_len(&self) -> u32
         ensures { result ≡ specs.ignored_len self.now }
     {

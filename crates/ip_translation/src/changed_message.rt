@@ -1,6 +1,6 @@
 ghost use Rattle.std.specs.Prelude.{◌≡◌, ◌≢◌, ◌≤◌, ◌+◌, ◌%◌, ◌↔◌, length};
 ghost use Rattle.net_base.specs.StoredChecksum.{icmp_checksum_place, with_checksum};
-ghost use Rattle.word_sum.specs.Checksum.{Verifies, total};
+ghost use Rattle.word_sum.specs.Checksum.{Verifies, all_ones, total};
 ghost use Rattle.ip_translation.specs.EchoMessages as specs;
 
 use crate::message_translation::{ICMP_CHECKSUM_AT, number, store_checksum};
@@ -27,8 +27,8 @@ fn changed_checksum(changed: &[u8], message: &[u8], old: &[u8], new: &[u8]) -> u
     requires there { 4 ≤ length message.now }
     requires new_there { 4 ≤ length changed.now }
     ensures checksum { result ≡ specs.changed_checksum old.now new.now message.now changed.now }
-    ensures remainder { (specs.total_without_checksum changed.now + total new.now + result) % 65535
-        ≡ (specs.total_without_checksum message.now + total old.now + specs.icmp_checksum message.now) % 65535 }
+    ensures remainder { (specs.total_without_checksum changed.now + total new.now + result) % all_ones
+        ≡ (specs.total_without_checksum message.now + total old.now + specs.icmp_checksum message.now) % all_ones }
 {
     let checksum = number(message, ICMP_CHECKSUM_AT);
     ChecksumChange::new()

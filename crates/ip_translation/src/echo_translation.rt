@@ -2,7 +2,7 @@ ghost use Rattle.std.specs.Prelude.{◌≡◌, ◌≢◌, ◌⊎◌, ◌≤◌, 
 ghost use Rattle.net_base.specs.IpNumbers.{icmpv6_number};
 ghost use Rattle.net_base.specs.PseudoHeader.{ipv6_pseudo_header};
 ghost use Rattle.net_base.specs.Refusals.{RefusesExactly};
-ghost use Rattle.word_sum.specs.Checksum.{Verifies, total};
+ghost use Rattle.word_sum.specs.Checksum.{Verifies, all_ones, total};
 ghost use Rattle.ip_translation.specs.EchoMessages as specs;
 
 use crate::PacketTranslationError;
@@ -123,8 +123,8 @@ pub(crate) fn write_echo(translated: &mut [u8], message: &[u8], type_u8: u8, old
 fn echo_checksum(message: &[u8], type_u8: u8, old: &[u8], new: &[u8]) -> u16
     requires there { 8 ≤ length message.now }
     ensures checksum { result ≡ specs.new_checksum type_u8 old.now new.now message.now }
-    ensures remainder { (rest : ℕ) → (total new.now + (specs.first_word type_u8 (slice_index message.now 1) + rest + result)) % 65535
-        ≡ (total old.now + (specs.type_and_code message.now + rest + specs.icmp_checksum message.now)) % 65535 }
+    ensures remainder { (rest : ℕ) → (total new.now + (specs.first_word type_u8 (slice_index message.now 1) + rest + result)) % all_ones
+        ≡ (total old.now + (specs.type_and_code message.now + rest + specs.icmp_checksum message.now)) % all_ones }
     ensures some { new.now ≡ [] → result ≢ 0 }
 {
     let checksum = updated_checksum(message, type_u8, old, new);
@@ -138,8 +138,8 @@ fn echo_checksum(message: &[u8], type_u8: u8, old: &[u8], new: &[u8]) -> u16
 fn updated_checksum(message: &[u8], type_u8: u8, old: &[u8], new: &[u8]) -> u16
     requires there { 8 ≤ length message.now }
     ensures checksum { result ≡ specs.updated_checksum type_u8 old.now new.now message.now }
-    ensures remainder { (rest : ℕ) → (total new.now + (specs.first_word type_u8 (slice_index message.now 1) + rest + result)) % 65535
-        ≡ (total old.now + (specs.type_and_code message.now + rest + specs.icmp_checksum message.now)) % 65535 }
+    ensures remainder { (rest : ℕ) → (total new.now + (specs.first_word type_u8 (slice_index message.now 1) + rest + result)) % all_ones
+        ≡ (total old.now + (specs.type_and_code message.now + rest + specs.icmp_checksum message.now)) % all_ones }
 {
     let code = message[1];
     ChecksumChange::new()

@@ -21,7 +21,7 @@ pub fn address_there_and_back(table: &AddressTable<'_>, ipv4: [u8; 4])
     let _ = table.prefix.embed(ipv4);
 }
 
-/// The mapping of an address begins with the prefix of its mapping, and no other mapping with this property has a longer prefix.
+/// An address begins with the prefix of its mapping, and with no longer prefix of another mapping.
 pub fn longest_prefix_applies(table: &AddressTable<'_>, ipv4: [u8; 4], address: &[u8; 16])
     ensures ipv4 { (mapping : AddressMapping) → mapping_of_ipv4 table.now ipv4 ≡ Some mapping →
         (is_ipv4_of (from_be_bytes w32 ipv4) mapping ≡ true)

@@ -17,7 +17,7 @@ use Rattle.report_page.specs.Lines.{is_set}
 use Rattle.report_page.specs.Pieces.{IsFirstPacket}
 use Rattle.report_page.specs.declared.choice.PageChoice.{PageChoice}
 
--- the address with these octets, of which an IPv4 address has the first four, or `None` for another IP version
+-- The address with these octets. An IPv4 address has the first four octets. `None` for another IP version.
 abbrev pub address_of : ℕ → List ℕ → Option IpAddr
 address_of version octets =
     if version == 4

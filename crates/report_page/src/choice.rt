@@ -18,7 +18,7 @@ const CHOSEN: u32 = 1;
 /// There is no packet.
 const NO_PACKET: u32 = 2;
 
-/// The host and the port by which the page chooses packets.
+/// A choice of packets by a host and a port.
 #[repr(C)]
 #[derive(Clone, Copy)]
 pub struct PageChoice {
