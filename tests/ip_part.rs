@@ -12,6 +12,7 @@ use etherparse_transport::ip::{
     transport_in_ip_lax,
 };
 use etherparse_transport::{IpNumber, ip_number};
+use ip_part::has_unexpired_source_route;
 use std::fmt::Debug;
 use std::process::Abort;
 
@@ -330,6 +331,28 @@ fn source_routes_are_followed(rt: HostRuntime) {
         destination: &[10, 0, 0, 3],
     };
     expect_equal(&rt, &transport.addresses, &addresses);
+}
+
+/// Options, and whether they contain a source route that is not at its end.
+#[rattlefmt::skip]
+static UNEXPIRED_ROUTES: [(&[u8], bool); 14] = [
+    (&[], false), (&[1, 7, 3, 4], false),
+    // Pointers to the last address, to the last byte, and after the route.
+    (&[131, 7, 4, 1, 2, 3, 4, 0], true), (&[137, 7, 7, 1, 2, 3, 4, 0], true), (&[131, 7, 8, 1, 2, 3, 4, 0], false),
+    (&[137, 7, 255, 1, 2, 3, 4, 0], false),
+    // Routes without an address, and without a pointer.
+    (&[131, 3, 3, 0], true), (&[131, 3, 4, 0], false), (&[137, 2, 4, 0], true),
+    // A second route, and a route after another option.
+    (&[131, 3, 4, 137, 3, 3, 0, 0], true), (&[1, 7, 3, 4, 131, 3, 3, 0], true),
+    // A route after the end of the list, after an option of length 1, and beyond the bytes.
+    (&[0, 131, 3, 3], false), (&[7, 1, 131, 3, 3, 0, 0, 0], false), (&[131, 5, 4, 0], false),
+];
+
+#[test]
+fn source_routes_expire(rt: HostRuntime) {
+    for (options, is_unexpired) in &UNEXPIRED_ROUTES {
+        expect_at(&rt, options, &has_unexpired_source_route(options), is_unexpired);
+    }
 }
 
 #[test]

@@ -53,6 +53,11 @@ options_of front bytes = options_within front (suc (length bytes)) bytes
 abbrev pub is_source_route : List ℕ → Bool
 is_source_route option = slice_index option 0 == 131 || slice_index option 0 == 137
 
+-- The option is a source route that is not at its end. A route is at its end if its pointer, the third byte, is greater than its length (RFC
+-- 791, section 3.1). A route of two bytes has no pointer, and `slice_index` is 0 there.
+abbrev pub is_unexpired_route : List ℕ → Bool
+is_unexpired_route option = is_source_route option && not (nat_lt (length option) (slice_index option 2))
+
 -- The route contains an address that the packet has not reached yet. The route consists of kind, length, pointer, and at least one address
 -- of four bytes. The pointer is the place of the first byte of the next address, where the first byte of the route has the place 1. So the
 -- pointer is a multiple of 4, at least 4, and not past the end (RFC 791, section 3.1).

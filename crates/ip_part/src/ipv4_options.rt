@@ -1,4 +1,4 @@
-ghost use Rattle.std.specs.Prelude.{◌≡◌, ◌≤◌, ◌-◌, IfSome, MatchOption, None, Some, is_some, length, slice_range, true};
+ghost use Rattle.std.specs.Prelude.{◌≡◌, ◌≤◌, ◌-◌, IfSome, MatchOption, None, Some, is_some, length, nat_lt, slice_index, slice_range, true};
 ghost use Rattle.std.specs.List.{find};
 ghost use Rattle.ip_part.specs.Ip as ip;
 ghost use Rattle.ip_part.specs.Options as specs;
@@ -36,13 +36,20 @@ pub(crate) fn final_destination(header: &[u8]) -> &[u8; 4]
     }
 }
 
-/// Whether the options of an IPv4 header contain a loose or strict source route, option 131 or 137 (RFC 791, section 3.1). It does not
-/// matter whether the route has an address left. Reading stops at the end of the list of options, or at an option that states a length
-/// below 2 or goes beyond the bytes.
-pub fn has_source_route(options: &[u8]) -> bool
-    ensures { result ≡ is_some (find specs.is_source_route (specs.options_of specs.ipv4_option options.now)) }
+/// Whether the options of an IPv4 header contain a loose or strict source route, option 131 or 137, that is not at its end (RFC 791, section
+/// 3.1). A route is at its end if its pointer is greater than its length. A route of two bytes has no pointer, and is not at its end. Reading
+/// stops at the end of the list of options, or at an option that states a length below 2 or goes beyond the bytes.
+pub fn has_unexpired_source_route(options: &[u8]) -> bool
+    ensures { result ≡ is_some (find specs.is_unexpired_route (specs.options_of specs.ipv4_option options.now)) }
 {
-    source_route(options).is_some()
+    let mut rest = options;
+    while let Some(option) = first_option(rest) {
+        if is_unexpired_route(option) {
+            return true;
+        }
+        rest = &rest[option.len()..];
+    }
+    false
 }
 
 /// The first source route among these options.
@@ -88,6 +95,22 @@ fn is_source_route(option: &[u8]) -> bool
     ensures { result ≡ specs.is_source_route option.now }
 {
     option[0] == LOOSE_SOURCE_ROUTE || option[0] == STRICT_SOURCE_ROUTE
+}
+
+/// Whether an option is a source route that is not at its end.
+fn is_unexpired_route(option: &[u8]) -> bool
+    requires { 1 ≤ length option.now }
+    ensures { result ≡ specs.is_unexpired_route option.now }
+{
+    is_source_route(option) && !is_at_end(option)
+}
+
+/// Whether a source route is at its end: its pointer is greater than its length. A route of two bytes has no pointer.
+fn is_at_end(route: &[u8]) -> bool
+    ensures { result ≡ nat_lt (length route.now) (slice_index route.now 2) }
+{
+    let len = route.len();
+    len > 2 && usize::from(route[2]) > len
 }
 
 /// Whether a source route contains an address that the packet has not reached yet. Then the pointer of the route states the place of an

@@ -30,7 +30,7 @@ mod transport;
 pub use fixed_part::{FixedHeader, fixed_header};
 pub use ip_addresses::IpAddresses;
 pub use ip_error::IpError;
-pub use ipv4_options::has_source_route;
+pub use ipv4_options::has_unexpired_source_route;
 pub use net_base::{IpNumber, ip_number};
 pub use proto::{Proto, proto_over};
 pub use transport::{TransportInIp, transport_in_ip, transport_in_ip_lax};

@@ -3,8 +3,7 @@ use Rattle.std.specs.Prelude.{ℕ, ◌+◌, ◌-◌, ◌*◌, ◌/◌, ◌%◌, 
 use Rattle.std.specs.Int.{to_be_bytes, w16}
 use Rattle.std.specs.List.{find}
 use Rattle.std.specs.Option.{option_map}
-use Rattle.ip_part.specs.Options.{ipv4_option, options_of}
-use Rattle.ip_translation.specs.SourceRoutes.{is_unexpired_route}
+use Rattle.ip_part.specs.Options.{ipv4_option, is_unexpired_route, options_of}
 use Rattle.net_base.specs.Bytes.{be_number}
 use Rattle.net_base.specs.IpHeaders.{ipv4_header_len, ipv4_is_fragment}
 use Rattle.net_base.specs.IpNumbers.{icmpv4_number, icmpv6_number}

@@ -22,5 +22,4 @@ pub mod QuotedPackets
 pub mod QuotedToIpv4
 pub mod QuotedToIpv6
 pub mod SkippedHeaders
-pub mod SourceRoutes
 pub mod ThereAndBack

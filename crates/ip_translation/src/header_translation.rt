@@ -7,9 +7,9 @@ ghost use Rattle.word_sum.specs.ChecksumChange.{TurnsInto, added_value, removed_
 ghost use Rattle.ip_translation.specs.HeadersToIpv6 as specs;
 ghost use Rattle.ip_translation.specs.PacketsToIpv6.{added_addresses, removed_addresses};
 
-use crate::source_route::has_unexpired_source_route;
 use crate::{Prefixes, TranslationError};
 use arrayvec::ArrayVec;
+use ip_part::has_unexpired_source_route;
 use net_base::{IpNumber, Ipv4HeaderSlice, Ipv6Header, ip_number};
 use word_sum::checksum_change::ChecksumChange;
 

@@ -39,7 +39,6 @@ mod quoted_packet;
 mod quoted_to_ipv4;
 mod quoted_to_ipv6;
 mod skipped_headers;
-mod source_route;
 mod translation_error;
 mod updated_message;
 

@@ -1,9 +1,8 @@
 use Rattle.std.proofs.Common.{is_some, length, sym, ap, ◌∙◌}
 use Rattle.std.proofs.lemmas.List.{take_rest}
-use Rattle.ip_part.specs.Options.{ipv4_option}
-use Rattle.ip_translation.specs.SourceRoutes.{is_unexpired_route}
+use Rattle.ip_part.specs.Options.{ipv4_option, is_unexpired_route}
 use Rattle.ip_part.proofs.OptionsLemmas.{found_at, none_at, sought_next}
-use Rattle.ip_translation.proofs.source_route.has_unexpired_source_route.Goals as goal
+use Rattle.ip_part.proofs.ipv4_options.has_unexpired_source_route.Goals as goal
 
 pub returns-then-is_unexpired_route : goal.returns-then-is_unexpired_route
 returns-then-is_unexpired_route c =
