@@ -1,5 +1,5 @@
 -- The fixed part of an IP header, given the bytes of the header or the packet.
-use Rattle.std.proofs.Common.{◌≡◌, ◌≤◌, ◌-◌, ◌+◌, ◌==◌, ◌&&◌, ℕ, true, nat_le, if◌then◌else◌, List, length, take, drop, slice_range, Option, Some, None, sym, ◌∙◌, ap, arith}
+use Rattle.std.proofs.Common.{◌≡◌, ◌≤◌, ◌-◌, ◌+◌, ◌==◌, ◌&&◌, ℕ, true, nat_le, if◌then◌else◌, List, length, take, drop, slice_range, Some, None, sym, ◌∙◌, ap, arith}
 use Rattle.std.proofs.lemmas.Bool.Decides.{nat_tests}
 use Rattle.std.proofs.lemmas.List.{drop-take, get_or-take, take-take}
 use Rattle.net_base.specs.IpHeaders.{version}

@@ -1,6 +1,5 @@
 ghost use Rattle.std.specs.Prelude.{◌≡◌, ◌≤◌, ◌<◌, ◌^◌, ◌==◌, ◌&&◌, IfOk, IfSome, Some, false, length, true};
-ghost use Rattle.net_base.specs.Bytes.{be_number};
-ghost use Rattle.net_base.specs.IpHeaders.{ipv4_fragment_offset, ipv4_header_len, ipv4_is_fragment, version};
+ghost use Rattle.net_base.specs.IpHeaders.{BeginsWithIpv4Header, ipv4_header_len, version};
 ghost use Rattle.net_base.specs.Refusals.{RefusesExactly};
 ghost use Rattle.ip_part.specs.Addresses.{by_value, is_ipv6};
 ghost use Rattle.ip_part.specs.FixedHeaders.{fixed_by_value, fixed_header, fixed_ipv4};
@@ -17,7 +16,7 @@ use crate::headers::Headers;
 use crate::ipv4_options::final_destination;
 use crate::ipv6_options::jumbo_payload_len;
 use crate::{IpAddresses, IpError};
-use net_base::{IpNumber, Ipv4Header, Ipv6Header, Ipv6HeaderSlice, ip_number};
+use net_base::{IpNumber, Ipv4Header, Ipv4HeaderSlice, Ipv6Header, Ipv6HeaderSlice, ip_number};
 
 /// The length of the shortest IPv4 header, in bytes (RFC 791, section 3.1).
 pub(crate) const IPV4_MIN_LEN: usize = Ipv4Header::MIN_LEN;
@@ -96,69 +95,43 @@ fn read_ipv4_header_with_len(packet: &[u8]) -> Result<(Headers<'_>, usize), IpEr
     ensures within { IfOk result (λ read. (read.0.len ≤ read.1) × (read.0.len ≤ length packet.now)) }
 {
     let header = ipv4_header(packet)?;
-    let total_len = usize::from(total_len(header));
-    if total_len < header.len() {
+    let header_len = header.slice().len();
+    let total_len = usize::from(header.total_len());
+    if total_len < header_len {
         return Err(IpError::TotalLength {
             total_len,
-            header_len: header.len(),
+            header_len,
         });
     }
-    Ok((ipv4_headers(header), total_len))
-}
-
-/// The total length that an IPv4 header states.
-#[inline(always)]
-fn total_len(header: &[u8]) -> u16
-    requires { 20 ≤ length header.now }
-    ensures { result ≡ be_number header.now 2 2 }
-{
-    u16::from_be_bytes([header[2], header[3]])
-}
-
-/// Whether the packet with this IPv4 header is one of several fragments: more fragments follow, or its fragment offset is above 0.
-#[inline(always)]
-fn is_fragment(header: &[u8]) -> bool
-    requires { 20 ≤ length header.now }
-    ensures { result ≡ ipv4_is_fragment header.now }
-{
-    u16::from_be_bytes([header[6], header[7]]) & 0x3fff != 0
-}
-
-/// The offset of an IPv4 fragment in its packet, in units of 8 bytes.
-#[inline(always)]
-fn fragment_offset(header: &[u8]) -> u16
-    requires { 20 ≤ length header.now }
-    ensures { result ≡ ipv4_fragment_offset header.now }
-{
-    u16::from_be_bytes([header[6], header[7]]) & 0x1fff
+    Ok((ipv4_headers(&header), total_len))
 }
 
 /// Whether an authentication header follows this IPv4 header directly. In a later fragment, payload follows the header instead.
 #[inline(always)]
-fn has_authentication(header: &[u8]) -> bool
-    requires { 20 ≤ length header.now }
+fn has_authentication(header: &Ipv4HeaderSlice<'_>) -> bool
     ensures { result ≡ specs.has_authentication header.now }
 {
-    IpNumber(header[9]) == ip_number::AUTHENTICATION_HEADER && fragment_offset(header) == 0
+    header.protocol() == ip_number::AUTHENTICATION_HEADER && header.fragments_offset() == 0
 }
 
 /// The contents of an IPv4 header.
 #[inline(always)]
-fn ipv4_headers(header: &[u8]) -> Headers<'_>
+fn ipv4_headers<'a>(header: &Ipv4HeaderSlice<'a>) -> Headers<'a>
     requires { 20 ≤ length header.now }
     ensures contents { headers_by_value result ≡ specs.ipv4_headers (length header.now) header.now }
     ensures fixed { fixed_by_value result.fixed_header ≡ fixed_ipv4 header.now }
 {
+    let bytes = header.slice();
     Headers {
-        fixed_header: ipv4_fixed_header(header),
+        fixed_header: ipv4_fixed_header(bytes),
         addresses: IpAddresses::Ipv4 {
-            source: ipv4_address(header, IPV4_SOURCE_AT),
-            destination: final_destination(header),
+            source: ipv4_address(bytes, IPV4_SOURCE_AT),
+            destination: final_destination(bytes),
         },
-        protocol: IpNumber(header[9]),
-        len: header.len(),
-        is_fragment: is_fragment(header),
-        is_later_fragment: fragment_offset(header) != 0,
+        protocol: header.protocol(),
+        len: bytes.len(),
+        is_fragment: header.is_fragmenting_payload(),
+        is_later_fragment: header.fragments_offset() != 0,
         may_be_extended: has_authentication(header),
         payload_len: 0,
         is_jumbogram: false,
@@ -177,15 +150,15 @@ fn read_ipv4_header(packet: &[u8]) -> Result<(Headers<'_>, Option<usize>), IpErr
     ensures counted { IfOk result (λ read. IfSome read.1 (λ len. read.0.len ≤ len)) }
 {
     let header = ipv4_header(packet)?;
-    let header_len = header.len();
-    let total_len = usize::from(total_len(header));
+    let header_len = header.slice().len();
+    let total_len = usize::from(header.total_len());
     if total_len != 0 && total_len < header_len {
         return Err(IpError::TotalLength {
             total_len,
             header_len,
         });
     }
-    let headers = ipv4_headers(header);
+    let headers = ipv4_headers(&header);
     let stated_len = if total_len == 0 {
         None
     } else {
@@ -196,32 +169,41 @@ fn read_ipv4_header(packet: &[u8]) -> Result<(Headers<'_>, Option<usize>), IpErr
 
 /// The IPv4 header at the front of a packet.
 #[inline(always)]
-fn ipv4_header(packet: &[u8]) -> Result<&[u8], IpError>
+fn ipv4_header(packet: &[u8]) -> Result<Ipv4HeaderSlice<'_>, IpError>
     requires { version packet.now ≡ 4 }
     ensures refused { RefusesExactly result (ipv4_header_refusal packet.now) }
-    ensures kept { IfOk result (λ header. header.now ≡ specs.ipv4_header packet.now) }
-    ensures len { IfOk result (λ header. length header.now ≡ ipv4_header_len packet.now) }
-    ensures shortest { IfOk result (λ header. 20 ≤ length header.now) }
-    ensures within { IfOk result (λ header. length header.now ≤ length packet.now) }
+    ensures kept { IfOk result (λ header. header ≡ specs.ipv4_header packet.now) }
+    ensures len { IfOk result (λ header. length header ≡ ipv4_header_len packet.now) }
+    ensures shortest { IfOk result (λ header. 20 ≤ length header) }
+    ensures within { IfOk result (λ header. length header ≤ length packet.now) }
+{
+    match Ipv4HeaderSlice::from_slice(packet) {
+        Some(header) => Ok(header),
+        None => Err(ipv4_header_error(packet)),
+    }
+}
+
+/// Why a packet of version 4 begins with no IPv4 header.
+fn ipv4_header_error(packet: &[u8]) -> IpError
+    requires version { version packet.now ≡ 4 }
+    requires none { BeginsWithIpv4Header packet.now → ⊥ }
+    ensures { Some result ≡ ipv4_header_refusal packet.now }
 {
     let len = packet.len();
     if len < IPV4_MIN_LEN {
-        return Err(IpError::HeaderCutOff {
+        return IpError::HeaderCutOff {
             required_len: IPV4_MIN_LEN,
             len,
-        });
+        };
     }
     let header_len = usize::from(packet[0] & 0xf) * 4;
     if header_len < IPV4_MIN_LEN {
-        return Err(IpError::HeaderLength { header_len });
+        return IpError::HeaderLength { header_len };
     }
-    if len < header_len {
-        return Err(IpError::HeaderCutOff {
-            required_len: header_len,
-            len,
-        });
+    IpError::HeaderCutOff {
+        required_len: header_len,
+        len,
     }
-    Ok(&packet[..header_len])
 }
 
 /// Reads an IPv6 header, and returns the packet length that it states, including the header itself. The length is `None` if the header
