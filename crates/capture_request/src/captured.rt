@@ -1,9 +1,11 @@
-//! The packet in a record or block of a capture.
+//! The packet in a record or block of a capture, and what the capture states about it.
 
-ghost use Rattle.capture_request.specs.Report.{IsReadAs, IsTooLong};
+ghost use Rattle.std.specs.Prelude.{◌≡◌};
+ghost use Rattle.capture_request.specs.Report.{IsReadAs, IsTooLong, captured_info, too_long_info};
 
-use capture_file::reader::CapturedPacket;
+use capture_file::reader::{CapturedPacket, TooLongPacket};
 use capture_packet::{Content, NetworkProtocol, Packet, Verdict, read_packet};
+use capture_summary::{CaptureInfo, FrameLen};
 use transport_part::Untested;
 
 /// Returns a packet that is not read, since its `required_len` bytes do not fit in the buffer.
@@ -34,5 +36,34 @@ pub fn packet_in_frame<'a>(
             Content::NotIp(NetworkProtocol::LinkType(number)),
             Verdict::untested(Untested::OtherProtocol),
         ),
+    }
+}
+
+/// Returns what the capture states about a packet.
+pub fn captured_info(captured: &CapturedPacket) -> CaptureInfo
+    ensures { result ≡ captured_info captured.now }
+{
+    CaptureInfo {
+        link_type: Some(captured.link_type),
+        time: captured.time,
+        len: Some(FrameLen {
+            original: u64::from(captured.original_len),
+            captured: captured.captured_len as u64,
+        }),
+    }
+}
+
+/// Returns what the capture states about a packet that is longer than the buffer.
+pub fn too_long_info(captured: &TooLongPacket) -> CaptureInfo
+    ensures { result ≡ too_long_info captured.now }
+{
+    let frame_len = |original| FrameLen {
+        original: u64::from(original),
+        captured: u64::from(captured.required_len),
+    };
+    CaptureInfo {
+        link_type: captured.link_type,
+        time: captured.time,
+        len: captured.original_len.map(frame_len),
     }
 }

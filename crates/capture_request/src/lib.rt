@@ -25,7 +25,7 @@ pub use capture_error::{CaptureError, write_end, write_error, write_open_error};
 pub use capture_packet::MAX_PACKET_LEN;
 pub use capture_summary::Choice;
 pub use capture_words::Times;
-pub use captured::{packet_in_frame, packet_without_room};
+pub use captured::{captured_info, packet_in_frame, packet_without_room, too_long_info};
 pub use compression::Compression;
 pub use exit_status::ExitStatus;
 pub use filter::is_filter;

@@ -15,8 +15,9 @@ use capture_file::PacketTime;
 use capture_file::reader::{CapturedPacket, PacketTexts, TooLongPacket};
 use capture_json::write_packet;
 use capture_packet::Packet;
+use capture_request::{captured_info, too_long_info};
 use capture_summary::{
-    CaptureInfo, FrameLen, PacketInfo, Protocol, RefusalKind, Summary, VerdictKind, flow_of,
+    CaptureInfo, PacketInfo, Protocol, RefusalKind, Summary, VerdictKind, flow_of,
 };
 use capture_text::write_packet_line;
 use std::alloc::Global;
@@ -230,33 +231,4 @@ fn count(summary: &mut Summary, info: &CaptureInfo, packet: &Packet<'_>) -> Resu
         info,
     )?;
     Ok(())
-}
-
-/// Returns what the capture states about a packet.
-fn captured_info(captured: &CapturedPacket) -> CaptureInfo
-    ensures { result ≡ captured_info captured.now }
-{
-    CaptureInfo {
-        link_type: Some(captured.link_type),
-        time: captured.time,
-        len: Some(FrameLen {
-            original: u64::from(captured.original_len),
-            captured: captured.captured_len as u64,
-        }),
-    }
-}
-
-/// Returns what the capture states about a packet that is longer than the buffer.
-fn too_long_info(captured: &TooLongPacket) -> CaptureInfo
-    ensures { result ≡ too_long_info captured.now }
-{
-    let frame_len = |original| FrameLen {
-        original: u64::from(original),
-        captured: u64::from(captured.required_len),
-    };
-    CaptureInfo {
-        link_type: captured.link_type,
-        time: captured.time,
-        len: captured.original_len.map(frame_len),
-    }
 }

@@ -4,12 +4,12 @@ ghost use Rattle.report_page.specs.Lines.{IsFirstLine, is_set, times_of};
 ghost use Rattle.report_page.specs.Text.{WritesText};
 ghost use Rattle.report_page.specs.Times.{time_of};
 
-use crate::piece::{captured_info, first_item, is_set, too_long_info};
+use crate::piece::{first_item, is_set};
 use crate::text::{Text, put};
 use crate::time::{PageTime, time_of};
 use capture_file::reader::{NextPacket, PacketTexts};
 use capture_packet::Packet;
-use capture_request::{packet_in_frame, packet_without_room};
+use capture_request::{captured_info, packet_in_frame, packet_without_room, too_long_info};
 use capture_summary::{CaptureInfo, PacketInfo};
 use capture_text::write_packet_line;
 use capture_words::Times;

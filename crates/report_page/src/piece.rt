@@ -1,13 +1,11 @@
-//! The first item of a piece, and what the capture states about its packet.
+//! The first item of a piece.
 
 ghost use Rattle.std.specs.Prelude.{◌≡◌, IfSome, length};
 ghost use Rattle.capture_file.specs.Packets.{IsNextWithin};
-ghost use Rattle.capture_request.specs.Report.{captured_info, too_long_info};
 ghost use Rattle.report_page.specs.Lines.{is_set};
 ghost use Rattle.report_page.specs.Pieces.{IsFirstItem};
 
-use capture_file::reader::{CaptureReader, CapturedPacket, NextPacket, TooLongPacket};
-use capture_summary::{CaptureInfo, FrameLen};
+use capture_file::reader::{CaptureReader, NextPacket};
 
 /// Reads the first item of a piece into a buffer, and returns it with the reader after it. The result is `None` if the beginning of the
 /// piece is refused.
@@ -30,33 +28,4 @@ pub(crate) fn is_set(flag: u8) -> bool
     ensures { result ≡ is_set flag }
 {
     flag != 0
-}
-
-/// Returns what the capture states about a packet.
-pub(crate) fn captured_info(captured: &CapturedPacket) -> CaptureInfo
-    ensures { result ≡ captured_info captured.now }
-{
-    CaptureInfo {
-        link_type: Some(captured.link_type),
-        time: captured.time,
-        len: Some(FrameLen {
-            original: u64::from(captured.original_len),
-            captured: captured.captured_len as u64,
-        }),
-    }
-}
-
-/// Returns what the capture states about a packet that is longer than the buffer.
-pub(crate) fn too_long_info(captured: &TooLongPacket) -> CaptureInfo
-    ensures { result ≡ too_long_info captured.now }
-{
-    let frame_len = |original| FrameLen {
-        original: u64::from(original),
-        captured: u64::from(captured.required_len),
-    };
-    CaptureInfo {
-        link_type: captured.link_type,
-        time: captured.time,
-        len: captured.original_len.map(frame_len),
-    }
 }

@@ -2,10 +2,10 @@ ghost use Rattle.std.specs.Prelude.{◌≡◌, IfErr, IfOk, length};
 ghost use Rattle.report_page.specs.Lines.{is_set};
 ghost use Rattle.report_page.specs.Reading.{FillsRows, ReadsPiece, ReadsRow, StopsWith, end_at};
 
-use crate::piece::{captured_info, is_set, too_long_info};
+use crate::piece::is_set;
 use crate::row::{PageRow, row_of};
 use capture_file::reader::{CaptureReader, NextPacket};
-use capture_request::{packet_in_frame, packet_without_room};
+use capture_request::{captured_info, packet_in_frame, packet_without_room, too_long_info};
 use std::io::Read;
 
 /// Every row was filled, and the piece can contain further packets.
