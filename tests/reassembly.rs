@@ -138,6 +138,22 @@ fn a_fragment_that_is_cut_off_is_refused(rt: HostRuntime) {
 }
 
 #[test]
+fn only_a_first_fragment_has_an_authentication_header(rt: HostRuntime) {
+    let mut packet = over_ipv4(0x20, 0);
+    packet[9] = 51;
+    let error = IpError::ExtensionHeaderCutOff {
+        protocol: ip_number::AUTHENTICATION_HEADER,
+        offset: 20,
+        required_len: 92,
+        len: 8,
+    };
+    expect_equal(&rt, &Fragment::of(&packet), &Err(FragmentError::Ip(error)));
+    packet[7] = 1;
+    let fragment = expect_some(&rt, expect_ok(&rt, Fragment::of(&packet)));
+    expect_equal(&rt, &(fragment.offset, fragment.payload.len()), &(8, 8));
+}
+
+#[test]
 fn a_first_fragment_has_its_header_chain(rt: HostRuntime) {
     let mut packet = over_ipv6([0, 1]);
     packet[5] = 23;
@@ -271,6 +287,25 @@ fn a_fragment_agrees_with_the_known_end(rt: HostRuntime) {
         &reassembly.add(&other_key),
         &Err(ReassemblyError::OtherKey),
     );
+}
+
+/// Keys that differ from the key of the fragments over IPv4 in one field.
+#[rattlefmt::skip]
+static OTHER_KEYS: [FragmentKey; 4] = [
+    FragmentKey::Ipv4 { source: [10, 0, 0, 9], destination: [10, 0, 0, 2], protocol: ip_number::UDP, identification: 0x1A2B },
+    FragmentKey::Ipv4 { source: [10, 0, 0, 1], destination: [11, 0, 0, 2], protocol: ip_number::UDP, identification: 0x1A2B },
+    FragmentKey::Ipv4 { source: [10, 0, 0, 1], destination: [10, 0, 0, 2], protocol: ip_number::TCP, identification: 0x1A2B },
+    FragmentKey::Ipv4 { source: [10, 0, 0, 1], destination: [10, 0, 0, 2], protocol: ip_number::UDP, identification: 0x1A2C },
+];
+
+#[test]
+fn each_field_of_a_key_counts(rt: HostRuntime) {
+    let mut buffer = [0; 84];
+    for key in &OTHER_KEYS {
+        let mut reassembly = Reassembly::new(*key, &mut buffer);
+        let refused = reassembly.add(&fragment(0, true, &PAYLOAD[..8]));
+        expect_at(&rt, key, &refused, &Err(ReassemblyError::OtherKey));
+    }
 }
 
 #[test]

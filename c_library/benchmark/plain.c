@@ -682,3 +682,74 @@ etherparse_status plain_ipv6_to_ipv4(const uint8_t *packet, size_t packet_len, c
     *written = len + 20;
     return ETHERPARSE_OK;
 }
+
+/* The place of a fragment in the payload of its packet. */
+struct part {
+    size_t offset, end;
+};
+
+/* Adds the fragment in a packet to the packet in `buffer`, and returns its place. Its end is 0 if the fragment is refused. `key` is a
+ * fragment of the same packet. No part ends after the place `reach`. */
+static struct part add_fragment(const uint8_t *packet, size_t packet_len, const uint8_t *key, const struct part *parts, size_t count,
+                                size_t reach, uint8_t *buffer, size_t buffer_len)
+{
+    static const struct part refused = {0, 0};
+    struct part added;
+    size_t len = ipv4_end(packet, packet_len), i;
+    if (len <= 20 || (big_endian_16(packet + 6) & 0x3fff) == 0 || memcmp(packet + 12, key + 12, 8) != 0 || packet[9] != key[9]
+        || memcmp(packet + 4, key + 4, 2) != 0)
+        return refused;
+    added.offset = (big_endian_16(packet + 6) & 0x1fffu) * 8u;
+    added.end = added.offset + len - 20;
+    if (added.end > 65535 || added.end > buffer_len - 20 || ((packet[6] & 0x20) != 0 && (len - 20) % 8 != 0))
+        return refused;
+    for (i = 0; added.offset < reach && i < count; i++)
+        if (added.offset < parts[i].end && parts[i].offset < added.end)
+            return refused;
+    memcpy(buffer + 20 + added.offset, packet + 20, len - 20);
+    return added;
+}
+
+/* Writes the header of a whole packet. `first` is its first fragment. */
+static void write_whole_header(uint8_t *buffer, const uint8_t *first, size_t len)
+{
+    memcpy(buffer, first, 20);
+    put_16(buffer + 2, (uint16_t)len);
+    put_16(buffer + 6, (uint16_t)((first[6] & 0xc0) << 8));
+    put_16(buffer + 10, 0);
+    put_16(buffer + 10, (uint16_t)~sum_of_words(add(0, buffer, 20)));
+}
+
+/* Copies each payload once, to its place in `buffer`, and needs no `room`. Fragments over IPv6, with options, or that repeat another
+ * fragment are refused, which the library puts together. */
+etherparse_status plain_reassembly_packet(const uint8_t *packets, size_t packets_len, const size_t *lens, size_t lens_len, uint8_t *room,
+                                          size_t room_len, uint8_t *buffer, size_t buffer_len, size_t *written, etherparse_error *error)
+{
+    struct part parts[128];
+    const uint8_t *packet = packets, *first = NULL;
+    size_t i, received = 0, reach = 0, end = 0;
+    (void)room;
+    if (lens_len == 0 || lens_len > 128 || packets_len < 20 || buffer_len < 20)
+        return refuse(error, 20, packets_len);
+    for (i = 0; i < lens_len; packet += lens[i++]) {
+        if ((size_t)(packets + packets_len - packet) < lens[i])
+            return refuse(error, lens[i], room_len);
+        parts[i] = add_fragment(packet, lens[i], packets, parts, i, reach, buffer, buffer_len);
+        if (parts[i].end == 0)
+            return refuse(error, 20, lens[i]);
+        if ((packet[6] & 0x20) == 0 ? end != 0 || parts[i].end < reach : end != 0 && end <= parts[i].end)
+            return refuse(error, end, parts[i].end);
+        if ((packet[6] & 0x20) == 0)
+            end = parts[i].end;
+        if (parts[i].offset == 0)
+            first = packet;
+        if (reach < parts[i].end)
+            reach = parts[i].end;
+        received += parts[i].end - parts[i].offset;
+    }
+    if (first == NULL || end == 0 || received != end || end > 65515)
+        return refuse(error, end, received);
+    write_whole_header(buffer, first, end + 20);
+    *written = end + 20;
+    return ETHERPARSE_OK;
+}

@@ -47,6 +47,11 @@ static size_t changed_place, reply_len;
 static const etherparse_prefix64 host = {{0x20, 1, 0x0d, 0xb8, 0, 1}, 96}, network = {{0x20, 1, 0x0d, 0xb8, 0, 0x64}, 96};
 static uint8_t short_ipv4[64], long_ipv4[1400], short_ipv6[64], long_ipv6[1400], translated[1420];
 
+/* Fragments of UDP over IPv4 with 1,440 bytes of payload, the last with 700 bytes. `main` fills them. */
+enum { FRAGMENTS = 45 };
+static uint8_t fragments[FRAGMENTS * 1460], room[ETHERPARSE_REASSEMBLY_ROOM_MAX_LEN], joined[65535];
+static size_t lens[FRAGMENTS];
+
 static etherparse_error error;
 static etherparse_ip_transport transport;
 static etherparse_udp_packet udp_packet;
@@ -104,6 +109,29 @@ static uint8_t *next_of(const uint8_t *packet, size_t len)
     return changed[(changed_place + CHANGED - 1) % CHANGED];
 }
 
+/* Makes the fragment with this number the last, of 700 bytes, or one of 1,440 bytes that more fragments follow. The length of the packet
+ * in `lens` stays that of the longer fragment, so the shorter one has padding. */
+static void mark_last(size_t number, int is_last)
+{
+    uint8_t *packet = fragments + (number - 1) * 1460;
+    size_t len = is_last ? 720 : 1460;
+    packet[2] = (uint8_t)(len >> 8);
+    packet[3] = (uint8_t)len;
+    packet[6] = (uint8_t)((packet[6] & 0x1f) | (is_last ? 0 : 0x20));
+}
+
+/* All fragments, of which the first `count` are a packet: only the last of these has no more fragments after it. */
+static const uint8_t *fragments_of(size_t count)
+{
+    static size_t last = FRAGMENTS;
+    if (last != count) {
+        mark_last(last, 0);
+        mark_last(count, 1);
+        last = count;
+    }
+    return fragments;
+}
+
 ROW(ip4, etherparse_transport_in_ip(over_ipv4, sizeof over_ipv4, &transport, &error),
     plain_transport_in_ip(over_ipv4, sizeof over_ipv4, &transport, &error))
 ROW(ip6, etherparse_transport_in_ip(over_ipv6, sizeof over_ipv6, &transport, &error),
@@ -143,6 +171,15 @@ TO_IPV6(short_to_ipv6, short_ipv4)
 TO_IPV6(long_to_ipv6, long_ipv4)
 TO_IPV4(short_to_ipv4, short_ipv6)
 TO_IPV4(long_to_ipv4, long_ipv6)
+#define JOIN(function, count)                                                                                                          \
+    ROW(function,                                                                                                                      \
+        etherparse_reassembly_packet(fragments_of(count), sizeof fragments, lens, count, room, sizeof room, joined, sizeof joined,     \
+                                     &written, &error),                                                                                \
+        plain_reassembly_packet(fragments_of(count), sizeof fragments, lens, count, room, sizeof room, joined, sizeof joined,          \
+                                &written, &error))
+JOIN(join_two, 2)
+JOIN(join_ten, 10)
+JOIN(join_most, FRAGMENTS)
 
 static const struct {
     const char *name;
@@ -167,6 +204,9 @@ static const struct {
     {"ipv4_to_ipv6, UDP, 1400 bytes", long_to_ipv6},
     {"ipv6_to_ipv4, UDP, 64 bytes", short_to_ipv4},
     {"ipv6_to_ipv4, UDP, 1400 bytes", long_to_ipv4},
+    {"reassembly_packet, 2 fragments", join_two},
+    {"reassembly_packet, 10 fragments", join_ten},
+    {"reassembly_packet, 45 fragments", join_most},
 };
 enum { ROWS = sizeof rows / sizeof rows[0] };
 
@@ -217,6 +257,7 @@ static size_t answer(int row, int is_plain)
     memset(buffer, 0, sizeof buffer);
     memset(changed, 0, sizeof changed);
     memset(translated, 0, sizeof translated);
+    memset(joined, 0, sizeof joined);
     changed_place = reply_len = written = 0;
     total = 0;
     rows[row].calls(is_plain, 1);
@@ -237,6 +278,7 @@ static size_t answer(int row, int is_plain)
     all = mixed(mixed(all, raw_option.value_offset), raw_option.value_len);
     all = mixed_bytes(mixed(all, reply_len), changed[0], sizeof changed[0]);
     all = mixed_bytes(mixed(all, written), translated, sizeof translated);
+    all = mixed_bytes(all, joined, sizeof joined);
     return mixed_bytes(all, buffer, 8);
 }
 
@@ -271,6 +313,24 @@ static void fill_packets(uint8_t *over_4, uint8_t *over_6, size_t len)
     memcpy(over_6 + 36, front + 16, 4);
 }
 
+/* Fills fragments of one packet from 192.168.1.1 to 192.168.1.2, of which the last number is the last fragment. */
+static void fill_fragments(void)
+{
+    static const uint8_t front[20] = {0x45, 0, 0, 0, 0x1a, 0x2b, 0, 0, 64, 17, 0, 0, 192, 168, 1, 1, 192, 168, 1, 2};
+    size_t number, i;
+    for (number = 1; number <= FRAGMENTS; number++) {
+        uint8_t *packet = fragments + (number - 1) * 1460;
+        size_t offset = (number - 1) * 1440 / 8;
+        for (i = 0; i < 1460; i++)
+            packet[i] = (uint8_t)(i * 7 + number);
+        memcpy(packet, front, sizeof front);
+        packet[6] = (uint8_t)(offset >> 8);
+        packet[7] = (uint8_t)offset;
+        mark_last(number, number == FRAGMENTS);
+        lens[number - 1] = 1460;
+    }
+}
+
 int main(int argc, char **argv)
 {
     static const uint8_t front[8] = {0, 21, 4, 210, 1508 / 256, 1508 % 256, 0x11, 0x22}, middle_front[8] = {0, 21, 4, 210, 0, 64, 0x77, 0x33};
@@ -279,6 +339,7 @@ int main(int argc, char **argv)
     memcpy(middle_packet, middle_front, sizeof middle_front);
     fill_packets(short_ipv4, short_ipv6, sizeof short_ipv4);
     fill_packets(long_ipv4, long_ipv6, sizeof long_ipv4);
+    fill_fragments();
     for (row = 0; row < ROWS; row++) {
         if (argc == 3) {
             int is_plain = strncmp(argv[1], "plain ", 6) == 0;

@@ -18,10 +18,10 @@ use Rattle.reassembly.specs.declared.reassembly_error.ReassemblyError.TheVariant
 
 -- ---- equal values are the same
 
-same_number : (n : ℕ) → (n == n) ≡ true
+pub same_number : (n : ℕ) → (n == n) ≡ true
 same_number n = grind (arith, nat_tests)
 
-same_bytes : (bytes : List ℕ) → pointwise nat_eq bytes bytes ≡ true
+pub same_bytes : (bytes : List ℕ) → pointwise nat_eq bytes bytes ≡ true
 same_bytes [] = refl
 same_bytes (byte ∷ bytes) = ap (λ b. b && pointwise nat_eq bytes bytes) (same_number byte) ∙ same_bytes bytes
 

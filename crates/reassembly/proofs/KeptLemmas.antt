@@ -244,26 +244,22 @@ not_complete buffer parts received len end key room kept is complete =
 
 -- ---- the rules of a piece, by the parts
 
-pub conflict_by_parts : (buffer : List ℕ) (parts : List Part) (piece : Piece)
-    → list_any (conflicts piece) (pieces_in buffer parts) ≡ list_any (λ part. conflicts piece (piece_in buffer part)) parts
-conflict_by_parts buffer parts piece = any_map (conflicts piece) (piece_in buffer) parts
-
 pub among_by_parts : (buffer : List ℕ) (parts : List Part) (piece : Piece)
     → is_among (pieces_in buffer parts) piece ≡ list_any (λ part. is_same piece (piece_in buffer part)) parts
 among_by_parts buffer parts piece = any_map (is_same piece) (piece_in buffer) parts
 
 pub piece_rules : (buffer : List ℕ) (parts : List Part) (piece : Piece) (conflict among many : Bool)
-    → list_any (λ part. conflicts piece (piece_in buffer part)) parts ≡ conflict
-    → list_any (λ part. is_same piece (piece_in buffer part)) parts ≡ among → nat_le 128 (length parts) ≡ many
+    → list_any (conflicts piece) (pieces_in buffer parts) ≡ conflict
+    → is_among (pieces_in buffer parts) piece ≡ among → nat_le 128 (length parts) ≡ many
     → piece_refusal (pieces_in buffer parts) piece
     ≡ first_of (refused_if conflict Overlap ∷ refused_if (not among && many) TooManyFragments ∷ [])
 piece_rules buffer parts piece conflict among many conflict_is among_is many_is =
     ap (λ b. first_of (refused_if b Overlap ∷ refused_if (not (is_among (pieces_in buffer parts) piece)
     && nat_le 128 (length (pieces_in buffer parts))) TooManyFragments ∷ []))
-    (conflict_by_parts buffer parts piece ∙ conflict_is)
+    conflict_is
     ∙ ap (λ b. first_of (refused_if conflict Overlap ∷ refused_if (not b && nat_le 128 (length (pieces_in buffer parts))) TooManyFragments
     ∷ []))
-    (among_by_parts buffer parts piece ∙ among_is)
+    among_is
     ∙ ap (λ n. first_of (refused_if conflict Overlap ∷ refused_if (not among && nat_le 128 n) TooManyFragments ∷ []))
     (length-map parts (piece_in buffer))
     ∙ ap (λ b. first_of (refused_if conflict Overlap ∷ refused_if (not among && b) TooManyFragments ∷ [])) many_is

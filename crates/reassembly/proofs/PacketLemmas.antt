@@ -1,5 +1,5 @@
 -- Laws of a packet in the lent buffer: its headers before its payload.
-use Rattle.std.proofs.Common.{◌≡◌, ℕ, ◌+◌, ◌-◌, ◌≤◌, ◌<◌, nat_le, ◌==◌, Bool, true, false, not, if◌then◌else◌, List, [], ◌∷◌, ◌++◌, length, length-drop, take, drop, Option, Some, None, unwrap_or, refl, sym, ◌∙◌, ap, subst, arith}
+use Rattle.std.proofs.Common.{◌≡◌, ℕ, ◌+◌, ◌-◌, ◌≤◌, ◌<◌, ◌↔◌, nat_le, ◌==◌, Bool, true, false, not, if◌then◌else◌, List, [], ◌∷◌, ◌++◌, length, length-drop, take, drop, Option, Some, None, IfNone, IfSome, IsSome, unwrap_or, refl, sym, ◌∙◌, ap, subst, arith}
 use Rattle.std.proofs.Math.Seq.{take-add}
 use Rattle.std.proofs.lemmas.Bool.Decides.{nat_tests}
 use Rattle.std.proofs.lemmas.List.{drop-append-le, drop-drop, drop-take, length-take-le}
@@ -238,25 +238,35 @@ write_fits key buffer parts end fragment room offset accepted room_is offset_is 
 -- ---- the headers before the payload
 
 -- the headers of the whole packet are written so that they end where the room ends
-pub front_written : (room received : ℕ) (buffer after header front bytes : List ℕ) (end : Option ℕ) (len : ℕ)
-    → end ≡ Some received → HasWholeHeader header received → front ≡ whole_header header received → length front ≤ room
-    → room ≤ length buffer
-    → bytes ≡ front → len ≡ length front → after ≡ put_mid (room - len) (length bytes) buffer bytes
-    → (drop room after ≡ drop room buffer) × HasFront room after header end received (room - len)
-front_written room received buffer after header front bytes end len complete has front_is fits long bytes_are len_is after_is =
-    let count : length bytes ≡ len = ap length bytes_are ∙ sym len_is in
-    let left : room - (room - len) ≡ len = omega (arith, fits, len_is) in (
-      ap (drop room) after_is ∙ drop-put_mid (room - len) (length bytes) buffer bytes room (omega (arith, fits, len_is, count))
-          (omega (arith, long)) refl,
+pub front_written : (room received start : ℕ) (buffer after header : List ℕ) (end : Option ℕ) → end ≡ Some received
+    → HasWholeHeader header received → start + length (whole_header header received) ≡ room → room ≤ length buffer
+    → after ≡ put_mid start (room - start) buffer (whole_header header received)
+    → (drop room after ≡ drop room buffer) × HasFront room after header end received start
+front_written room received start buffer after header end complete has fits long after_is =
+    let front : List ℕ = whole_header header received in
+    let left : room - start ≡ length front = omega (arith, fits) in
+    let after_by : after ≡ put_mid start (length front) buffer front = after_is ∙ ap (λ n. put_mid start n buffer front) left in (
+      ap (drop room) after_by ∙ drop-put_mid start (length front) buffer front room (omega (arith, fits)) (omega (arith, long)) refl,
       record {
         is_complete = complete;
-        within = omega arith;
+        within = omega (arith, fits);
         has = has;
-        bytes = ap (λ bytes. take (room - (room - len)) (drop (room - len) bytes)) after_is
-            ∙ between-put_mid (room - len) (length bytes) buffer bytes room (omega (arith, long)) (count ∙ sym left)
-            ∙ bytes_are ∙ front_is;
+        bytes = ap (λ bytes. take (room - start) (drop start bytes)) after_by
+            ∙ between-put_mid start (length front) buffer front room (omega (arith, long)) (sym left);
       },
     )
+
+-- the headers are written, or nothing is written since there are no headers for the whole packet
+pub front_by : (room received : ℕ) (buffer after header : List ℕ) (end start : Option ℕ) → end ≡ Some received
+    → (IsSome start ↔ HasWholeHeader header received)
+    → IfSome start (λ start. start + length (whole_header header received) ≡ room)
+    → IfSome start (λ start. after ≡ put_mid start (room - start) buffer (whole_header header received))
+    → IfNone start (after ≡ buffer) → room ≤ length buffer
+    → (drop room after ≡ drop room buffer) × IsFront room after header end received start
+front_by room received buffer after header end None complete found place written unchanged long =
+    (ap (drop room) unchanged, λ _ has. absurd (cc (found.1 has)))
+front_by room received buffer after header end (Some start) complete found place written unchanged long =
+    front_written room received start buffer after header end complete (found.0 refl) place long written
 
 -- ---- the packet
 

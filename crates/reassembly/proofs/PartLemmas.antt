@@ -1,12 +1,12 @@
 -- Laws of the parts of a buffer, and of the pieces in them.
-use Rattle.std.proofs.Common.{◌≡◌, ℕ, ◌+◌, ◌-◌, ◌≤◌, ◌⊎◌, inl, inr, nat_lt, nat_le, Bool, true, false, not, ◌&&◌, ◌||◌, List, [], ◌∷◌, ◌++◌, length, length-drop, length-append, map, take, drop, refl, sym, ◌∙◌, ap, subst, arith}
+use Rattle.std.proofs.Common.{◌≡◌, ℕ, ◌+◌, ◌-◌, ◌<◌, ◌≤◌, ◌⊎◌, inl, inr, nat_lt, nat_le, Bool, true, false, not, ◌&&◌, ◌||◌, List, [], ◌∷◌, ◌++◌, length, length-drop, length-append, map, take, drop, refl, sym, ◌∙◌, ap, subst, arith}
 use Rattle.std.proofs.lemmas.Bool.Decides.{nat_tests}
 use Rattle.std.proofs.lemmas.List.{drop-take, length-take-le, map-append}
-use Rattle.std.proofs.lemmas.List.Elements.{All-head, All-push, All-tail}
+use Rattle.std.proofs.lemmas.List.Elements.{All-cons, All-head, All-nil, All-push, All-tail}
 use Rattle.std.proofs.lemmas.Slice.{between-put_mid, drop-put_mid, take-put_mid_below}
 use Rattle.std.specs.List.{All, list_any}
 use borrow.Rule.Slice.PartMut.{put_mid}
-use Rattle.reassembly.specs.Parts.{AreApart, EndsWithin, Fits, part_reaches, piece_in, pieces_in}
+use Rattle.reassembly.specs.Parts.{AreApart, EndsWithin, Fits, part_overlaps, part_reaches, piece_in, pieces_in}
 use Rattle.reassembly.specs.Pieces.{Piece, end_of, is_same, overlaps, total_len}
 use Rattle.reassembly.specs.Reassembly.{conflicts, reaches}
 use Rattle.reassembly.specs.declared.part.Part.{Part}
@@ -21,11 +21,11 @@ or_same : (a b c : Bool) → (a || (b || c)) ≡ ((a || b) || c)
 or_same true b c = refl
 or_same false b c = refl
 
-or_false : (a b : Bool) → (a || b) ≡ false → (a ≡ false) × (b ≡ false)
+pub or_false : (a b : Bool) → (a || b) ≡ false → (a ≡ false) × (b ≡ false)
 or_false true b is = absurd (cc is)
 or_false false b is = (refl, is)
 
-false_or : (a b : Bool) → a ≡ false → b ≡ false → (a || b) ≡ false
+pub false_or : (a b : Bool) → a ≡ false → b ≡ false → (a || b) ≡ false
 false_or a b first second = ap (λ a. a || b) first ∙ second
 
 pub any_append : {X : Type 0} (test : X → Bool) (xs ys : List X) → list_any test (xs ++ ys) ≡ (list_any test xs || list_any test ys)
@@ -85,6 +85,51 @@ reaches_parts buffer (part ∷ parts) place fit =
     ap (λ len. nat_le place (part.offset + len) || part_reaches place parts)
     (sym (piece_len buffer part (All-head (Fits buffer) part parts fit)))
     ∙ ap (λ b. nat_le place (end_of (piece_in buffer part)) || b) (reaches_parts buffer parts place (All-tail (Fits buffer) part parts fit))
+
+-- no part reaches a place after `reach` if no part ends after `reach`
+pub none_reaches : (parts : List Part) (reach place : ℕ) → All (EndsWithin reach) parts → reach < place → part_reaches place parts ≡ false
+none_reaches [] reach place within after = refl
+none_reaches (part ∷ parts) reach place within after =
+    let ends : part.offset + part.len ≤ reach = All-head (EndsWithin reach) part parts within in
+    let first : nat_le place (part.offset + part.len) ≡ false = grind (arith, nat_tests, ends, after) in
+    false_or (nat_le place (part.offset + part.len)) (part_reaches place parts) first
+    (none_reaches parts reach place (All-tail (EndsWithin reach) part parts within) after)
+
+-- no part overlaps the bytes from `offset` on if no part ends after `offset`
+pub none_overlaps : (parts : List Part) (reach offset end : ℕ) → All (EndsWithin reach) parts → reach ≤ offset
+    → list_any (part_overlaps offset end) parts ≡ false
+none_overlaps [] reach offset end within after = refl
+none_overlaps (part ∷ parts) reach offset end within after =
+    let ends : part.offset + part.len ≤ reach = All-head (EndsWithin reach) part parts within in
+    let first : nat_lt offset (part.offset + part.len) ≡ false = grind (arith, nat_tests, ends, after) in
+    false_or (part_overlaps offset end part) (list_any (part_overlaps offset end) parts) (ap (λ b. b && nat_lt part.offset end) first)
+    (none_overlaps parts reach offset end (All-tail (EndsWithin reach) part parts within) after)
+
+pub overlaps_parts : (buffer : List ℕ) (parts : List Part) (piece : Piece) → All (Fits buffer) parts
+    → list_any (overlaps piece) (pieces_in buffer parts) ≡ list_any (part_overlaps piece.offset (end_of piece)) parts
+overlaps_parts buffer [] piece fit = refl
+overlaps_parts buffer (part ∷ parts) piece fit =
+    ap (λ len. (nat_lt piece.offset (part.offset + len) && nat_lt part.offset (end_of piece))
+    || list_any (overlaps piece) (pieces_in buffer parts)) (piece_len buffer part (All-head (Fits buffer) part parts fit))
+    ∙ ap (λ b. part_overlaps piece.offset (end_of piece) part || b)
+    (overlaps_parts buffer parts piece (All-tail (Fits buffer) part parts fit))
+
+-- what holds of a greater place
+ends_later : (part : Part) (before after : ℕ) → EndsWithin before part → before ≤ after → EndsWithin after part
+ends_later part before after ends more = omega (arith, ends, more)
+
+pub within_later : (parts : List Part) (before after : ℕ) → All (EndsWithin before) parts → before ≤ after → All (EndsWithin after) parts
+within_later [] before after within more = All-nil (EndsWithin after)
+within_later (part ∷ parts) before after within more =
+    All-cons (EndsWithin after) part parts (ends_later part before after (All-head (EndsWithin before) part parts within) more)
+    (within_later parts before after (All-tail (EndsWithin before) part parts within) more)
+
+-- no part ends after the new reach once a part is added
+pub within_new : (parts new : List Part) (part : Part) (before after : ℕ) → All (EndsWithin before) parts → before ≤ after
+    → EndsWithin after part → new ≡ parts ++ part ∷ [] → All (EndsWithin after) new
+within_new parts new part before after within more ends new_is =
+    subst (All (EndsWithin after)) (sym new_is)
+    (All-push (EndsWithin after) parts part (within_later parts before after within more) ends)
 
 -- ---- a piece that is written into the buffer
 

@@ -1,5 +1,8 @@
 -- Laws of the header of a packet that was put together.
-use Rattle.std.proofs.Common.{◌≡◌, ◌≢◌, ℕ, ◌+◌, ◌-◌, ◌<◌, ◌≤◌, inl, inr, if◌then◌else◌, List, [], drop, Some, None, refl, sym, ◌∙◌, ap, arith}
+use Rattle.std.proofs.Common.{◌≡◌, ◌≢◌, ℕ, ◌+◌, ◌-◌, ◌<◌, ◌≤◌, inl, inr, if◌then◌else◌, List, [], ◌++◌, append-nil, length, length-append, drop, Some, None, refl, sym, ◌∙◌, ap, arith}
+use Rattle.std.proofs.lemmas.List.{drop_all}
+use Rattle.std.specs.Int.{to_be_bytes, w16}
+use borrow.Rule.Slice.PartMut.{put_mid}
 use Rattle.net_base.specs.IpHeaders.{BeginsWithIpv6Header, ipv4_header_len, version}
 use Rattle.ip_part.specs.Ip.{ipv4_header}
 use Rattle.reassembly.proofs.FragmentLemmas.{equal_four, other_than_four}
@@ -20,6 +23,27 @@ accepted_header header total_len =
     total-stored (ipv4_front header total_len) (drop 12 header) checksum refl small in
     let all : 0 + total (ipv4_with_checksum header total_len checksum) ≡ sum + checksum = omega (arith, stored) in
     ap folded all ∙ checksum_verifies sum checksum refl
+
+-- The header of a whole packet, written in parts: its first 12 bytes without a checksum, the other bytes, and the first 12 bytes with the
+-- checksum.
+pub ipv4_header_written : (written header first rest last : List ℕ) (total_len checksum : ℕ)
+    → first ≡ ipv4_front header total_len ++ to_be_bytes w16 0 → rest ≡ drop 12 header
+    → checksum ≡ checksum_of (total (put_mid 12 (length (first ++ drop 12 written) - 12) (first ++ drop 12 written) rest))
+    → last ≡ ipv4_front header total_len ++ to_be_bytes w16 checksum
+    → last ++ drop 12 (put_mid 12 (length (first ++ drop 12 written) - 12) (first ++ drop 12 written) rest)
+    ≡ whole_ipv4_header header total_len
+ipv4_header_written written header first rest last total_len checksum first_is rest_is checksum_is last_is =
+    let front : List ℕ = ipv4_front header total_len ++ to_be_bytes w16 0 in
+    let none : drop (length (front ++ drop 12 written) - 12) (drop 12 written) ≡ [] =
+    drop_all (length (front ++ drop 12 written) - 12) (drop 12 written) (omega (arith, length-append front (drop 12 written))) in
+    let summed : put_mid 12 (length (first ++ drop 12 written) - 12) (first ++ drop 12 written) rest
+    ≡ ipv4_with_checksum header total_len 0 =
+    ap (λ front. put_mid 12 (length (front ++ drop 12 written) - 12) (front ++ drop 12 written) rest) first_is
+    ∙ ap (λ end. front ++ (rest ++ end)) none ∙ ap (λ rest. front ++ rest) (append-nil rest ∙ rest_is) in
+    ap (λ bytes. last ++ drop 12 bytes) summed
+    ∙ ap (λ front. front ++ drop 12 header)
+    (last_is ∙ ap (λ checksum. ipv4_front header total_len ++ to_be_bytes w16 checksum)
+    (checksum_is ∙ ap (λ bytes. checksum_of (total bytes)) summed))
 
 -- ---- IPv6
 

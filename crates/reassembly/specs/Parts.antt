@@ -1,5 +1,5 @@
 -- The places of the pieces of a payload in the lent buffer.
-use Rattle.std.specs.Prelude.{◌≡◌, ◌≤◌, ℕ, ◌+◌, Bool, nat_le, List, [], ◌∷◌, length, map, take, drop, Option, Some, false, ⊤}
+use Rattle.std.specs.Prelude.{◌≡◌, ◌≤◌, ℕ, ◌+◌, Bool, ◌&&◌, nat_le, nat_lt, List, [], ◌∷◌, length, map, take, drop, Option, Some, false, ⊤}
 use Rattle.std.specs.List.{All, list_any}
 use Rattle.reassembly.specs.Pieces.{Piece, overlaps, total_len}
 use Rattle.reassembly.specs.Reassembly.{max_payload_len}
@@ -25,6 +25,11 @@ AreApart (piece ∷ pieces) = (list_any (overlaps piece) pieces ≡ false) × Ar
 -- one of the parts ends at or after this place
 abbrev pub part_reaches : ℕ → List Part → Bool
 part_reaches place parts = list_any (λ part. nat_le place (part.offset + part.len)) parts
+
+-- The part begins before the place `end`, and ends after the place `offset`. If neither the part nor the bytes between these places are
+-- empty, both contain a byte at the same place.
+abbrev pub part_overlaps : ℕ → ℕ → Part → Bool
+part_overlaps offset end part = nat_lt offset (part.offset + part.len) && nat_lt part.offset end
 
 -- the part ends at or before the place `limit`
 abbrev pub EndsWithin : ℕ → Part → Type 0

@@ -1,4 +1,4 @@
-ghost use Rattle.std.specs.Prelude.{◌≡◌, ◌≤◌, ◌*◌, IfOk, length};
+ghost use Rattle.std.specs.Prelude.{◌≡◌, ◌≤◌, ◌*◌, IfOk, IfSome, IsSome, None, length, take};
 ghost use Rattle.std.specs.Option.{option_map};
 ghost use Rattle.net_base.specs.Bytes.{flag};
 ghost use Rattle.net_base.specs.IpHeaders.{BeginsWithIpv4Header, BeginsWithIpv6Header};
@@ -45,25 +45,60 @@ impl<'a> Fragment<'a> {
     /// The call checks these cases, in this order:
     /// - `Ip` with the error of `transport_in_ip`, for example if the fragment is cut off.
     /// - `HeaderChainCutOff` if the first fragment over IPv6 ends within the header of TCP, UDP or ICMPv6 (RFC 7112, section 5).
+    #[inline(always)]
     pub fn of(packet: &'a [u8]) -> Result<Option<Fragment<'a>>, FragmentError>
         ensures refused { RefusesExactly result (fragment_refusal packet.now) }
         ensures found { IfOk result (λ found. option_map by_value found ≡ fragment_of packet.now) }
     {
-        let transport = match transport_in_ip(packet) {
-            Ok(transport) => transport,
-            Err(error) => return Err(FragmentError::Ip(error)),
-        };
-        let counted = &packet[..transport.counted_len];
-        if packet[0] >> 4 == 4 {
-            return Ok(fragment_over_ipv4(counted));
+        // Most packets are over IPv4 and have no authentication header. Then no other header is read. The second match makes the result
+        // anew, which keeps the fragment in registers.
+        match ipv4_len(packet) {
+            Some(len) => match fragment_over_ipv4(&packet[..len]) {
+                Some(fragment) => Ok(Some(fragment)),
+                None => Ok(None),
+            },
+            None => fragment_in(packet),
         }
-        let fragment = fragment_over_ipv6(counted);
-        check_header_chain(&fragment, transport.protocol, transport.payload)?;
-        Ok(fragment)
     }
 }
 
+/// The total length of an IPv4 packet that is not cut off and has no authentication header. `None` for any other packet.
+#[inline(always)]
+fn ipv4_len(packet: &[u8]) -> Option<usize>
+    ensures accepted { IsSome result → fragment_refusal packet.now ≡ None }
+    ensures found { IfSome result (λ len. fragment_of packet.now ≡ ipv4_fragment_in (take len packet.now)) }
+    ensures begins { IfSome result (λ len. BeginsWithIpv4Header (take len packet.now)) }
+    ensures within { IfSome result (λ len. len ≤ length packet.now) }
+{
+    let header = Ipv4HeaderSlice::from_slice(packet)?;
+    let total_len = usize::from(header.total_len());
+    let is_extended = header.protocol() == ip_number::AUTHENTICATION_HEADER;
+    if total_len < header.slice().len() || packet.len() < total_len || is_extended {
+        return None;
+    }
+    Some(total_len)
+}
+
+/// The fragment in an IP packet of either version, which is read with all its headers.
+fn fragment_in(packet: &[u8]) -> Result<Option<Fragment<'_>>, FragmentError>
+    ensures refused { RefusesExactly result (fragment_refusal packet.now) }
+    ensures found { IfOk result (λ found. option_map by_value found ≡ fragment_of packet.now) }
+{
+    let transport = match transport_in_ip(packet) {
+        Ok(transport) => transport,
+        Err(error) => return Err(FragmentError::Ip(error)),
+    };
+    let counted = &packet[..transport.counted_len];
+    if packet[0] >> 4 == 4 {
+        return Ok(fragment_over_ipv4(counted));
+    }
+    let fragment = fragment_over_ipv6(counted);
+    check_header_chain(&fragment, transport.protocol, transport.payload)?;
+    Ok(fragment)
+}
+
 /// The fragment in an IPv4 packet without padding, or `None` if the packet is not a fragment.
+#[inline(always)]
 fn fragment_over_ipv4(counted: &[u8]) -> Option<Fragment<'_>>
     requires { BeginsWithIpv4Header counted.now }
     ensures { option_map by_value result ≡ ipv4_fragment_in counted.now }

@@ -1,16 +1,16 @@
-ghost use Rattle.std.specs.Prelude.{◌≡◌, ◌≤◌, ◌<◌, ◌+◌, ◌↔◌, IfOk, IfSome, IsSome, OnErr, OnOk, Some, drop, length};
+ghost use Rattle.std.specs.Prelude.{◌≡◌, ◌≤◌, ◌<◌, ◌+◌, ◌↔◌, IfOk, IfSome, IsSome, OnErr, OnOk, Some, drop, length, nat_eq};
+ghost use Rattle.std.specs.Cmp.Lexicographic.{pointwise};
 ghost use Rattle.std.specs.List.{All};
 ghost use Rattle.net_base.specs.Refusals.{RefusesExactly};
 ghost use Rattle.reassembly.specs.Fragments.{by_value};
 ghost use Rattle.reassembly.specs.Packets as packets;
-ghost use Rattle.reassembly.specs.Parts.{EndsWithin, Fits, part_reaches, pieces_in};
+ghost use Rattle.reassembly.specs.Parts.{AreApart, EndsWithin, Fits, part_reaches, pieces_in};
 ghost use Rattle.reassembly.specs.Pieces as pieces;
 ghost use Rattle.reassembly.specs.Reassembly as specs;
-ghost use Rattle.reassembly.specs.WholeHeaders.{HasWholeHeader, whole_header};
 ghost use borrow.Rule.Slice.PartMut.{put_mid};
 
-use crate::part::{Part, has_conflict, is_reached, is_repeated};
-use crate::whole_header::{MAX_IPV4_HEADER_LEN, MAX_IPV6_HEADER_LEN, whole_header};
+use crate::part::{Part, is_overlapped, is_reached, is_repeated, reach_with};
+use crate::whole_header::{MAX_IPV4_HEADER_LEN, MAX_IPV6_HEADER_LEN, write_whole_header};
 use crate::{Fragment, FragmentKey, ReassemblyError};
 use arrayvec::ArrayVec;
 use std::marker::Model;
@@ -44,6 +44,8 @@ pub struct Reassembly<'a> {
     key: FragmentKey,
     buffer: &'a mut [u8],
     parts: ArrayVec<Part, MAX_FRAGMENTS>,
+    /// A place in the payload. No part ends after this place.
+    reach: usize,
     /// The number of bytes in all parts.
     received: usize,
     /// The length of the payload, or `None` if the last fragment did not arrive yet.
@@ -56,8 +58,9 @@ pub struct Reassembly<'a> {
 
 impl<'a> Model for Reassembly<'a> {
     ghost use Rattle.std.specs.Prelude.{drop, length};
+    ghost use Rattle.std.specs.List.{All};
     ghost use Rattle.reassembly.specs.Packets.{IsKept, PacketState, header_room};
-    ghost use Rattle.reassembly.specs.Parts.{pieces_in};
+    ghost use Rattle.reassembly.specs.Parts.{EndsWithin, pieces_in};
 
     ghost Value = { PacketState };
 
@@ -72,7 +75,8 @@ impl<'a> Model for Reassembly<'a> {
       };
     } };
 
-    ghost invariant = { λ r. IsKept r.key r.buffer.now r.parts.items r.received r.end r.header.items r.start };
+    ghost invariant = { λ r.
+        IsKept r.key r.buffer.now r.parts.items r.received r.end r.header.items r.start × All (EndsWithin r.reach) r.parts.items };
 }
 
 impl<'a> Reassembly<'a> {
@@ -84,6 +88,7 @@ impl<'a> Reassembly<'a> {
             key,
             buffer,
             parts: ArrayVec::new(),
+            reach: 0,
             received: 0,
             end: None,
             header: ArrayVec::new(),
@@ -97,6 +102,7 @@ impl<'a> Reassembly<'a> {
     {
         self.key = key;
         self.parts.clear();
+        self.reach = 0;
         self.received = 0;
         self.end = None;
         self.header.clear();
@@ -138,10 +144,16 @@ impl<'a> Reassembly<'a> {
             self.start = write_front(self.buffer, room, &self.header, self.end, self.received);
             return Ok(progress_of(self.end, self.received));
         }
-        let (offset, len) = (usize::from(fragment.offset), fragment.payload.len());
-        write_payload(self.buffer, room, offset, fragment.payload);
-        self.parts.push(Part { offset, len });
-        self.received += len;
+        let part = part_of(fragment);
+        write_payload(
+            self.buffer,
+            room,
+            usize::from(fragment.offset),
+            fragment.payload,
+        );
+        self.parts.push(part);
+        self.reach = reach_with(self.reach, part);
+        self.received += fragment.payload.len();
         keep_header(&mut self.header, room, fragment);
         self.start = write_front(self.buffer, room, &self.header, self.end, self.received);
         Ok(progress_of(self.end, self.received))
@@ -154,9 +166,15 @@ impl<'a> Reassembly<'a> {
     {
         let payload = after_room(self.buffer, header_room(&self.key));
         check_fragment(&self.key, payload.len(), fragment)?;
-        check_end(self.end, self.parts.as_slice(), fragment)?;
+        check_end(self.end, self.parts.as_slice(), self.reach, fragment)?;
         let offset = usize::from(fragment.offset);
-        check_piece(payload, self.parts.as_slice(), offset, fragment.payload)
+        check_piece(
+            payload,
+            self.parts.as_slice(),
+            self.reach,
+            offset,
+            fragment.payload,
+        )
     }
 
     /// The payload of the packet, or `None` if it is not complete.
@@ -239,17 +257,59 @@ fn check_fragment(
 pub(crate) fn is_same_key(a: &FragmentKey, b: &FragmentKey) -> bool
     ensures { result ≡ specs.is_same_key a.now b.now }
 {
-    a == b
+    match a {
+        FragmentKey::Ipv4 {
+            source,
+            destination,
+            protocol,
+            identification,
+        } => match b {
+            FragmentKey::Ipv4 {
+                source: other_source,
+                destination: other_destination,
+                protocol: other_protocol,
+                identification: other_identification,
+            } => {
+                is_same_address(source, other_source)
+                    && is_same_address(destination, other_destination)
+                    && protocol.0 == other_protocol.0
+                    && *identification == *other_identification
+            }
+            FragmentKey::Ipv6 { .. } => false,
+        },
+        FragmentKey::Ipv6 { .. } => a == b,
+    }
+}
+
+/// Whether the two IPv4 addresses are equal. They are compared as numbers, which is faster than byte by byte.
+#[inline(always)]
+#[tactic(auto, using(crate::proofs::KeyLemmas::same_addresses))]
+fn is_same_address(a: &[u8; 4], b: &[u8; 4]) -> bool
+    ensures { result ≡ pointwise nat_eq a.now b.now }
+{
+    u32::from_be_bytes(*a) == u32::from_be_bytes(*b)
+}
+
+/// The part that the payload of this fragment becomes.
+fn part_of(fragment: &Fragment<'_>) -> Part
+    requires { length fragment.now.payload.now ≤ specs.max_payload_len }
+    ensures { result ≡ record { offset = fragment.now.offset; len = length fragment.now.payload.now } }
+{
+    Part {
+        offset: fragment.offset,
+        len: fragment.payload.len() as u16,
+    }
 }
 
 /// Refuses a fragment that does not agree with the known end of the payload. If the end is not known, refuses a last fragment whose end
-/// another fragment reaches.
+/// another fragment reaches. No part ends after the place `reach`.
 fn check_end(
     end: Option<usize>,
     parts: &[Part],
+    reach: usize,
     fragment: &Fragment<'_>,
 ) -> Result<(), ReassemblyError>
-    requires { All (EndsWithin specs.max_payload_len) parts.now }
+    requires { All (EndsWithin reach) parts.now }
     ensures { RefusesExactly result (specs.end_refusal end (part_reaches (specs.end_of_fragment (by_value fragment.now)) parts.now) (by_value fragment.now)) }
 {
     let fragment_end = usize::from(fragment.offset) + fragment.payload.len();
@@ -260,7 +320,7 @@ fn check_end(
         Some(end) if !fragment.more_fragments && end != fragment_end => Err(
             ReassemblyError::OtherEnd,
         ),
-        None if !fragment.more_fragments && is_reached(parts, fragment_end) => {
+        None if !fragment.more_fragments && is_reached(parts, reach, fragment_end) => {
             Err(ReassemblyError::BehindEnd)
         }
         _ => Ok(()),
@@ -268,23 +328,28 @@ fn check_end(
 }
 
 /// Whether this piece arrived before. Refuses a piece that overlaps another piece without being equal to it. Refuses a new piece if the
-/// maximum number of pieces arrived before.
+/// maximum number of pieces arrived before. No two parts overlap, and no part ends after the place `reach`.
 fn check_piece(
     buffer: &[u8],
     parts: &[Part],
+    reach: usize,
     offset: usize,
     bytes: &[u8],
 ) -> Result<bool, ReassemblyError>
     requires fit { All (Fits buffer.now) parts.now }
+    requires apart { AreApart (pieces_in buffer.now parts.now) }
+    requires within { All (EndsWithin reach) parts.now }
     requires room { offset + length bytes.now ≤ length buffer.now }
+    requires some { 0 < length bytes.now }
     ensures refused { RefusesExactly result (specs.piece_refusal (pieces_in buffer.now parts.now) (record { offset = offset; bytes = bytes.now })) }
     ensures repeated { IfOk result (λ is. is ≡ pieces.is_among (pieces_in buffer.now parts.now) (record { offset = offset; bytes = bytes.now })) }
 {
-    if has_conflict(buffer, parts, offset, bytes) {
+    if is_overlapped(parts, reach, offset, offset + bytes.len()) {
+        // The parts do not overlap, so a piece that is equal to one of them overlaps no other.
+        if is_repeated(buffer, parts, offset, bytes) {
+            return Ok(true);
+        }
         return Err(ReassemblyError::Overlap);
-    }
-    if is_repeated(buffer, parts, offset, bytes) {
-        return Ok(true);
     }
     if parts.len() >= MAX_FRAGMENTS {
         return Err(ReassemblyError::TooManyFragments);
@@ -324,6 +389,8 @@ fn keep_header(header: &mut ArrayVec<u8, MAX_IPV6_HEADER_LEN>, room: usize, frag
 
 /// Writes the headers of the whole packet before its payload, if the payload is complete. Returns the place of the packet in the buffer, or
 /// `None` if nothing was written.
+#[inline(always)]
+#[tactic(auto, using(crate::proofs::WholeHeaderLemmas::payload_short))]
 fn write_front(
     buffer: &mut [u8],
     room: usize,
@@ -336,27 +403,11 @@ fn write_front(
     ensures payload { drop room buffer.new ≡ drop room buffer.old }
     ensures written { packets.IsFront room buffer.new header.now.items end received result }
 {
-    let front = front_of(header.as_slice(), end, received)?;
-    let start = room - front.len();
-    write(buffer, start, front.as_slice());
-    Some(start)
-}
-
-/// The headers of the whole packet, if the payload is complete. `None` also if `whole_header` returns `None`.
-#[tactic(auto, using(crate::proofs::WholeHeaderLemmas::payload_short))]
-fn front_of(
-    header: &[u8],
-    end: Option<usize>,
-    received: usize,
-) -> Option<ArrayVec<u8, MAX_IPV6_HEADER_LEN>>
-    ensures found { IsSome result ↔ ((end ≡ Some received) × HasWholeHeader header.now received) }
-    ensures written { IfSome result (λ front. front.items ≡ whole_header header.now received) }
-    ensures len { IfSome result (λ front. length front.items ≤ length header.now) }
-{
     if end != Some(received) {
         return None;
     }
-    whole_header(header, u16::try_from(received).ok()?)
+    let payload_len = u16::try_from(received).ok()?;
+    write_whole_header(buffer, room, header.as_slice(), payload_len)
 }
 
 /// The length of the payload as it is known after this fragment. Only the last fragment determines it.

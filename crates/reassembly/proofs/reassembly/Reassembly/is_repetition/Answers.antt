@@ -17,7 +17,7 @@ returns-in_err-check_end-clause-refused c =
     c.after_room-payload.ensures ∙ ap (λ n. drop n r.buffer.now) c.header_room.ensures.room in
     let by : List ℕ → State = λ (b : List ℕ). record { key = r.key; room = length b; pieces = pieces_in b r.parts.items; end = r.end } in
     let state_is : by area ≡ c.args.self.now.payload = ap by area_is ∙ ap (λ (s : PacketState). s.payload) c.self.view_is in
-    let fit : All (Fits area) r.parts.items = subst (λ b. All (Fits b) r.parts.items) (sym area_is) c.self.invariant.payload.fit in
+    let fit : All (Fits area) r.parts.items = subst (λ b. All (Fits b) r.parts.items) (sym area_is) c.self.invariant.0.payload.fit in
     let ends : end_refusal r.end (part_reaches (end_of_fragment fragment) r.parts.items) fragment ≡ Some c.in_err-check_end.field-0.0 =
     ap (λ parts. end_refusal r.end (part_reaches (end_of_fragment fragment) parts) fragment) (sym c.as_slice.ensures.value)
     ∙ c.in_err-check_end.ensures in
@@ -36,7 +36,7 @@ returns-clause-refused c =
     c.after_room-payload.ensures ∙ ap (λ n. drop n r.buffer.now) c.header_room.ensures.room in
     let by : List ℕ → State = λ (b : List ℕ). record { key = r.key; room = length b; pieces = pieces_in b r.parts.items; end = r.end } in
     let state_is : by area ≡ c.args.self.now.payload = ap by area_is ∙ ap (λ (s : PacketState). s.payload) c.self.view_is in
-    let fit : All (Fits area) r.parts.items = subst (λ b. All (Fits b) r.parts.items) (sym area_is) c.self.invariant.payload.fit in
+    let fit : All (Fits area) r.parts.items = subst (λ b. All (Fits b) r.parts.items) (sym area_is) c.self.invariant.0.payload.fit in
     let offset_is : c.from-offset.result ≡ c.args.fragment.now.offset = search rules in
     let ends : end_refusal r.end (part_reaches (end_of_fragment fragment) r.parts.items) fragment ≡ None =
     ap (λ parts. end_refusal r.end (part_reaches (end_of_fragment fragment) parts) fragment) (sym c.as_slice.ensures.value)

@@ -4,7 +4,7 @@ use Rattle.net_base.specs.IpHeaders.{BeginsWithIpv4Header, BeginsWithIpv6Header,
 use Rattle.ip_part.specs.Ip.{counted, counted_len, headers_of}
 use Rattle.reassembly.proofs.FragmentLemmas.{begins_with_ipv4, begins_with_ipv6, equal_four, other_than_four, refused_ipv6}
 use Rattle.reassembly.specs.Fragments.{by_value, first_refusal, fragment_of, ipv4_fragment_in, ipv6_fragment_in}
-use Rattle.reassembly.proofs.fragment.Fragment.of.Goals as goal
+use Rattle.reassembly.proofs.fragment.fragment_in.Goals as goal
 
 pub fragment_over_ipv4-requires : goal.fragment_over_ipv4-requires
 fragment_over_ipv4-requires c =
