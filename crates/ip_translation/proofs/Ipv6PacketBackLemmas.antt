@@ -507,7 +507,7 @@ has_checksum prefixes number message room none is =
     different (ipv6.udp_checksum message) 0 (not_refused _ _ rules.1.0)
 
 -- a message that the translation accepts and that is no ICMPv6 error
-is_long : (prefixes : Prefixes) (number : ℕ) (message : List ℕ) (room : ℕ) → ipv4.refusal_of number prefixes message room ≡ None
+pub is_long : (prefixes : Prefixes) (number : ℕ) (message : List ℕ) (room : ℕ) → ipv4.refusal_of number prefixes message room ≡ None
     → ipv4.is_icmp_error number message ≡ false → IsLong icmpv6_number number message
 is_long prefixes number message room none no_error = record {
   icmp = λ is.

@@ -21,6 +21,7 @@ pub mod MappingLemmas
 pub mod MessageLemmas
 pub mod PacketBackLemmas
 pub mod PacketExamples
+pub mod PayloadLemmas
 pub mod PseudoHeaderLemmas
 pub mod RuleLemmas
 pub mod SkippedLemmas

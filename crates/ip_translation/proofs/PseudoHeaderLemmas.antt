@@ -29,19 +29,28 @@ total_ipv6 source destination protocol len sixteen sixteen_too short =
           (omega (arith, sixteen_too)),
     )
 
--- replacing the source and then the destination turns one pseudo header into the other
-pub turns : (empty first both : ChecksumChange) (old_source old_destination new_source new_destination : List ℕ) (protocol len rest : ℕ)
-    → length old_source ≡ 4 → length old_destination ≡ 4 → length new_source ≡ 16 → length new_destination ≡ 16 → len ≤ max_len_over_ipv4
+-- The old addresses are replaced by zeros, and then zeros are replaced by the new addresses. This turns one pseudo header into the other.
+pub turns : (empty first second third all : ChecksumChange) (old_source old_destination new_source new_destination : List ℕ)
+    (short_zeros long_zeros : List ℕ) (protocol len rest : ℕ)
+    → length old_source ≡ 4 → length old_destination ≡ 4 → length new_source ≡ 16 → length new_destination ≡ 16
+    → total short_zeros ≡ 0 → total long_zeros ≡ 0 → len ≤ max_len_over_ipv4
     → ((packet : ℕ) → TurnsInto empty packet packet)
-    → IsExtendedBy empty old_source new_source first
-    → IsExtendedBy first old_destination new_destination both
-    → TurnsInto both (total (ipv4_pseudo_header old_source old_destination protocol len) + rest)
+    → IsExtendedBy empty old_source short_zeros first
+    → IsExtendedBy first old_destination short_zeros second
+    → IsExtendedBy second long_zeros new_source third
+    → IsExtendedBy third long_zeros new_destination all
+    → TurnsInto all (total (ipv4_pseudo_header old_source old_destination protocol len) + rest)
     (total (ipv6_pseudo_header new_source new_destination protocol len) + rest)
-turns empty first both old_source old_destination new_source new_destination protocol len rest four four_too sixteen sixteen_too short same
-    extends extends_too =
+turns empty first second third all old_source old_destination new_source new_destination short_zeros long_zeros protocol len rest
+    four four_too sixteen sixteen_too no_sum no_sum_too short same is_first is_second is_third is_all =
     let before : ℕ = total (ipv4_pseudo_header old_source old_destination protocol len) + rest in
     let after : ℕ = total (ipv6_pseudo_header new_source new_destination protocol len) + rest in
-    let between : ℕ = total new_source + (total old_destination + (protocol + len)) + rest in
+    let without_source : ℕ = total old_destination + (protocol + len) + rest in
+    let without_both : ℕ = protocol + len + rest in
+    let with_source : ℕ = total new_source + (protocol + len) + rest in
     let was = total_ipv4 old_source old_destination protocol len four four_too short in
     let is = total_ipv6 new_source new_destination protocol len sixteen sixteen_too short in
-    extends_too before between after (omega (arith, is)) (extends before before between (omega (arith, was)) (same before))
+    is_all before with_source after (omega (arith, is, no_sum_too))
+    (is_third before without_both with_source (omega (arith, no_sum_too))
+    (is_second before without_source without_both (omega (arith, no_sum))
+    (is_first before before without_source (omega (arith, was, no_sum)) (same before))))

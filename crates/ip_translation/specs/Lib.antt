@@ -16,6 +16,7 @@ pub mod Ipv4Packets
 pub mod Ipv6Packets
 pub mod PacketsToIpv4
 pub mod PacketsToIpv6
+pub mod Payloads
 pub mod Prefixes
 pub mod PseudoHeaders
 pub mod QuotedPackets

@@ -26,9 +26,8 @@ impl<'a> AddressTable<'a> {
         // If there are no mappings, this is true for every address.
         ensures extracted { tables.ComesBack self.now ipv4 → tables.extracted self.now result ≡ ipv4 }
     {
-        let number = u32::from_be_bytes(ipv4);
-        match longest_ipv4(self.mappings, number) {
-            Some(mapping) => mapping.to_ipv6(number).to_be_bytes(),
+        match self.mapping_of_ipv4(ipv4) {
+            Some(mapping) => mapping.to_ipv6(u32::from_be_bytes(ipv4)).to_be_bytes(),
             None => self.prefix.embed(ipv4),
         }
     }
@@ -38,10 +37,9 @@ impl<'a> AddressTable<'a> {
     pub(crate) fn ipv4_of(&self, address: &[u8; 16]) -> [u8; 4]
         ensures ipv4 { result ≡ tables.extracted self.now address.now }
     {
-        let number = u128::from_be_bytes(*address);
-        match longest_ipv6(self.mappings, number) {
-            Some(mapping) => mapping.to_ipv4(number).to_be_bytes(),
-            None => self.prefix.front(address).1,
+        match self.mapping_of_ipv6(address) {
+            Some(mapping) => mapping.to_ipv4(u128::from_be_bytes(*address)).to_be_bytes(),
+            None => self.prefix.ipv4_after(address),
         }
     }
 
@@ -54,9 +52,8 @@ impl<'a> AddressTable<'a> {
         ensures refused { RefusesExactly result (tables.to_ipv6_refusal self.now ipv4) }
         ensures embedded { IfOk result (λ address. address ≡ tables.embedded self.now ipv4) }
     {
-        let number = u32::from_be_bytes(ipv4);
-        match longest_ipv4(self.mappings, number) {
-            Some(mapping) => Ok(mapping.to_ipv6(number).to_be_bytes()),
+        match self.mapping_of_ipv4(ipv4) {
+            Some(mapping) => Ok(mapping.to_ipv6(u32::from_be_bytes(ipv4)).to_be_bytes()),
             None => self.prefix.to_ipv6(ipv4),
         }
     }
@@ -70,11 +67,33 @@ impl<'a> AddressTable<'a> {
         ensures refused { RefusesExactly result (tables.to_ipv4_refusal self.now address.now) }
         ensures extracted { IfOk result (λ ipv4. ipv4 ≡ tables.extracted self.now address.now) }
     {
-        let number = u128::from_be_bytes(*address);
-        match longest_ipv6(self.mappings, number) {
-            Some(mapping) => Ok(mapping.to_ipv4(number).to_be_bytes()),
+        match self.mapping_of_ipv6(address) {
+            Some(mapping) => Ok(mapping.to_ipv4(u128::from_be_bytes(*address)).to_be_bytes()),
             None => self.prefix.to_ipv4(address),
         }
+    }
+
+    /// The mapping of an IPv4 address.
+    #[inline(always)]
+    fn mapping_of_ipv4(&self, ipv4: [u8; 4]) -> Option<AddressMapping>
+        ensures { result ≡ tables.mapping_of_ipv4 self.now ipv4 }
+    {
+        if self.mappings.is_empty() {
+            return None;
+        }
+        longest_ipv4(self.mappings, u32::from_be_bytes(ipv4))
+    }
+
+    /// The mapping of an IPv6 address.
+    #[inline(always)]
+    fn mapping_of_ipv6(&self, address: &[u8; 16]) -> Option<AddressMapping>
+        ensures { result ≡ tables.mapping_of_ipv6 self.now address.now }
+    {
+        // A number of 128 bits is made only for mappings, since this is slow.
+        if self.mappings.is_empty() {
+            return None;
+        }
+        longest_ipv6(self.mappings, u128::from_be_bytes(*address))
     }
 }
 

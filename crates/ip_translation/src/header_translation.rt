@@ -1,12 +1,14 @@
-ghost use Rattle.std.specs.Prelude.{◌≡◌, ◌≤◌, ◌<◌, ◌+◌, ℕ, IfOk, length, slice_index};
+ghost use Rattle.std.specs.Prelude.{◌≡◌, ◌≤◌, ◌<◌, ◌+◌, [], ◌∷◌, ℕ, IfOk, length, slice_index};
 ghost use Rattle.net_base.specs.IpHeaders.{ipv4_header_len};
 ghost use Rattle.net_base.specs.PseudoHeader.{max_len_over_ipv4};
 ghost use Rattle.net_base.specs.Refusals.{RefusesExactly};
 ghost use Rattle.word_sum.specs.Checksum.{total};
 ghost use Rattle.word_sum.specs.ChecksumChange.{TurnsInto, added_value, removed_value};
+ghost use Rattle.ip_translation.specs.AddressTables.{embedded};
 ghost use Rattle.ip_translation.specs.HeadersToIpv6 as specs;
 ghost use Rattle.ip_translation.specs.PacketsToIpv6.{added_addresses, removed_addresses};
 
+use crate::address_change::address_change;
 use crate::{Prefixes, TranslationError};
 use arrayvec::ArrayVec;
 use ip_part::has_unexpired_source_route;
@@ -45,9 +47,9 @@ pub fn header_to_ipv6(
     ensures total_len { IfOk result (λ _. ipv4_header_len header.now ≤ specs.total_len header.now) }
 {
     let payload_len = check_header(header)?;
-    check_embedding(header, prefixes)?;
+    let (source, destination) = embedded_addresses(header, prefixes)?;
     let hop_limit = header.ttl().saturating_sub(1);
-    Ok(header_with(header, prefixes, payload_len, hop_limit))
+    Ok(header_between(header, source, destination, payload_len, hop_limit))
 }
 
 /// The change of the pseudo header of UDP and TCP (RFC 7915, section 4.5): the IPv6 addresses replace the IPv4 addresses. The rest of the
@@ -70,9 +72,7 @@ pub fn pseudo_header_change(header: &Ipv4HeaderSlice<'_>, prefixes: &Prefixes) -
     let destination = header.destination();
     let new_source = prefixes.source.embed(source);
     let new_destination = prefixes.destination.embed(destination);
-    ChecksumChange::new()
-        .replace_slice(&source, &new_source)
-        .replace_slice(&destination, &new_destination)
+    address_change(source, destination, new_source, new_destination)
 }
 
 /// The length of an IPv6 header, in bytes (RFC 8200, section 3).
@@ -173,13 +173,29 @@ pub(crate) fn check_embedding(
 ) -> Result<(), TranslationError>
     ensures refused { RefusesExactly result (specs.embedding_refusal prefixes.now header.now) }
 {
-    if let Err(error) = prefixes.source.to_ipv6(header.source()) {
-        return Err(TranslationError::Source(error));
-    }
-    if let Err(error) = prefixes.destination.to_ipv6(header.destination()) {
-        return Err(TranslationError::Destination(error));
-    }
+    let _ = embedded_addresses(header, prefixes)?;
     Ok(())
+}
+
+/// The IPv6 addresses for the source and the destination.
+#[inline(always)]
+fn embedded_addresses(
+    header: &Ipv4HeaderSlice<'_>,
+    prefixes: &Prefixes,
+) -> Result<([u8; 16], [u8; 16]), TranslationError>
+    ensures refused { RefusesExactly result (specs.embedding_refusal prefixes.now header.now) }
+    ensures source { IfOk result (λ found. found.0 ≡ embedded prefixes.now.source (specs.source header.now)) }
+    ensures destination { IfOk result (λ found. found.1 ≡ embedded prefixes.now.destination (specs.destination header.now)) }
+{
+    let source = match prefixes.source.to_ipv6(header.source()) {
+        Ok(source) => source,
+        Err(error) => return Err(TranslationError::Source(error)),
+    };
+    let destination = match prefixes.destination.to_ipv6(header.destination()) {
+        Ok(destination) => destination,
+        Err(error) => return Err(TranslationError::Destination(error)),
+    };
+    Ok((source, destination))
 }
 
 /// The IPv6 header for this IPv4 header, with this payload length and this hop limit. The prefixes embed the addresses.
@@ -192,10 +208,26 @@ pub(crate) fn header_with(
     ensures written { result.items ≡ specs.header_with prefixes.now payload_len hop_limit header.now }
     ensures len { length result.items ≡ 40 }
 {
-    let service = byte_at(header.slice(), TYPE_OF_SERVICE_AT);
-    let next_header = next_header(header.protocol());
     let source = prefixes.source.embed(header.source());
     let destination = prefixes.destination.embed(header.destination());
+    header_between(header, source, destination, payload_len, hop_limit)
+}
+
+/// The IPv6 header for this IPv4 header, with these addresses, this payload length and this hop limit.
+#[inline(always)]
+fn header_between(
+    header: &Ipv4HeaderSlice<'_>,
+    source: [u8; 16],
+    destination: [u8; 16],
+    payload_len: u16,
+    hop_limit: u8,
+) -> ArrayVec<u8, IPV6_LEN>
+    ensures written { result.items ≡ specs.ipv6_header (specs.type_of_service header.now) payload_len
+        (specs.next_header (specs.protocol header.now) ∷ hop_limit ∷ []) source destination }
+    ensures len { length result.items ≡ 40 }
+{
+    let service = byte_at(header.slice(), TYPE_OF_SERVICE_AT);
+    let next_header = next_header(header.protocol());
     ipv6_header(
         service,
         payload_len,

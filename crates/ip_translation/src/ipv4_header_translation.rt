@@ -2,10 +2,12 @@ ghost use Rattle.std.specs.Prelude.{◌≡◌, ◌<◌, ◌+◌, [], ℕ, IfOk, 
 ghost use Rattle.net_base.specs.Refusals.{RefusesExactly};
 ghost use Rattle.word_sum.specs.Checksum.{Verifies, checksum_of, total};
 ghost use Rattle.word_sum.specs.ChecksumChange.{added_value, removed_value};
+ghost use Rattle.ip_translation.specs.AddressTables.{extracted};
 ghost use Rattle.ip_translation.specs.Fragments as fragments;
 ghost use Rattle.ip_translation.specs.HeadersToIpv4 as specs;
 ghost use Rattle.ip_translation.specs.PseudoHeaders.{AreTurned};
 
+use crate::address_change::address_change;
 use crate::fragment_fields::FragmentFields;
 use crate::header_translation::is_illegal;
 use crate::{Prefixes, TranslationError};
@@ -68,9 +70,9 @@ pub(crate) fn part_header_to_ipv4(
     ensures len { IfOk result (λ translated. length translated.items ≡ 20) }
 {
     let total_len = check_fields(header)?;
-    check_addresses(header, prefixes)?;
+    let addresses = extracted_addresses(header, prefixes)?;
     let time_to_live = header.hop_limit().saturating_sub(1);
-    Ok(header_with(header, prefixes, fields, total_len, time_to_live))
+    Ok(header_between(header, addresses, fields, total_len, time_to_live))
 }
 
 /// The change of the pseudo header of UDP and TCP (RFC 7915, section 5.5): the IPv4 addresses that the prefixes extract replace the IPv6
@@ -89,10 +91,7 @@ pub fn pseudo_header_change_to_ipv4(
     let destination = header.destination();
     let new_source = prefixes.source.ipv4_of(&source);
     let new_destination = prefixes.destination.ipv4_of(&destination);
-    ChecksumChange::new()
-        .replace_slice(&new_source, &source)
-        .replace_slice(&new_destination, &destination)
-        .reversed()
+    address_change(new_source, new_destination, source, destination).reversed()
 }
 
 /// Checks all fields except the addresses, and returns the total length of the translated packet.
@@ -154,6 +153,31 @@ pub(crate) fn header_with(
 {
     let source = prefixes.source.ipv4_of(&header.source());
     let destination = prefixes.destination.ipv4_of(&header.destination());
+    header_between(
+        header,
+        (source, destination),
+        fields,
+        total_len,
+        time_to_live,
+    )
+}
+
+/// The IPv4 header for this IPv6 header, with this source and this destination.
+#[inline(always)]
+fn header_between(
+    header: &Ipv6HeaderSlice<'_>,
+    addresses: ([u8; 4], [u8; 4]),
+    fields: FragmentFields,
+    total_len: u16,
+    time_to_live: u8,
+) -> ArrayVec<u8, 20>
+    ensures written { result.items ≡ specs.ipv4_header
+        (specs.start_of_ipv4 (specs.traffic_class header.now) total_len fields time_to_live (specs.protocol_of (specs.next_header header.now)))
+        addresses.0 addresses.1 }
+    ensures verifies { Verifies [] result.items }
+    ensures len { length result.items ≡ 20 }
+{
+    let (source, destination) = addresses;
     let [total_high, total_low] = total_len.to_be_bytes();
     let [high, low] = fields.identification.to_be_bytes();
     let [flags, offset] = fields.flags_and_offset(total_len).to_be_bytes();
@@ -189,6 +213,20 @@ fn check_addresses(
 ) -> Result<(), TranslationError>
     ensures refused { RefusesExactly result (specs.addresses_refusal prefixes.now header.now) }
 {
+    let _ = extracted_addresses(header, prefixes)?;
+    Ok(())
+}
+
+/// The IPv4 addresses for the source and the destination.
+#[inline(always)]
+fn extracted_addresses(
+    header: &Ipv6HeaderSlice<'_>,
+    prefixes: &Prefixes,
+) -> Result<([u8; 4], [u8; 4]), TranslationError>
+    ensures refused { RefusesExactly result (specs.addresses_refusal prefixes.now header.now) }
+    ensures source { IfOk result (λ found. found.0 ≡ extracted prefixes.now.source (specs.source header.now)) }
+    ensures destination { IfOk result (λ found. found.1 ≡ extracted prefixes.now.destination (specs.destination header.now)) }
+{
     let source = match prefixes.source.to_ipv4(&header.source()) {
         Ok(source) => source,
         Err(error) => return Err(TranslationError::Source(error)),
@@ -203,7 +241,7 @@ fn check_addresses(
     if is_illegal(destination) {
         return Err(TranslationError::IllegalDestination);
     }
-    Ok(())
+    Ok((source, destination))
 }
 
 /// The protocol of the translated packet, if this is the next header of the IPv6 packet.

@@ -10,6 +10,7 @@
 //! ```
 #![tactic(auto)]
 
+mod address_change;
 mod address_error;
 mod address_mapping;
 mod address_mapping_error;

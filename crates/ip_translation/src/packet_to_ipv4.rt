@@ -1,4 +1,4 @@
-ghost use Rattle.std.specs.Prelude.{◌≡◌, ◌≤◌, ◌<◌, ◌+◌, ◌==◌, ◌++◌, ◌↔◌, [], IfErr, IfOk, MatchOption, drop, false, length, slice_index, true};
+ghost use Rattle.std.specs.Prelude.{◌≡◌, ◌≤◌, ◌<◌, ◌+◌, ◌==◌, ◌++◌, ◌↔◌, [], IfErr, IfOk, MatchOption, drop, false, length, slice_index, take, true};
 ghost use Rattle.std.specs.Option.{option_map, unwrap_or};
 ghost use Rattle.ip_part.specs.Ip as ip;
 ghost use Rattle.net_base.specs.IpNumbers.{icmpv6_number, tcp_number, udp_number};
@@ -10,6 +10,7 @@ ghost use Rattle.ip_translation.specs.Fragments.{is_later, whole};
 ghost use Rattle.ip_translation.specs.HeadersToIpv4 as headers;
 ghost use Rattle.ip_translation.specs.Ipv6Packets.{header_counting};
 ghost use Rattle.ip_translation.specs.PacketsToIpv4 as specs;
+ghost use Rattle.ip_translation.specs.Payloads.{IsIpv6PayloadKept};
 ghost use Rattle.ip_translation.specs.declared.packet_translation_error.PacketTranslationError.TheVariants.{Header, IcmpFragment};
 
 use crate::changed_message::store_changed_checksum;
@@ -90,6 +91,8 @@ pub fn ipv6_to_ipv4(
     // A receiver accepts the message of the translated packet exactly if it accepts the message of the original packet.
     ensures alike { IfOk result (λ _. specs.IsPacketAlike prefixes.now (specs.direct_header packet.now)
         (specs.fields_of identification packet.now).flags_and_offset (specs.message_of packet.now)) }
+    // All bytes after the transport header are kept.
+    ensures payload { IfOk result (λ len. IsIpv6PayloadKept packet.now (take len buffer.new)) }
 {
     let Some(header) = front_header(packet) else {
         return Err(PacketTranslationError::NoIpv6Header);

@@ -1,4 +1,4 @@
-ghost use Rattle.std.specs.Prelude.{◌≡◌, ◌≤◌, ◌<◌, ◌+◌, ◌-◌, ◌++◌, IfErr, IfOk, IfSome, MatchOption, drop, false, length, slice_index, true};
+ghost use Rattle.std.specs.Prelude.{◌≡◌, ◌≤◌, ◌<◌, ◌+◌, ◌-◌, ◌++◌, IfErr, IfOk, IfSome, MatchOption, drop, false, length, slice_index, take, true};
 ghost use Rattle.std.specs.Option.{option_map};
 ghost use Rattle.ip_part.specs.Ip.{ipv4_header};
 ghost use Rattle.net_base.specs.IpHeaders.{ipv4_header_len};
@@ -9,6 +9,7 @@ ghost use Rattle.ip_translation.specs.ErrorsToIpv6 as errors;
 ghost use Rattle.ip_translation.specs.FragmentsToIpv6 as parts;
 ghost use Rattle.ip_translation.specs.HeadersToIpv6 as headers;
 ghost use Rattle.ip_translation.specs.PacketsToIpv6 as specs;
+ghost use Rattle.ip_translation.specs.Payloads.{IsIpv4PayloadKept};
 ghost use Rattle.ip_translation.specs.QuotedPackets.{max_error_len, min_error_len};
 ghost use Rattle.ip_translation.specs.declared.packet_translation_error.PacketTranslationError.TheVariants.{Header};
 
@@ -73,6 +74,8 @@ pub fn ipv4_to_ipv6(
     // A receiver accepts the message of the translated packet exactly if it accepts the message of the original packet. `IsAcceptedAlike`
     // states the exceptions.
     ensures alike { IfOk result (λ _. parts.IsPacketAlike prefixes.now (ipv4_header packet.now) (specs.message_of packet.now)) }
+    // All bytes after the transport header are kept.
+    ensures payload { IfOk result (λ len. IsIpv4PayloadKept packet.now (take len buffer.new)) }
 {
     let Some(header) = front_header(packet) else {
         return Err(PacketTranslationError::NoIpv4Header);

@@ -126,9 +126,9 @@ impl Prefix64 {
         // If `embed` is called with the result, it returns the same IPv6 address, but with a suffix of zeros.
         ensures embedded { IfSome result (λ ipv4. specs.embedded self.now ipv4 ≡ specs.with_zero_suffix self.now address.now) }
     {
-        let (is_prefix, ipv4) = self.front(address);
+        let is_prefix = self.is_front_of(address);
         if address[RESERVED_AT] == 0 && is_prefix {
-            Some(ipv4)
+            Some(self.ipv4_after(address))
         } else {
             None
         }
@@ -179,19 +179,33 @@ impl Prefix64 {
         }
     }
 
-    /// Whether an address begins with the prefix, and the IPv4 address after the prefix. The reserved octet of the address is skipped.
-    pub(crate) fn front(&self, address: &[u8; 16]) -> (bool, [u8; 4])
-        ensures prefix { result.0 ≡ pointwise nat_eq (take (specs.octet_count self.now) (specs.without_reserved address.now)) (specs.octets self.now) }
-        ensures ipv4 { result.1 ≡ specs.extracted self.now address.now }
+    /// Whether an address begins with the prefix. The reserved octet of the address is skipped.
+    fn is_front_of(&self, address: &[u8; 16]) -> bool
+        ensures { result ≡ pointwise nat_eq (take (specs.octet_count self.now) (specs.without_reserved address.now)) (specs.octets self.now) }
     {
-        let [a, b, c, d, e, f, g, h, _, i, j, k, l, m, n, o] = *address;
+        let [a, b, c, d, e, f, g, h, _, i, j, k, _, _, _, _] = *address;
         match self {
-            Prefix64::Bits32(start) => ([a, b, c, d] == *start, [e, f, g, h]),
-            Prefix64::Bits40(start) => ([a, b, c, d, e] == *start, [f, g, h, i]),
-            Prefix64::Bits48(start) => ([a, b, c, d, e, f] == *start, [g, h, i, j]),
-            Prefix64::Bits56(start) => ([a, b, c, d, e, f, g] == *start, [h, i, j, k]),
-            Prefix64::Bits64(start) => ([a, b, c, d, e, f, g, h] == *start, [i, j, k, l]),
-            Prefix64::Bits96(start) => ([a, b, c, d, e, f, g, h, i, j, k] == *start, [l, m, n, o]),
+            Prefix64::Bits32(start) => [a, b, c, d] == *start,
+            Prefix64::Bits40(start) => [a, b, c, d, e] == *start,
+            Prefix64::Bits48(start) => [a, b, c, d, e, f] == *start,
+            Prefix64::Bits56(start) => [a, b, c, d, e, f, g] == *start,
+            Prefix64::Bits64(start) => [a, b, c, d, e, f, g, h] == *start,
+            Prefix64::Bits96(start) => [a, b, c, d, e, f, g, h, i, j, k] == *start,
+        }
+    }
+
+    /// The IPv4 address after the prefix of an address, whatever prefix the address begins with. The reserved octet is skipped.
+    #[inline(always)]
+    pub(crate) fn ipv4_after(&self, address: &[u8; 16]) -> [u8; 4]
+        ensures { result ≡ specs.extracted self.now address.now }
+    {
+        match self {
+            Prefix64::Bits32(_) => [address[4], address[5], address[6], address[7]],
+            Prefix64::Bits40(_) => [address[5], address[6], address[7], address[9]],
+            Prefix64::Bits48(_) => [address[6], address[7], address[9], address[10]],
+            Prefix64::Bits56(_) => [address[7], address[9], address[10], address[11]],
+            Prefix64::Bits64(_) => [address[9], address[10], address[11], address[12]],
+            Prefix64::Bits96(_) => [address[12], address[13], address[14], address[15]],
         }
     }
 }

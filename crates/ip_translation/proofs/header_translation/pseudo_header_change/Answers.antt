@@ -1,29 +1,19 @@
-use Rattle.std.proofs.Common.{◌+◌, ◌<◌, ℕ, rules, ap, ap₂, ◌∙◌, subst₂, arith}
+use Rattle.std.proofs.Common.{◌+◌, ◌<◌, rules, ap, ap₂, ◌∙◌, subst₂}
 use Rattle.ip_translation.specs.AddressTables.{embedded}
 use Rattle.net_base.specs.PseudoHeader.{ipv4_pseudo_header, ipv6_pseudo_header}
 use Rattle.net_base.proofs.PseudoHeaderLemmas.{ipv4_pseudo_header_some, ipv6_pseudo_header_some}
 use Rattle.word_sum.specs.Checksum.{folded, total}
 use Rattle.word_sum.specs.ChecksumChange.{TurnsInto}
-use Rattle.word_sum.proofs.ChecksumLemmas.{folded_twice}
-use Rattle.ip_translation.proofs.PseudoHeaderLemmas.{turns}
 use Rattle.ip_translation.proofs.header_translation.pseudo_header_change.Goals as goal
 
 pub returns-clause-removed : goal.returns-clause-removed
 returns-clause-removed c =
-    let first : ℕ = total c.source-source.result in
-    let second : ℕ = total c.destination-destination.result in
-    c.replace_slice-2.ensures.removed
-    ∙ ap (λ n. folded (n + second)) (c.replace_slice.ensures.removed ∙ ap (λ n. folded (n + first)) c.new.ensures.removed)
-    ∙ folded_twice 0 first second ∙ ap folded (omega arith)
+    c.address_change.ensures.removed
     ∙ ap₂ (λ source destination. folded (total source + total destination)) c.source-source.ensures c.destination-destination.ensures
 
 pub returns-clause-added : goal.returns-clause-added
 returns-clause-added c =
-    let first : ℕ = total c.embed-new_source.result in
-    let second : ℕ = total c.embed-new_destination.result in
-    c.replace_slice-2.ensures.added
-    ∙ ap (λ n. folded (n + second)) (c.replace_slice.ensures.added ∙ ap (λ n. folded (n + first)) c.new.ensures.added)
-    ∙ folded_twice 0 first second ∙ ap folded (omega arith)
+    c.address_change.ensures.added
     ∙ ap₂ (λ source destination. folded (total source + total destination))
     (c.embed-new_source.ensures.embedded ∙ ap (embedded c.args.prefixes.now.source) c.source-source.ensures)
     (c.embed-new_destination.ensures.embedded ∙ ap (embedded c.args.prefixes.now.destination) c.destination-destination.ensures)
@@ -41,14 +31,12 @@ returns-clause-some c = λ protocol len some. (
 
 pub returns-clause-turns : goal.returns-clause-turns
 returns-clause-turns c = λ protocol len rest short.
-    subst₂ (λ source destination. TurnsInto c.replace_slice-2.result (total (ipv4_pseudo_header source destination protocol len) + rest)
+    subst₂ (λ source destination. TurnsInto c.address_change.result (total (ipv4_pseudo_header source destination protocol len) + rest)
     (total (ipv6_pseudo_header (embedded c.args.prefixes.now.source source)
     (embedded c.args.prefixes.now.destination destination) protocol len) + rest))
     c.source-source.ensures c.destination-destination.ensures
-    (subst₂ (λ source destination. TurnsInto c.replace_slice-2.result
+    (subst₂ (λ source destination. TurnsInto c.address_change.result
     (total (ipv4_pseudo_header c.source-source.result c.destination-destination.result protocol len) + rest)
     (total (ipv6_pseudo_header source destination protocol len) + rest))
     c.embed-new_source.ensures.embedded c.embed-new_destination.ensures.embedded
-    (turns c.new.result c.replace_slice.result c.replace_slice-2.result _ _ _ _ protocol len rest
-    (search rules) (search rules) (search rules) (search rules) short
-    c.new.ensures.unchanged c.replace_slice.ensures.extends c.replace_slice-2.ensures.extends))
+    (c.address_change.ensures.turns protocol len rest short))

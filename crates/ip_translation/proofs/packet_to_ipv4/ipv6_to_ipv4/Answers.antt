@@ -1,10 +1,11 @@
-use Rattle.std.proofs.Common.{◌≡◌, ◌++◌, drop, List, ℕ, length, subst, sym, ap, ◌∙◌}
+use Rattle.std.proofs.Common.{◌≡◌, ◌++◌, drop, List, ℕ, length, rules, subst, sym, ap, ◌∙◌}
 use Rattle.std.specs.Prelude.{IfOk, not}
 use Rattle.net_base.specs.Refusals.{RefusesExactly, refused_if}
 use Rattle.ip_translation.specs.PacketsToIpv4 as specs
 use Rattle.ip_translation.specs.declared.fragment_fields.FragmentFields.{FragmentFields}
 use Rattle.ip_translation.specs.declared.packet_translation_error.PacketTranslationError.TheVariants.{NoIpv6Header}
 use Rattle.ip_part.specs.Ip.{ipv6_header}
+use Rattle.ip_translation.proofs.PayloadLemmas.{ipv6_payload_kept}
 use Rattle.ip_translation.proofs.RuleLemmas.{last_of_three}
 use Rattle.ip_translation.proofs.packet_to_ipv4.ipv6_to_ipv4.Goals as goal
 
@@ -62,3 +63,8 @@ returns-clause-alike c =
     (specs.message_in header payload) in
     subst (λ header. HoldsIn header (specs.payload_after header packet)) c.in-Some.ensures.found.1
     (subst (HoldsIn c.in-Some.header) c.in_ok-payload.ensures.payload c.translate_payload.ensures.alike)
+
+pub returns-clause-payload : goal.returns-clause-payload
+returns-clause-payload c =
+    ipv6_payload_kept c.translate_payload.result c.args.prefixes.now c.args.packet.now c.args.identification c.args.buffer.now
+    c.translate_payload.new.buffer (returns-clause-refused c) (returns-clause-len c) (returns-clause-written c) (search rules)

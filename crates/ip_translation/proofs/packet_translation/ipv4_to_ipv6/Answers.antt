@@ -1,10 +1,11 @@
-use Rattle.std.proofs.Common.{◌≡◌, ◌++◌, drop, List, ℕ, length, subst, sym, ap, ◌∙◌}
+use Rattle.std.proofs.Common.{◌≡◌, ◌++◌, drop, List, ℕ, length, rules, subst, sym, ap, ◌∙◌}
 use Rattle.std.specs.Prelude.{IfOk, not}
 use Rattle.net_base.specs.Refusals.{RefusesExactly, refused_if}
 use Rattle.ip_translation.specs.FragmentsToIpv6 as parts
 use Rattle.ip_translation.specs.PacketsToIpv6 as specs
 use Rattle.ip_translation.specs.declared.packet_translation_error.PacketTranslationError.TheVariants.{NoIpv4Header}
 use Rattle.ip_part.specs.Ip.{ipv4_header}
+use Rattle.ip_translation.proofs.PayloadLemmas.{ipv4_payload_kept}
 use Rattle.ip_translation.proofs.RuleLemmas.{last_of_two}
 use Rattle.ip_translation.proofs.packet_translation.ipv4_to_ipv6.Goals as goal
 
@@ -37,3 +38,8 @@ returns-clause-alike c =
     subst (λ header. IfOk c.translate_with.result
     (λ _. parts.IsPacketAlike c.args.prefixes.now header (specs.message_after header c.args.packet.now)))
     c.in-Some.ensures.found.1 c.translate_with.ensures.alike
+
+pub returns-clause-payload : goal.returns-clause-payload
+returns-clause-payload c =
+    ipv4_payload_kept c.translate_with.result c.args.prefixes.now c.args.packet.now c.args.buffer.now c.translate_with.new.buffer
+    (returns-clause-refused c) (returns-clause-len c) (returns-clause-written c) (search rules)

@@ -1,4 +1,4 @@
-use Rattle.std.proofs.Common.{◌≡◌, None, Some, ap, subst, sym, ◌∙◌}
+use Rattle.std.proofs.Common.{◌≡◌, None, Some, ap, refl, subst, sym, ◌∙◌}
 use Rattle.std.specs.Int.{to_be_bytes, w128}
 use Rattle.ip_translation.specs.AddressMappings.{mapped_to_ipv6}
 use Rattle.ip_translation.proofs.AddressTableLemmas.{embedded_is, to_ipv6_refusal_is}
@@ -8,25 +8,25 @@ use Rattle.net_base.specs.Refusals.{RefusesExactly}
 
 pub returns-in-Some-clause-refused : goal.returns-in-Some-clause-refused
 returns-in-Some-clause-refused c =
-    to_ipv6_refusal_is c.args.self.now c.args.ipv4 _ (Some c.in-Some.mapping) c.from_be_bytes-number.ensures
-    (sym c.longest_ipv4.ensures ∙ c.in-Some.is)
+    to_ipv6_refusal_is c.args.self.now c.args.ipv4 _ (Some c.in-Some.mapping) refl
+    (sym c.mapping_of_ipv4.ensures ∙ c.in-Some.is)
 
 pub returns-in-None-clause-refused : goal.returns-in-None-clause-refused
 returns-in-None-clause-refused c =
-    let is = to_ipv6_refusal_is c.args.self.now c.args.ipv4 _ None c.from_be_bytes-number.ensures
-    (sym c.longest_ipv4.ensures ∙ c.in-None.is) in
+    let is = to_ipv6_refusal_is c.args.self.now c.args.ipv4 _ None refl
+    (sym c.mapping_of_ipv4.ensures ∙ c.in-None.is) in
     subst (RefusesExactly c.to_ipv6-in-None.result) (sym is) c.to_ipv6-in-None.ensures.refused
 
 pub returns-in-Some-clause-embedded : goal.returns-in-Some-clause-embedded
 returns-in-Some-clause-embedded c =
-    let is = embedded_is c.args.self.now c.args.ipv4 _ (Some c.in-Some.mapping) c.from_be_bytes-number.ensures
-    (sym c.longest_ipv4.ensures ∙ c.in-Some.is) in
+    let is = embedded_is c.args.self.now c.args.ipv4 _ (Some c.in-Some.mapping) refl
+    (sym c.mapping_of_ipv4.ensures ∙ c.in-Some.is) in
     c.to_be_bytes.ensures
-    ∙ ap (to_be_bytes w128) (c.to_ipv6.ensures ∙ ap (mapped_to_ipv6 c.in-Some.mapping) c.from_be_bytes-number.ensures)
+    ∙ ap (to_be_bytes w128) (c.to_ipv6.ensures ∙ ap (mapped_to_ipv6 c.in-Some.mapping) c.from_be_bytes.ensures)
     ∙ sym is
 
 pub returns-in-None-clause-embedded : goal.returns-in-None-clause-embedded
 returns-in-None-clause-embedded c =
-    let is = embedded_is c.args.self.now c.args.ipv4 _ None c.from_be_bytes-number.ensures
-    (sym c.longest_ipv4.ensures ∙ c.in-None.is) in
+    let is = embedded_is c.args.self.now c.args.ipv4 _ None refl
+    (sym c.mapping_of_ipv4.ensures ∙ c.in-None.is) in
     subst (λ expected. IfOk c.to_ipv6-in-None.result (λ address. address ≡ expected)) (sym is) c.to_ipv6-in-None.ensures.embedded
