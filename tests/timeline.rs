@@ -25,6 +25,17 @@ fn intervals(rt: &impl Abort, alloc: Global, timeline: &Timeline) -> Vec<Counts>
     expect_ok(rt, timeline.intervals(alloc))
 }
 
+/// Stops the test unless the intervals that are read one by one are these. Other intervals contain no packets.
+fn expect_each_interval(rt: &impl Abort, timeline: &Timeline, shown: &[Counts]) {
+    expect_equal(rt, &timeline.interval_count(), &shown.len());
+    for (place, counts) in shown.iter().enumerate() {
+        expect_at(rt, &place, &timeline.interval(place), counts);
+    }
+    for place in [shown.len(), usize::MAX] {
+        expect_at(rt, &place, &timeline.interval(place), &Counts::NONE);
+    }
+}
+
 /// Stops the test unless the width and the number of intervals are these after a packet at time 1000 and another packet so much later.
 fn expect_width(rt: &impl Abort, alloc: Global, row: &(u128, u128, usize)) {
     let mut timeline = expect_ok(rt, Timeline::new(alloc));
@@ -33,6 +44,7 @@ fn expect_width(rt: &impl Abort, alloc: Global, row: &(u128, u128, usize)) {
     let shown = intervals(rt, alloc, &timeline);
     expect_at(rt, row, &timeline.width(), &row.1);
     expect_at(rt, row, &shown.len(), &row.2);
+    expect_each_interval(rt, &timeline, &shown);
     if let Some(last) = shown.last() {
         let packets = if shown.len() == 1 { 2 } else { 1 };
         expect_at(rt, row, &last.udp.packets, &packets);
@@ -130,6 +142,7 @@ fn older_packets_and_packets_without_a_time_are_apart(rt: HostRuntime) {
     let mut timeline = expect_ok(&rt, Timeline::new(rt.alloc()));
     expect_equal(&rt, &timeline.start(), &None);
     expect_equal(&rt, &intervals(&rt, rt.alloc(), &timeline).len(), &0);
+    expect_each_interval(&rt, &timeline, &[]);
     timeline.add(&udp(None));
     expect_equal(&rt, &timeline.start(), &None);
     for time in [1_000, 999, 1_001, 0] {

@@ -145,6 +145,13 @@ merged_more size intervals place = sym (map-range_with_len_more (merged_at size 
 pub length_of_merged : (size : ℕ) (intervals : List Counts) → length (merged size intervals) ≡ div_ceil (length intervals) size
 length_of_merged size intervals = length-map-range_with_len (merged_at size intervals) 0 (div_ceil (length intervals) size)
 
+-- an interval of the result
+pub merged_here : (size : ℕ) (intervals : List Counts) (place : ℕ) → place < length (merged size intervals)
+    → get_or (merged size intervals) place no_packets ≡ merged_at size intervals place
+merged_here size intervals place less =
+    get_or-map-range_with_len (merged_at size intervals) 0 (div_ceil (length intervals) size) place place no_packets
+    (omega (arith, less, length_of_merged size intervals)) (omega arith)
+
 pub merged_short : (bins : List Counts) (most : ℕ) → length bins ≤ most → length (merged 10 bins) ≤ most
 merged_short bins most short =
     let bound = (div_ceil_times (length bins) 10 (omega arith)).1 in

@@ -64,7 +64,7 @@ pub fn coarsen(bins: &mut Vec<Counts>)
 
 /// The sum of `size` intervals, from number `place * size` on, or of fewer if the intervals end before.
 #[tactic(auto, using(crate::proofs::MergingLemmas::slice_run))]
-fn merged_at(intervals: &[Counts], size: usize, place: usize) -> Counts
+pub fn merged_at(intervals: &[Counts], size: usize, place: usize) -> Counts
     requires size { (0 < size) × (size ≤ 10) }
     requires len { length intervals.now ≤ max_bins }
     requires place { place * size < length intervals.now }

@@ -1,8 +1,9 @@
-ghost use Rattle.std.specs.Prelude.{◌≡◌, ◌⊎◌, ◌+◌, IfOk, List, None, Some, []};
-ghost use Rattle.timeline.specs.Timelines.{AreShown, CountsPacket, IsTimelineOf, empty_timeline, shown_intervals, shown_width};
+ghost use Rattle.std.specs.Prelude.{◌≡◌, ◌≤◌, ◌⊎◌, ◌+◌, IfOk, List, None, Some, [], length, slice_index_or};
+ghost use Rattle.timeline.specs.Counts.{no_packets};
+ghost use Rattle.timeline.specs.Timelines.{AreShown, CountsPacket, IsTimelineOf, empty_timeline, max_intervals, shown_intervals, shown_width};
 ghost use Rattle.timeline.specs.declared.event.Event.{Event as PacketEvent};
 
-use crate::merging::{MAX_BINS, bins_in_interval, merged};
+use crate::merging::{MAX_BINS, bins_in_interval, merged, merged_at};
 use crate::widening::{count_at, widen};
 use crate::{Counts, Event};
 use std::alloc::{AllocError, Global};
@@ -110,6 +111,25 @@ impl Timeline {
             → AreShown self.now.start (shown_width self.now) intervals.items packets) }
     {
         merged(alloc, &self.bins, bins_in_interval(self.bins.len()))
+    }
+
+    /// The number of intervals. It is at most `MAX_INTERVALS`.
+    pub fn interval_count(&self) -> usize
+        ensures value { result ≡ length (shown_intervals self.now) }
+        ensures few { result ≤ max_intervals }
+    {
+        let len = self.bins.len();
+        len.div_ceil(bins_in_interval(len))
+    }
+
+    /// The counts of interval number `place`. If there are not so many intervals, it is the counts without packets. Nothing is allocated.
+    pub fn interval(&self, place: usize) -> Counts
+        ensures { result ≡ slice_index_or (shown_intervals self.now) place no_packets }
+    {
+        if place >= self.interval_count() {
+            return Counts::NONE;
+        }
+        merged_at(&self.bins, bins_in_interval(self.bins.len()), place)
     }
 
     /// Counts a packet with the time `start + offset`, which is not before the start.
