@@ -38,7 +38,7 @@ const NAME: &[u8] = b"capture_report";
 const TOO_LONG: &[u8] = &[b'a'; 131073];
 
 /// Arguments that are accepted: the number of captures, the file for the packets, and whether lines are written out at once.
-static ACCEPTED: [(&[&[u8]], usize, Option<&str>, bool); 14] = [
+static ACCEPTED: [(&[&[u8]], usize, Option<&str>, bool); 15] = [
     (&[b"capture_report"], 0, None, false),
     (&[b"capture_report", b"a.pcap", b"-l"], 1, None, true),
     (
@@ -84,6 +84,18 @@ static ACCEPTED: [(&[&[u8]], usize, Option<&str>, bool); 14] = [
         None,
         false,
     ),
+    (
+        &[
+            b"capture_report",
+            b"--timeline",
+            b"--json",
+            b"--summary",
+            b"--timeline",
+        ],
+        0,
+        None,
+        false,
+    ),
     // A repeated option replaces its earlier use.
     (&[b"capture_report", b"-nnvvll", b"-n"], 0, None, true),
     (
@@ -107,11 +119,13 @@ static ACCEPTED: [(&[&[u8]], usize, Option<&str>, bool); 14] = [
 ];
 
 /// Arguments that are refused, or request a text, with the exit status.
-static REJECTED: [(&[&[u8]], i32); 14] = [
+static REJECTED: [(&[&[u8]], i32); 16] = [
     (&[b"capture_report", b"--help"], 0),
     (&[b"capture_report", b"--version"], 0),
     (&[b"capture_report", b"--unknown"], 2),
     (&[b"capture_report", b"--summary", b"--packets"], 2),
+    (&[b"capture_report", b"--timeline", b"--packets"], 2),
+    (&[b"capture_report", b"--timeline", b"-w", b"-"], 2),
     (&[b"capture_report", b"--port", b"65536"], 2),
     (&[b"capture_report", b"--port", b"80,"], 2),
     (&[b"capture_report", b"--not-port", b"81-80"], 2),

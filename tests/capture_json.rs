@@ -1,6 +1,9 @@
 //! Tests of the crate `capture_json`.
 
-use crate::expect::{append, expect_all_written, expect_ok, expect_some, expect_written, joined};
+mod timeline;
+
+use self::timeline::{NO_PACKETS, ONE_PACKET};
+use crate::expect::{append, expect_all_written, expect_ok, expect_some, joined};
 use crate::packets::OVER_IPV4;
 use crate::summaries::{first_info, flow_of_ipv4, judge, new_summary, refuse};
 use capture_file::pcapng::TimeResolution;
@@ -589,9 +592,13 @@ fn objects_of_quoted_packets(rt: HostRuntime) {
     }
 }
 
-/// The object of a summary of three packets of raw IP. The names of rows have underscores between their words.
-const OF_THREE_PACKETS: &str =
-    r#"{"type":"summary","packets":3,"bytes":98,"bytes_per_packet":32,"conversations":1,"first_packet":"2023-11-14T22:13:20.000000Z","first_packet_seconds":1700000000,"first_packet_nanoseconds":0,"last_packet":"2023-11-14T22:13:25.000000Z","last_packet_seconds":1700000005,"last_packet_nanoseconds":0,"duration":"00:00:05.000000","duration_seconds":5,"duration_nanoseconds":0,"packets_per_second":0,"bits_per_second":156,"link_types":{"BSD_loopback":0,"Ethernet":0,"PPP":0,"PPP_or_Cisco_HDLC":0,"PPP_over_Ethernet":0,"raw_IP":3,"Cisco_HDLC":0,"IEEE_802.11":0,"Frame_Relay":0,"OpenBSD_loopback":0,"Linux_cooked":0,"PFLOG":0,"Prism":0,"radiotap":0,"AVS":0,"PPI":0,"Solaris_ipnet":0,"NFLOG":0,"IP_over_InfiniBand":0,"PKTAP":0,"Linux_cooked_version_2":0,"another_link_type":0,"unknown":0},"protocols":{"UDP":{"packets":2,"bytes":68},"TCP":{"packets":0,"bytes":0},"ICMPv4":{"packets":0,"bytes":0},"ICMPv6":{"packets":0,"bytes":0},"IGMP":{"packets":0,"bytes":0},"IPv4":{"packets":0,"bytes":0},"DCCP":{"packets":0,"bytes":0},"IPv6":{"packets":0,"bytes":0},"RSVP":{"packets":0,"bytes":0},"GRE":{"packets":0,"bytes":0},"ESP":{"packets":0,"bytes":0},"AH":{"packets":0,"bytes":0},"no_next_header":{"packets":0,"bytes":0},"EIGRP":{"packets":0,"bytes":0},"OSPF":{"packets":0,"bytes":0},"EtherIP":{"packets":0,"bytes":0},"PIM":{"packets":0,"bytes":0},"IPComp":{"packets":0,"bytes":0},"VRRP":{"packets":0,"bytes":0},"L2TP":{"packets":0,"bytes":0},"SCTP":{"packets":0,"bytes":0},"UDP-Lite":{"packets":0,"bytes":0},"MPLS-in-IP":{"packets":0,"bytes":0},"other_over_IP":{"packets":1,"bytes":30},"ARP":{"packets":0,"bytes":0},"RARP":{"packets":0,"bytes":0},"IPX":{"packets":0,"bytes":0},"slow_protocol":{"packets":0,"bytes":0},"MPLS":{"packets":0,"bytes":0},"PPPoE_discovery":{"packets":0,"bytes":0},"PPPoE_session":{"packets":0,"bytes":0},"EAPOL":{"packets":0,"bytes":0},"LLDP":{"packets":0,"bytes":0},"MACsec":{"packets":0,"bytes":0},"MVRP":{"packets":0,"bytes":0},"PTP":{"packets":0,"bytes":0},"CFM":{"packets":0,"bytes":0},"loopback":{"packets":0,"bytes":0},"IPCP":{"packets":0,"bytes":0},"IPV6CP":{"packets":0,"bytes":0},"CCP":{"packets":0,"bytes":0},"LCP":{"packets":0,"bytes":0},"PAP":{"packets":0,"bytes":0},"LQR":{"packets":0,"bytes":0},"CHAP":{"packets":0,"bytes":0},"EAP":{"packets":0,"bytes":0},"CLNP":{"packets":0,"bytes":0},"ES-IS":{"packets":0,"bytes":0},"IS-IS":{"packets":0,"bytes":0},"STP":{"packets":0,"bytes":0},"other_without_IP":{"packets":0,"bytes":0},"unknown":{"packets":0,"bytes":0}},"checksums":{"right":0,"wrong":0,"not_filled_in":1,"none":0,"fragment":0,"cut_off":1,"no_length_stated":0,"final_destination_unknown":0,"another_protocol":0,"too_long":0,"refused":1},"refusals":{"link_header_cut_off":0,"IP_header_cut_off":0,"IP_version":0,"IP_header_length":0,"IP_total_length":0,"IP_packet_cut_off":0,"IP_extension_header":0,"UDP_length":1,"TCP_length":0,"TCP_data_offset":0,"ICMPv4_length":0,"ICMPv6_length":0},"busiest_conversations":[{"protocol":17,"protocol_name":"UDP","source":"192.0.2.1","source_port":49152,"destination":"192.0.2.2","destination_port":53,"packets":1,"bytes":40,"forward":{"packets":1,"bytes":40},"reverse":{"packets":0,"bytes":0},"first_packet":"2023-11-14T22:13:20.000000Z","first_packet_seconds":1700000000,"first_packet_nanoseconds":0,"last_packet":"2023-11-14T22:13:20.000000Z","last_packet_seconds":1700000000,"last_packet_nanoseconds":0,"duration":"00:00:00.000000","duration_seconds":0,"duration_nanoseconds":0}],"endpoints":[{"address":"192.0.2.1","packets":1,"bytes":40},{"address":"192.0.2.2","packets":1,"bytes":40}],"packets_without_ports":{"packets":2,"bytes":58},"packets_of_other_flows":{"packets":0,"bytes":0}}
+/// The object of a summary of three packets of raw IP, before the timeline. The names of rows have underscores between their words.
+const BEFORE_TIMELINE: &str =
+    r#"{"type":"summary","packets":3,"bytes":98,"bytes_per_packet":32,"conversations":1,"first_packet":"2023-11-14T22:13:20.000000Z","first_packet_seconds":1700000000,"first_packet_nanoseconds":0,"last_packet":"2023-11-14T22:13:25.000000Z","last_packet_seconds":1700000005,"last_packet_nanoseconds":0,"duration":"00:00:05.000000","duration_seconds":5,"duration_nanoseconds":0,"packets_per_second":0,"bits_per_second":156,"link_types":{"BSD_loopback":0,"Ethernet":0,"PPP":0,"PPP_or_Cisco_HDLC":0,"PPP_over_Ethernet":0,"raw_IP":3,"Cisco_HDLC":0,"IEEE_802.11":0,"Frame_Relay":0,"OpenBSD_loopback":0,"Linux_cooked":0,"PFLOG":0,"Prism":0,"radiotap":0,"AVS":0,"PPI":0,"Solaris_ipnet":0,"NFLOG":0,"IP_over_InfiniBand":0,"PKTAP":0,"Linux_cooked_version_2":0,"another_link_type":0,"unknown":0},"protocols":{"UDP":{"packets":2,"bytes":68},"TCP":{"packets":0,"bytes":0},"ICMPv4":{"packets":0,"bytes":0},"ICMPv6":{"packets":0,"bytes":0},"IGMP":{"packets":0,"bytes":0},"IPv4":{"packets":0,"bytes":0},"DCCP":{"packets":0,"bytes":0},"IPv6":{"packets":0,"bytes":0},"RSVP":{"packets":0,"bytes":0},"GRE":{"packets":0,"bytes":0},"ESP":{"packets":0,"bytes":0},"AH":{"packets":0,"bytes":0},"no_next_header":{"packets":0,"bytes":0},"EIGRP":{"packets":0,"bytes":0},"OSPF":{"packets":0,"bytes":0},"EtherIP":{"packets":0,"bytes":0},"PIM":{"packets":0,"bytes":0},"IPComp":{"packets":0,"bytes":0},"VRRP":{"packets":0,"bytes":0},"L2TP":{"packets":0,"bytes":0},"SCTP":{"packets":0,"bytes":0},"UDP-Lite":{"packets":0,"bytes":0},"MPLS-in-IP":{"packets":0,"bytes":0},"other_over_IP":{"packets":1,"bytes":30},"ARP":{"packets":0,"bytes":0},"RARP":{"packets":0,"bytes":0},"IPX":{"packets":0,"bytes":0},"slow_protocol":{"packets":0,"bytes":0},"MPLS":{"packets":0,"bytes":0},"PPPoE_discovery":{"packets":0,"bytes":0},"PPPoE_session":{"packets":0,"bytes":0},"EAPOL":{"packets":0,"bytes":0},"LLDP":{"packets":0,"bytes":0},"MACsec":{"packets":0,"bytes":0},"MVRP":{"packets":0,"bytes":0},"PTP":{"packets":0,"bytes":0},"CFM":{"packets":0,"bytes":0},"loopback":{"packets":0,"bytes":0},"IPCP":{"packets":0,"bytes":0},"IPV6CP":{"packets":0,"bytes":0},"CCP":{"packets":0,"bytes":0},"LCP":{"packets":0,"bytes":0},"PAP":{"packets":0,"bytes":0},"LQR":{"packets":0,"bytes":0},"CHAP":{"packets":0,"bytes":0},"EAP":{"packets":0,"bytes":0},"CLNP":{"packets":0,"bytes":0},"ES-IS":{"packets":0,"bytes":0},"IS-IS":{"packets":0,"bytes":0},"STP":{"packets":0,"bytes":0},"other_without_IP":{"packets":0,"bytes":0},"unknown":{"packets":0,"bytes":0}},"checksums":{"right":0,"wrong":0,"not_filled_in":1,"none":0,"fragment":0,"cut_off":1,"no_length_stated":0,"final_destination_unknown":0,"another_protocol":0,"too_long":0,"refused":1},"refusals":{"link_header_cut_off":0,"IP_header_cut_off":0,"IP_version":0,"IP_header_length":0,"IP_total_length":0,"IP_packet_cut_off":0,"IP_extension_header":0,"UDP_length":1,"TCP_length":0,"TCP_data_offset":0,"ICMPv4_length":0,"ICMPv6_length":0}"#;
+
+/// The rest of the object of a summary of three packets.
+const AFTER_TIMELINE: &str =
+    r#","busiest_conversations":[{"protocol":17,"protocol_name":"UDP","source":"192.0.2.1","source_port":49152,"destination":"192.0.2.2","destination_port":53,"packets":1,"bytes":40,"forward":{"packets":1,"bytes":40},"reverse":{"packets":0,"bytes":0},"first_packet":"2023-11-14T22:13:20.000000Z","first_packet_seconds":1700000000,"first_packet_nanoseconds":0,"last_packet":"2023-11-14T22:13:20.000000Z","last_packet_seconds":1700000000,"last_packet_nanoseconds":0,"duration":"00:00:00.000000","duration_seconds":0,"duration_nanoseconds":0}],"endpoints":[{"address":"192.0.2.1","packets":1,"bytes":40},{"address":"192.0.2.2","packets":1,"bytes":40}],"packets_without_ports":{"packets":2,"bytes":58},"packets_of_other_flows":{"packets":0,"bytes":0}}
 "#;
 
 /// What a capture of raw IP states about a packet with this number of bytes, captured at this second.
@@ -635,10 +642,46 @@ fn object_with(rt: &(impl Abort + AllocGlobal + RandomSource), files: &FileTable
     text
 }
 
+/// The object of the interval of the refused packet, and of the interval of the packet that is cut off.
+const REFUSED_PACKET: &str =
+    r#"{"packets":1,"bytes":28,"udp":{"packets":1,"bytes":28},"tcp":{"packets":0,"bytes":0},"icmp":{"packets":0,"bytes":0},"other":{"packets":0,"bytes":0},"wrong":{"packets":0,"bytes":0},"refused":{"packets":1,"bytes":28}}"#;
+
+const PACKET_CUT_OFF: &str =
+    r#"{"packets":1,"bytes":30,"udp":{"packets":0,"bytes":0},"tcp":{"packets":0,"bytes":0},"icmp":{"packets":0,"bytes":0},"other":{"packets":1,"bytes":30},"wrong":{"packets":0,"bytes":0},"refused":{"packets":0,"bytes":0}}"#;
+
+/// The timeline of three packets: 251 intervals of 20 milliseconds. The packets are in the first, in number 100 and in the last.
+fn timeline_of_three(rt: &(impl Abort + AllocGlobal)) -> Vec<u8> {
+    let start =
+        r#","timeline":{"start":"2023-11-14T22:13:20.000000000Z","start_seconds":1700000000,"start_nanoseconds":0,"interval_seconds":0,"interval_nanoseconds":20000000,"intervals":["#;
+    let mut text = joined(rt, &[start.as_bytes(), ONE_PACKET.as_bytes()]);
+    for place in 1..251 {
+        let interval = match place {
+            100 => REFUSED_PACKET,
+            250 => PACKET_CUT_OFF,
+            _ => NO_PACKETS,
+        };
+        append(rt, &mut text, b",");
+        append(rt, &mut text, interval.as_bytes());
+    }
+    append(rt, &mut text, br#"],"older":"#);
+    append(rt, &mut text, NO_PACKETS.as_bytes());
+    append(rt, &mut text, br#","untimed":"#);
+    append(rt, &mut text, NO_PACKETS.as_bytes());
+    append(rt, &mut text, b"}");
+    text
+}
+
+/// Stops the test unless these bytes are the object of a summary of three packets, with these texts after the timeline.
+fn expect_three_packets(rt: &(impl Abort + AllocGlobal), text: &[u8], rest: &str, end: &str) {
+    let timeline = timeline_of_three(rt);
+    let timeline = expect_ok(rt, std::str::from_utf8(&timeline));
+    expect_all_written(rt, text, &[BEFORE_TIMELINE, timeline, rest, end]);
+}
+
 #[test]
 fn the_object_of_a_summary(rt: HostRuntime) {
     let text = object_with(&rt, &FileTable::new());
-    expect_written(&rt, &text, OF_THREE_PACKETS);
+    expect_three_packets(&rt, &text, AFTER_TIMELINE, "");
 }
 
 /// Three packets of a capture.
@@ -654,8 +697,8 @@ const OF_FILE: FileCount = FileCount {
 /// Stops the test unless the object of a summary ends with this text, after the members of the object without a table of files.
 fn expect_files(rt: &(impl Abort + AllocGlobal + RandomSource), files: &FileTable<'_>, end: &str) {
     let text = object_with(rt, files);
-    let others = expect_some(rt, OF_THREE_PACKETS.strip_suffix("}\n"));
-    expect_all_written(rt, &text, &[others, end]);
+    let others = expect_some(rt, AFTER_TIMELINE.strip_suffix("}\n"));
+    expect_three_packets(rt, &text, others, end);
 }
 
 #[test]

@@ -626,3 +626,28 @@ fn a_report_in_json(rt: HostRuntime) {
         expect_objects(&rt, &bytes, row);
     }
 }
+
+/// The table of the timeline of the packet.
+const TIMELINE: &str = "
+timeline, seconds             packets             bytes       wrong     refused
+              0.000000000           1                29           0           0 ########################################
+";
+
+/// Only a summary of text contains the table of the timeline, and only if it is requested.
+#[test]
+fn the_table_of_the_timeline_is_requested(rt: HostRuntime) {
+    let bytes = expect_ok(&rt, raw_capture(rt.alloc()));
+    for timeline in [false, true] {
+        for format in [Format::Text, Format::Json] {
+            let parts = Parts {
+                timeline,
+                format,
+                ..ALL
+            };
+            let ran = run_alone(&rt, parts, &bytes);
+            let text = expect_ok(&rt, std::str::from_utf8(&ran.output));
+            let has_table = timeline && format == Format::Text;
+            expect_equal(&rt, &text.ends_with(TIMELINE), &has_table);
+        }
+    }
+}

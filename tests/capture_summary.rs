@@ -6,3 +6,4 @@ mod files;
 mod kinds;
 mod protocols;
 mod summary;
+mod times;

@@ -8,6 +8,7 @@ mod icmp;
 mod packet_lines;
 mod summary;
 mod tcp;
+mod timeline_table;
 
 use crate::expect::{expect_all_written, expect_ok};
 use crate::summaries::first_info;

@@ -17,6 +17,7 @@ pub const ALL: Parts = Parts {
     summary: true,
     format: Format::Text,
     top: BUSIEST,
+    timeline: false,
     check: false,
     limit: None,
 };

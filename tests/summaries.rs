@@ -14,7 +14,8 @@ use std::random::RandomSource;
 
 /// A summary of no packet.
 pub fn new_summary(rt: &(impl Abort + AllocGlobal + RandomSource)) -> Summary {
-    Summary::new(rt.alloc(), expect_ok(rt, RandomState::new(rt)))
+    let state = expect_ok(rt, RandomState::new(rt));
+    expect_ok(rt, Summary::new(rt.alloc(), state))
 }
 
 /// Counts a packet that is refused. Stops the test if there is no room for it.

@@ -77,6 +77,7 @@ options = record {
     summary = true;
     format = Json;
     top = 10;
+    timeline = false;
     check = false;
     limit = Some 5;
   };
@@ -107,8 +108,8 @@ rows =
     given (codes "verbose") (codes "true") ∷ given (codes "json") (codes "true")
     ∷ given (codes "port") (codes "53,80-90") ∷ given (codes "protocol") (codes "TCP")
     ∷ given (codes "count") (codes "5") ∷ given (codes "file") (codes "a.pcap") ∷ not_given (codes "summary") ∷ not_given (codes "packets")
-    ∷ not_given (codes "wrong") ∷ not_given (codes "absolute") ∷ not_given (codes "check") ∷ not_given (codes "tunnels")
-    ∷ not_given (codes "line-buffered")
+    ∷ not_given (codes "wrong") ∷ not_given (codes "absolute") ∷ not_given (codes "check") ∷ not_given (codes "timeline")
+    ∷ not_given (codes "tunnels") ∷ not_given (codes "line-buffered")
     ∷ not_given (codes "numeric") ∷ []
 
 are_rows : rows ≡ matches_of app words
@@ -199,6 +200,7 @@ are_options = record {
   check = λ flag has. flag_is (codes "check") false flag refl has;
   format = λ flag has. ap (λ flag. if flag then Json else AsText) (flag_is (codes "json") true flag refl has);
   top = (λ none. refl, λ text given has number. absurd (cc (sym (ap (λ found. one_text found (codes "top")) are_found) ∙ has)));
+  timeline = λ flag has. flag_is (codes "timeline") false flag refl has;
   choice = record {
     addresses = record {
       hosts = values (codes "host");

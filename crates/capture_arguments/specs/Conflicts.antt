@@ -11,10 +11,10 @@ use Rattle.clap.specs.declared.parser.matches.ValueSource.TheVariants.{CommandLi
 abbrev pub exclusive_pairs : List (Text × Text)
 exclusive_pairs =
     (codes "summary", codes "packets") ∷ (codes "wrong", codes "summary") ∷ (codes "absolute", codes "summary")
-    ∷ (codes "top", codes "packets")
+    ∷ (codes "top", codes "packets") ∷ (codes "timeline", codes "packets")
     ∷ (codes "write", codes "summary") ∷ (codes "write", codes "packets") ∷ (codes "write", codes "absolute")
     ∷ (codes "write", codes "check")
-    ∷ (codes "write", codes "json") ∷ (codes "write", codes "top") ∷ []
+    ∷ (codes "write", codes "json") ∷ (codes "write", codes "top") ∷ (codes "write", codes "timeline") ∷ []
 
 -- a value comes from the command line, and is not a default
 abbrev pub is_from_words : Option ValueSource → Bool

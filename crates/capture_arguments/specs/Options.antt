@@ -40,6 +40,7 @@ pub record IsOptionsOf (matches : ArgMatches) (options : Options) : Type 0 where
   pub check : (flag : Bool) → HasFlag matches (codes "check") flag → options.parts.check ≡ flag
   pub format : (flag : Bool) → HasFlag matches (codes "json") flag → options.parts.format ≡ (if flag then formats.Json else formats.Text)
   pub top : HasNumberOr matches (codes "top") 64 (λ given. given) default_top options.parts.top
+  pub timeline : (flag : Bool) → HasFlag matches (codes "timeline") flag → options.parts.timeline ≡ flag
   pub choice : IsChoiceOf matches options.parts.choice
   pub limit : HasNumberOr matches (codes "count") 64 Some None options.parts.limit
   pub line_buffered : (flag : Bool) → HasFlag matches (codes "line-buffered") flag → options.line_buffered ≡ flag

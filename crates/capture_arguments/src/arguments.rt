@@ -175,6 +175,7 @@ fn options_of<'a, M: Memory>(
             verbose: flag_of(matches, "verbose"),
             format: format_of(matches),
             top: top_of(matches),
+            timeline: flag_of(matches, "timeline"),
             limit: count_of(matches),
             ..asked
         },
@@ -437,6 +438,7 @@ fn with_form<'a, M: Memory>(memory: &M, command: Command<'a>) -> Result<Command<
     let command = memory.with_arg(command, check(alloc))?;
     let command = memory.with_arg(command, json(alloc))?;
     let command = memory.with_arg(command, top(alloc))?;
+    let command = memory.with_arg(command, timeline(alloc))?;
     memory.with_arg(command, tunnels(alloc))
 }
 
@@ -488,6 +490,18 @@ fn top<'a>(alloc: Global) -> Arg<'a>
         "Name the N busiest conversations and endpoints in the summary instead of 10",
     )
     .value_parser(value_parser!(usize))
+}
+
+/// The option that requests the table of the timeline in the summary.
+fn timeline<'a>(alloc: Global) -> Arg<'a>
+    ensures rule { rule_of result ≡ flag_rule (codes "timeline") }
+    ensures local { result.global ≡ false }
+{
+    flag(
+        alloc,
+        "timeline",
+        "Also write a table of the packets by time in the summary, which JSON always has",
+    )
 }
 
 /// The option that requests the packets in tunnels of UDP.

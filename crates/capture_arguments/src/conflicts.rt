@@ -10,17 +10,19 @@ use clap::parser::ValueSource;
 use std::alloc::AllocError;
 
 /// The names of options that can't be used together, in pairs. The pairs are tested in this order.
-static EXCLUSIVE: [(&str, &str); 10] = [
+static EXCLUSIVE: [(&str, &str); 12] = [
     ("summary", "packets"),
     ("wrong", "summary"),
     ("absolute", "summary"),
     ("top", "packets"),
+    ("timeline", "packets"),
     ("write", "summary"),
     ("write", "packets"),
     ("write", "absolute"),
     ("write", "check"),
     ("write", "json"),
     ("write", "top"),
+    ("write", "timeline"),
 ];
 
 /// The first pair of options that can't be used together and that both occur on the command line.

@@ -7,7 +7,7 @@ use crate::memory::Memory;
 use std::alloc::AllocError;
 
 /// The long names of the options.
-static LONG_OPTIONS: [&str; 23] = [
+static LONG_OPTIONS: [&str; 24] = [
     "--summary",
     "--packets",
     "--wrong",
@@ -16,6 +16,7 @@ static LONG_OPTIONS: [&str; 23] = [
     "--check",
     "--json",
     "--top",
+    "--timeline",
     "--tunnels",
     "--host",
     "--source",

@@ -1,5 +1,6 @@
 mod JsonExamples
 mod JsonLaws
 mod JsonLemmas
+mod JsonTimelineExamples
 mod OptionLaws
 pub mod TokensLemmas

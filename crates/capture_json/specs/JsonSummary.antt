@@ -11,8 +11,10 @@ use Rattle.capture_summary.specs.Conversations.{both}
 use Rattle.capture_summary.specs.Endpoints.{busiest_endpoints}
 use Rattle.capture_words.specs.Elapsed.{elapsed_text}
 use Rattle.capture_file.specs.declared.reader.capture_reader.CaptureReader.{CaptureReader}
+use Rattle.capture_json.specs.JsonCounts.{count_members}
 use Rattle.capture_json.specs.JsonFacts.{facts_members}
 use Rattle.capture_json.specs.JsonPacket.{ip_protocol_members, json_line, type_member}
+use Rattle.capture_json.specs.JsonTimeline.{timeline_member}
 use Rattle.capture_json.specs.JsonTimes.{duration_members, instant_members}
 use Rattle.capture_summary.specs.Kinds.{flow_proto, flow_protocol_number, link_rows, protocol_rows, refusal_rows, verdict_rows}
 use Rattle.capture_json.specs.Words.{with_underscores}
@@ -25,10 +27,6 @@ use Rattle.capture_summary.specs.declared.file_count.FileCount.{FileCount}
 use Rattle.capture_summary.specs.declared.flow.Flow.{Flow}
 use Rattle.capture_summary.specs.declared.time_span.TimeSpan.{TimeSpan}
 use Rattle.capture_summary.specs.declared.conversation_count.ConversationCount.{ConversationCount}
-
--- the packets and bytes of a count
-abbrev pub count_members : Count → List Member
-count_members count = (codes "packets", whole_number count.packets) ∷ (codes "bytes", whole_number count.bytes) ∷ []
 
 -- ---- the rows of each table under their words; every row is written
 
@@ -164,9 +162,9 @@ rows_members tables =
 abbrev pub head_members : Option CaptureReader → SummaryTables → List Member
 head_members capture tables = type_member (codes "summary") ∷ (facts_members capture ++ totals_members tables)
 
--- the type, the facts of the capture, the totals, and the tables of rows
+-- the type, the facts of the capture, the totals, the tables of rows, and the timeline
 abbrev pub tables_members : Option CaptureReader → SummaryTables → List Member
-tables_members capture tables = head_members capture tables ++ rows_members tables
+tables_members capture tables = head_members capture tables ++ (rows_members tables ++ timeline_member tables.timeline ∷ [])
 
 -- everything after the endpoints: the counts of packets that belong to no row of the conversations, and the table of files
 abbrev pub end_members : Files → Count → Count → List Member

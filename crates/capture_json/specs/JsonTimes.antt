@@ -3,6 +3,7 @@ use Rattle.std.specs.Prelude.{ℕ, ◌-◌, ◌/◌, ◌%◌, ◌^◌, if◌then
 use Rattle.std.specs.Int.{int_div_euclid, int_rem_euclid}
 use Rattle.capture_file.specs.PacketTimes.{nanoseconds_between, nanoseconds_per_second}
 use Rattle.capture_file.specs.declared.packet_time.PacketTime.{PacketTime}
+use Rattle.capture_file.specs.declared.pcapng.time_resolution.TimeResolution.TheVariants.{PowerOfTen}
 use Rattle.capture_json.specs.Members.{Member, integer, whole_number}
 use Rattle.capture_words.specs.AbsoluteTime.{nanoseconds_since_1970}
 
@@ -26,8 +27,23 @@ abbrev pub instant_members : List ℕ → List ℕ → PacketTime → List Membe
 instant_members seconds nanoseconds time =
     (seconds, integer (nearest_long (seconds_since_1970 time))) ∷ (nanoseconds, whole_number (nanoseconds_of_second time)) ∷ []
 
--- the time between two packets as two numbers; the seconds are at most 2^64 - 1
+-- A number of nanoseconds as two numbers with these names: the whole seconds, at most 2^64 - 1, and the nanoseconds after them.
+abbrev pub nanoseconds_members : List ℕ → List ℕ → ℕ → List Member
+nanoseconds_members seconds nanoseconds number =
+    (seconds, whole_number (min (number / nanoseconds_per_second) (2 ^ 64 - 1)))
+    ∷ (nanoseconds, whole_number (number % nanoseconds_per_second)) ∷ []
+
+-- the time between two packets as two numbers
 abbrev pub duration_members : PacketTime → PacketTime → List Member
 duration_members first last =
-    (codes "duration_seconds", whole_number (min (nanoseconds_between first last / nanoseconds_per_second) (2 ^ 64 - 1)))
-    ∷ (codes "duration_nanoseconds", whole_number (nanoseconds_between first last % nanoseconds_per_second)) ∷ []
+    nanoseconds_members (codes "duration_seconds") (codes "duration_nanoseconds") (nanoseconds_between first last)
+
+-- The time at this number of nanoseconds, which are counted from 2^63 seconds before 1970. It is the inverse of `nanoseconds_of`, except
+-- that a time after 2^63 - 1 seconds becomes 2^63 - 1 seconds.
+abbrev pub time_at : ℕ → PacketTime
+time_at number = record {
+  seconds = min (number / nanoseconds_per_second) (2 ^ 64 - 1);
+  fraction = number % nanoseconds_per_second;
+  resolution = PowerOfTen 9;
+  offset = neg_ℤ (pos (2 ^ 63));
+}

@@ -1,5 +1,6 @@
 pub mod JsonArp
 pub mod JsonComments
+pub mod JsonCounts
 pub mod JsonFacts
 pub mod JsonIcmp
 pub mod JsonInterface
@@ -7,6 +8,7 @@ pub mod JsonOptions
 pub mod JsonPacket
 pub mod JsonSummary
 pub mod JsonTexts
+pub mod JsonTimeline
 pub mod JsonTimes
 pub mod Members
 pub mod Tokens

@@ -4,12 +4,13 @@ ghost use Rattle.std.specs.Prelude.{◌≡◌, OnOk};
 ghost use Rattle.std.specs.Io.KnownBytes.{Appends};
 ghost use Rattle.std.specs.Net.Socket.{socket_ip, socket_port};
 ghost use Rattle.std.specs.Net.Text.{ip_text};
+ghost use Rattle.capture_json.specs.JsonCounts.{count_members};
 ghost use Rattle.capture_json.specs.Members.{object_of, whole_number};
 ghost use Rattle.capture_json.specs.Tokens.{later_row, push, put, rows_text, tokens_in, with_members};
 ghost use Rattle.serde_json.specs.Data.{string};
 ghost use Rattle.serde_json.specs.Written.{compact_text};
 ghost use Rattle.capture_json.specs.JsonSummary as specs;
-ghost use Rattle.capture_json.specs.JsonSummary.{conversation_data, conversation_members, count_members, uncounted_members};
+ghost use Rattle.capture_json.specs.JsonSummary.{conversation_data, conversation_members, uncounted_members};
 
 use crate::Line;
 use crate::protocol::put_ip_protocol;

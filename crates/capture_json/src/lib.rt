@@ -21,6 +21,7 @@ mod fragment;
 mod icmp;
 mod icmpv6_fields;
 mod interface;
+mod intervals;
 #[doc(hidden)]
 pub mod laws;
 mod line;

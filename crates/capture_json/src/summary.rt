@@ -12,6 +12,7 @@ use crate::endpoints::write_endpoints;
 use crate::facts::put_facts;
 use crate::files::put_files;
 use crate::flows::{put_count, put_uncounted, write_rows};
+use crate::intervals::put_timeline;
 use crate::text::{as_text, fill_with_underscores, write_line, write_part};
 use crate::totals::put_totals;
 use crate::{Captures, Line};
@@ -23,8 +24,8 @@ use std::io;
 use std::io::Write;
 
 /// Writes the summary as a JSON object of the type `summary`, on its own line. The object contains the facts of the capture, the numbers of
-/// packets, bytes and conversations, the times, and each table under its name. If `captures.only` is `None`, the facts are left out. The
-/// conversations and the endpoints are written row by row, so that the memory does not grow with their number.
+/// packets, bytes and conversations, the times, each table under its name, and the timeline. If `captures.only` is `None`, the facts are
+/// left out. The conversations and the endpoints are written row by row, so that the memory does not grow with their number.
 ///
 /// # Errors
 ///
@@ -53,8 +54,8 @@ pub fn write_summary<W: Write>(
     )
 }
 
-/// Writes everything before the first conversation: the type, the facts of the capture, the totals, the tables, and the beginning of the
-/// array of conversations.
+/// Writes everything before the first conversation: the type, the facts of the capture, the totals, the tables, the timeline, and the
+/// beginning of the array of conversations.
 fn write_tables<W: Write>(
     output: &mut W,
     alloc: Global,
@@ -94,7 +95,7 @@ fn write_end<W: Write>(
     write_line(output, line)
 }
 
-/// Writes the type, the facts of the capture, the totals and the tables.
+/// Writes the type, the facts of the capture, the totals, the tables and the timeline.
 fn put_tables(
     line: &mut Line,
     room: &mut Vec<u8>,
@@ -109,7 +110,8 @@ fn put_tables(
     put_table(line, room, "link_types", &summary.links())?;
     put_protocols(line, room, &summary.protocols())?;
     put_table(line, room, "checksums", &summary.verdicts())?;
-    put_table(line, room, "refusals", &summary.refusals())
+    put_table(line, room, "refusals", &summary.refusals())?;
+    put_timeline(line, room, summary.timeline())
 }
 
 /// Writes a table that counts packets: an object with a member for each row.

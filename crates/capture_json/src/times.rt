@@ -1,12 +1,13 @@
 //! Times as numbers: whole seconds, and the nanoseconds after them.
 
-ghost use Rattle.std.specs.Prelude.{◌≡◌, ◌<◌, OnOk};
-ghost use Rattle.capture_file.specs.PacketTimes.{nanoseconds_per_second};
+ghost use Rattle.std.specs.Prelude.{◌≡◌, ◌<◌, ◌*◌, ◌-◌, ◌^◌, OnOk, min};
+ghost use Rattle.capture_file.specs.PacketTimes.{nanoseconds_of, nanoseconds_per_second};
 ghost use Rattle.capture_json.specs.JsonTimes as specs;
-ghost use Rattle.capture_json.specs.JsonTimes.{instant_members, nanoseconds_of_second, seconds_since_1970};
+ghost use Rattle.capture_json.specs.JsonTimes.{instant_members, nanoseconds_members, nanoseconds_of_second, seconds_since_1970};
 ghost use Rattle.capture_json.specs.Tokens.{tokens_in, with_members};
 
 use crate::Line;
+use capture_file::pcapng::TimeResolution;
 use capture_file::{NANOSECONDS_PER_SECOND, PacketTime};
 use capture_words::nanoseconds_since_1970;
 use jiff_core::num::div_rem_floor;
@@ -49,5 +50,41 @@ fn nearest_long(number: i128) -> i64
         i64::MAX
     } else {
         number as i64
+    }
+}
+
+/// Writes a number of nanoseconds as two numbers with these names: the whole seconds, and the nanoseconds after them.
+pub fn put_nanoseconds(
+    line: &mut Line,
+    seconds_name: &str,
+    nanoseconds_name: &str,
+    nanoseconds: u128,
+) -> Result<(), AllocError>
+    ensures { OnOk result (tokens_in line.new
+        ≡ with_members (nanoseconds_members seconds_name.now nanoseconds_name.now nanoseconds) (tokens_in line.old)) }
+{
+    let seconds = nanoseconds / NANOSECONDS_PER_SECOND;
+    line.put_number(seconds_name, number_of(seconds))?;
+    let rest = (nanoseconds % NANOSECONDS_PER_SECOND) as u64;
+    line.put_number(nanoseconds_name, rest)
+}
+
+/// Returns the number, limited to the greatest unsigned number of 64 bits.
+pub fn number_of(number: u128) -> u64
+    ensures { result ≡ min number (2 ^ 64 - 1) }
+{
+    u64::try_from(number).unwrap_or(u64::MAX)
+}
+
+/// The time at this number of nanoseconds, which are counted as `capture_file::nanoseconds_of` counts them.
+pub fn time_at(nanoseconds: u128) -> PacketTime
+    ensures value { result ≡ specs.time_at nanoseconds }
+    ensures same { nanoseconds < 2 ^ 64 * nanoseconds_per_second → nanoseconds_of result ≡ nanoseconds }
+{
+    PacketTime {
+        seconds: number_of(nanoseconds / NANOSECONDS_PER_SECOND),
+        fraction: (nanoseconds % NANOSECONDS_PER_SECOND) as u64,
+        resolution: TimeResolution::PowerOfTen(9),
+        offset: i64::MIN,
     }
 }

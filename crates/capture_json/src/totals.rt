@@ -1,6 +1,6 @@
 //! The totals of the summary, before its tables.
 
-ghost use Rattle.std.specs.Prelude.{◌≡◌, ◌-◌, ◌^◌, OnOk, codes, min};
+ghost use Rattle.std.specs.Prelude.{◌≡◌, OnOk, codes};
 ghost use Rattle.capture_json.specs.Tokens.{put, tokens_in, with_members};
 ghost use Rattle.serde_json.specs.Data.{string};
 ghost use Rattle.capture_words.specs.AbsoluteTime.{absolute_text};
@@ -11,8 +11,8 @@ ghost use Rattle.capture_file.specs.PacketTimes.{nanoseconds_between};
 
 use crate::Line;
 use crate::text::put_written;
-use crate::times::put_instant;
-use capture_file::{NANOSECONDS_PER_SECOND, PacketTime, nanoseconds_of};
+use crate::times::{number_of, put_instant, put_nanoseconds};
+use capture_file::{PacketTime, nanoseconds_of};
 use capture_summary::{Count, Rates, Summary, TimeSpan};
 use capture_words::{write_absolute, write_elapsed};
 use std::alloc::AllocError;
@@ -89,15 +89,8 @@ fn put_rates(line: &mut Line, rates: Option<Rates>) -> Result<(), AllocError>
     }
 }
 
-/// Returns the number, limited to the greatest unsigned number of 64 bits.
-fn number_of(number: u128) -> u64
-    ensures { result ≡ min number (2 ^ 64 - 1) }
-{
-    u64::try_from(number).unwrap_or(u64::MAX)
-}
-
 /// Writes the date and time of a packet under a name.
-fn put_date(line: &mut Line, room: &mut Vec<u8>, name: &str, time: PacketTime) -> io::Result<()>
+pub fn put_date(line: &mut Line, room: &mut Vec<u8>, name: &str, time: PacketTime) -> io::Result<()>
     ensures { OnOk result (tokens_in line.new ≡ put name.now (string (absolute_text time)) (tokens_in line.old)) }
 {
     room.clear();
@@ -121,10 +114,12 @@ fn put_duration_numbers(line: &mut Line, span: TimeSpan) -> Result<(), AllocErro
     ensures { OnOk result (tokens_in line.new ≡ with_members (duration_members span.earliest span.latest) (tokens_in line.old)) }
 {
     let nanoseconds = nanoseconds_in(span);
-    let seconds = nanoseconds / NANOSECONDS_PER_SECOND;
-    line.put_number("duration_seconds", number_of(seconds))?;
-    let rest = (nanoseconds % NANOSECONDS_PER_SECOND) as u64;
-    line.put_number("duration_nanoseconds", rest)
+    put_nanoseconds(
+        line,
+        "duration_seconds",
+        "duration_nanoseconds",
+        nanoseconds,
+    )
 }
 
 /// The nanoseconds from the earliest packet to the latest.

@@ -28,6 +28,8 @@ pub struct Parts {
     pub format: Format,
     /// The greatest number of conversations that the summary lists. It lists the busiest conversations.
     pub top: usize,
+    /// Whether a summary of text has the table of the timeline. A summary of JSON always has the timeline.
+    pub timeline: bool,
     /// Whether the exit status reports that a packet has a wrong checksum or was refused.
     pub check: bool,
     /// The requested number of lines, or `None` if no number is requested. The report ends after this many lines, and reads no further
@@ -43,7 +45,7 @@ impl Parts {
     /// - `check`: the exit status reports packets with a wrong checksum and refused packets.
     ///
     /// All packets are chosen, without a limit. The report is text without details. It shows times since the first packet, and lists the
-    /// ten busiest conversations.
+    /// ten busiest conversations, without the table of the timeline.
     pub fn from_flags(
         summary_alone: bool,
         packets_alone: bool,
@@ -57,6 +59,7 @@ impl Parts {
         ensures summary { result.summary ≡ not packets_alone }
         ensures format { result.format ≡ Format.Text }
         ensures top { result.top ≡ default_top }
+        ensures timeline { result.timeline ≡ false }
         ensures check { result.check ≡ check }
         ensures limit { result.limit ≡ None }
     {
@@ -73,6 +76,7 @@ impl Parts {
             summary: !packets_alone,
             format: Format::Text,
             top: BUSIEST,
+            timeline: false,
             check,
             limit: None,
         }

@@ -4,3 +4,4 @@ mod ReadLemmas
 mod ReportLemmas
 mod RunExamples
 mod RunLemmas
+mod TimelineLemmas

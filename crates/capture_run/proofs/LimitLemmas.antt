@@ -44,12 +44,12 @@ two_rows (x ∷ xs) (suc place) (suc i) (suc j) other = two_rows xs place i j (�
 -- a packet that was counted increases the number that is limited by at most one
 limited_by_one : (given : Lines) (packet : Packet) (info : CaptureInfo) (before after : SummaryTables) → CountsRead packet info before after
     → limited given after ≤ limited given before + 1
-limited_by_one lines.All packet info before after read = omega (arith, read.counts.packets)
+limited_by_one lines.All packet info before after read = omega (arith, read.counts.rows.packets)
 limited_by_one lines.Wrong packet info before after read =
-    rw read.counts.verdicts (
+    rw read.counts.rows.verdicts (
     two_rows before.verdicts (verdict_place (verdict_kind packet.verdict)) (verdict_place kinds.Wrong) (verdict_place kinds.Refused)
     (λ same. absurd (cc same)))
-limited_by_one lines.None packet info before after read = omega (arith, read.counts.packets)
+limited_by_one lines.None packet info before after read = omega (arith, read.counts.rows.packets)
 
 limited_by_chosen : (given : Lines) (choice : Choice) (packet : Packet) (info : CaptureInfo) (before after : SummaryTables)
     → CountsChosen choice packet info before after → limited given after ≤ limited given before + 1

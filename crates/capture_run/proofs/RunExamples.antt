@@ -11,6 +11,7 @@ use Rattle.capture_file.specs.PcapngSteps.{PassesBlocks, ReadsStep}
 use Rattle.capture_file.specs.declared.classic.capture_header.CaptureHeader.{CaptureHeader}
 use Rattle.capture_file.specs.declared.classic.read.NextRecord.TheVariants as records
 use Rattle.capture_file.specs.declared.classic.record_header.Resolution.TheVariants.{Microseconds}
+use Rattle.capture_file.specs.PacketTimes.{nanoseconds_of}
 use Rattle.capture_file.specs.declared.packet_time.PacketTime.{PacketTime}
 use Rattle.capture_file.specs.declared.pcapng.block_body.BlockBody.TheVariants as bodies
 use Rattle.capture_file.specs.declared.pcapng.interface_description.InterfaceDescription.{InterfaceDescription}
@@ -28,15 +29,18 @@ use Rattle.capture_packet.specs.Verdicts.{untested}
 use Rattle.capture_packet.specs.declared.content.Content.TheVariants.{NotIp}
 use Rattle.capture_packet.specs.declared.packet.Packet.{Packet}
 use Rattle.capture_summary.specs.Protocols.{content_protocol, protocol_place}
-use Rattle.capture_request.specs.Report.{CountsEach, IsPacketOf}
+use Rattle.capture_request.specs.Report.{CountsEach, IsPacketOf, info_of}
 use Rattle.capture_request.specs.declared.exit_status.ExitStatus.TheVariants.{Success}
 use Rattle.capture_request.specs.declared.parts.Format.TheVariants as formats
 use Rattle.capture_request.specs.declared.parts.Lines.TheVariants as lines
 use Rattle.capture_request.specs.declared.parts.Parts.{Parts}
 use Rattle.capture_request.specs.declared.reached.Reached.TheVariants.{End}
-use Rattle.capture_run.specs.Captures.{Given, IsRun, Progress, ReportsOpened, at_start, files_after}
+use Rattle.capture_run.proofs.TimelineLemmas.{timeline_from_start}
+use Rattle.capture_run.specs.Captures.{Given, IsRun, Progress, ReportsEach, ReportsOpened, at_start, files_after}
 use Rattle.capture_run.specs.PacketsText.{IsPacketText, WritesCapture}
+use Rattle.capture_summary.proofs.SummaryExamples.{counts_first, first_in_timeline}
 use Rattle.capture_summary.specs.Choice.{IsChosen, every_packet}
+use Rattle.capture_summary.specs.Events.{event_of}
 use Rattle.capture_summary.specs.FlowTable.{table_counted}
 use Rattle.capture_summary.specs.Kinds.{link_kind, link_place, verdict_kind, verdict_place}
 use Rattle.capture_summary.specs.Files.{no_file_packets, no_files}
@@ -47,6 +51,8 @@ use Rattle.capture_file.specs.Texts.{interface_added, no_texts, section_begun}
 use Rattle.capture_numbers.specs.declared.byte_order.ByteOrder.TheVariants.{BigEndian, LittleEndian}
 use Rattle.capture_words.specs.declared.times.Times.TheVariants as times
 use Rattle.ip_part.specs.Options.{options_within}
+use Rattle.timeline.specs.Counts.{counts_with, no_packets}
+use Rattle.timeline.specs.declared.event.Event.{Event}
 use Rattle.transport_part.specs.declared.checksum_verdict.Untested.TheVariants.{OtherProtocol}
 
 -- ---- the file: a section without options, and one interface
@@ -199,6 +205,7 @@ summary_alone = record {
   summary = true;
   format = formats.Text;
   top = 10;
+  timeline = false;
   check = true;
   limit = None;
 }
@@ -240,6 +247,10 @@ opened shown row =
       within = λ none. none;
     }
 
+reports_file : ReportsEach ReadsFile summary_alone 1 0 (codes "a.pcapng" ∷ []) at_start after_file [] []
+reports_file =
+    (after_file, [], [], [], [], ([], (Some (Some (section ++ interface)), refl, opened _ _), refl), (refl, refl, refl), refl, refl)
+
 -- the summary of the file shows its interface
 summary_of_file : IsRun ReadsFile summary_alone (codes "a.pcapng" ∷ []) Success
     (codes "file type pcapng, byte order little-endian, interfaces 1\ninterface 0, snap length 262144, time resolution 10^-9 s\npackets 0, bytes 0\nconversations 0\n") []
@@ -247,7 +258,8 @@ unfolding options_within digits
 summary_of_file = record {
   after = after_file;
   captures = [];
-  reports = (after_file, [], [], [], [], ([], (Some (Some (section ++ interface)), refl, opened _ _), refl), (refl, refl, refl), refl, refl);
+  reports = reports_file;
+  timeline = timeline_from_start ReadsFile summary_alone 1 (codes "a.pcapng" ∷ []) after_file [] [] reports_file;
   whole = refl;
   is_final = refl;
 }
@@ -282,6 +294,29 @@ opened_again shown =
       within = λ none. none;
     }
 
+reports_two : ReportsEach ReadsFile summary_alone 2 0 (codes "a" ∷ codes "b" ∷ []) at_start after_both [] []
+reports_two = (
+  after_row (Some (codes "a")),
+  [],
+  [],
+  [],
+  [],
+  ([], (Some (Some (section ++ interface)), refl, opened _ _), refl),
+  (
+    after_both,
+    [],
+    [],
+    [],
+    [],
+    ([], (Some (Some (section ++ interface)), refl, opened_again _), refl),
+    (refl, refl, refl),
+    refl,
+    refl,
+  ),
+  refl,
+  refl,
+)
+
 -- the summary of two files has a row for each of them
 summary_of_two : IsRun ReadsFile summary_alone (codes "a" ∷ codes "b" ∷ []) Success
     (codes "packets 0, bytes 0\nconversations 0\n" ++ files_table after_both.files) []
@@ -289,27 +324,8 @@ unfolding options_within digits
 summary_of_two = record {
   after = after_both;
   captures = [];
-  reports = (
-    after_row (Some (codes "a")),
-    [],
-    [],
-    [],
-    [],
-    ([], (Some (Some (section ++ interface)), refl, opened _ _), refl),
-    (
-      after_both,
-      [],
-      [],
-      [],
-      [],
-      ([], (Some (Some (section ++ interface)), refl, opened_again _), refl),
-      (refl, refl, refl),
-      refl,
-      refl,
-    ),
-    refl,
-    refl,
-  );
+  reports = reports_two;
+  timeline = timeline_from_start ReadsFile summary_alone 2 (codes "a" ∷ codes "b" ∷ []) after_both [] [] reports_two;
   whole = refl;
   is_final = refl;
 }
@@ -358,6 +374,10 @@ packet = in_no_tunnel (NotIp (LinkType 147)) (untested OtherProtocol)
 is_packet : IsPacketOf false in_file packet
 is_packet = refl
 
+-- the packet, as the timeline counts it
+abbrev event : Event
+event = event_of (content_protocol packet.content) (verdict_kind packet.verdict) (info_of in_file)
+
 -- the counts after the packet
 abbrev counted : SummaryTables
 counted = record {
@@ -369,6 +389,7 @@ counted = record {
   links = counted_at (link_place (link_kind (Some (Err 147)))) empty_tables.links;
   refusals = empty_tables.refusals;
   flows = table_counted None 1 (Some time) empty_tables.flows;
+  timeline = first_in_timeline (nanoseconds_of time) (counts_with event no_packets);
   file = record { all = record { packets = 1; bytes = 1 }; wrong = 0; refused = 0 };
 }
 
@@ -391,15 +412,18 @@ counts_packet = (
         flow = None;
         is_flow = refl;
         counts = record {
-          packets = refl;
-          bytes = refl;
-          span = refl;
-          protocols = refl;
-          verdicts = refl;
-          links = refl;
-          refusals = refl;
-          flows = refl;
-          file = refl;
+          rows = record {
+            packets = refl;
+            bytes = refl;
+            span = refl;
+            protocols = refl;
+            verdicts = refl;
+            links = refl;
+            refusals = refl;
+            flows = refl;
+            file = refl;
+          };
+          timeline = counts_first event (nanoseconds_of time) refl;
         };
       },
     );
@@ -518,22 +542,30 @@ reported shown =
       within = λ none. none;
     }
 
+-- each name opens the capture
+abbrev ReadsPacket : List ℕ → Given → Type 0
+ReadsPacket name given = given ≡ Some (Some (file_header ++ one_byte))
+
+reports_packet : ReportsEach ReadsPacket lines_alone 1 0 (codes "a.pcap" ∷ []) at_start after_capture line []
+reports_packet = (
+  after_capture,
+  line,
+  [],
+  [],
+  [],
+  (line, (Some (Some (file_header ++ one_byte)), refl, reported _), refl),
+  (refl, refl, refl),
+  refl,
+  refl,
+)
+
 -- the line of the packet is the whole report
-line_of_packet : IsRun (λ name given. given ≡ Some (Some (file_header ++ one_byte))) lines_alone (codes "a.pcap" ∷ []) Success line []
+line_of_packet : IsRun ReadsPacket lines_alone (codes "a.pcap" ∷ []) Success line []
 line_of_packet = record {
   after = after_capture;
   captures = line;
-  reports = (
-    after_capture,
-    line,
-    [],
-    [],
-    [],
-    (line, (Some (Some (file_header ++ one_byte)), refl, reported _), refl),
-    (refl, refl, refl),
-    refl,
-    refl,
-  );
+  reports = reports_packet;
+  timeline = timeline_from_start ReadsPacket lines_alone 1 (codes "a.pcap" ∷ []) after_capture line [] reports_packet;
   whole = refl;
   is_final = refl;
 }

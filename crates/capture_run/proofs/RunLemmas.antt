@@ -12,6 +12,7 @@ use Rattle.capture_run.specs.Captures.{Given, IsRun, Progress, ReportsEach, Repo
 use Rattle.capture_request.specs.ErrorLines.{line_name}
 use Rattle.capture_request.specs.ExitStatuses.{final_status}
 use Rattle.capture_request.specs.Limits.{is_full, limited}
+use Rattle.capture_run.proofs.TimelineLemmas.{timeline_from_start}
 use Rattle.capture_run.specs.PacketsText.{end_text}
 use Rattle.capture_run.specs.declared.capture_reports.CaptureReports.{CaptureReports}
 use Rattle.capture_request.specs.declared.exit_status.ExitStatus.{ExitStatus}
@@ -215,6 +216,8 @@ run_result Reads parts names named start reports status a b c e f same tables fi
         after = progress_of reports;
         captures = each.text;
         reports = all;
+        timeline = timeline_from_start Reads parts (length (map named names)) (captures_of (map named names)) (progress_of reports)
+            each.text each.lines all;
         whole = rw (length-map names named) refl;
         is_final = rw (kept ∙ same) at final;
       },

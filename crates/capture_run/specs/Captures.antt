@@ -2,6 +2,7 @@
 use Rattle.std.specs.Prelude.{◌≡◌, ◌↔◌, ℕ, ◌+◌, ◌==◌, nat_lt, Bool, true, false, IsTrue, if◌then◌else◌, List, [], ◌∷◌, ◌++◌, codes, length, MatchBool, Option, Some, None, Result}
 use Rattle.std.specs.Io.KnownBytes.{Appends}
 use Rattle.std.specs.List.{concat}
+use Rattle.capture_file.specs.CapturePackets.{FilePacket}
 use Rattle.capture_file.specs.declared.reader.capture_reader.CaptureReader.{CaptureReader}
 use Rattle.capture_json.specs.JsonPacket.{file_members, json_line}
 use Rattle.capture_summary.specs.Files.{Files, no_files, with_file}
@@ -14,6 +15,7 @@ use Rattle.capture_request.specs.Limits.{EndsByLimit, IsWithin, is_full, limited
 use Rattle.capture_request.specs.Names.{shown_name, without_mark}
 use Rattle.capture_run.specs.PacketsText.{IsCaptureReport, end_text, has_headings}
 use Rattle.capture_run.specs.Runs.{EndsAtHeader}
+use Rattle.capture_run.specs.Timelines.{HasTimeline}
 use Rattle.capture_run.specs.declared.capture_reports.CaptureReports.{CaptureReports}
 use Rattle.capture_request.specs.declared.exit_status.ExitStatus.{ExitStatus}
 use Rattle.capture_request.specs.declared.exit_status.ExitStatus.TheVariants.{Failed, Success}
@@ -157,12 +159,54 @@ abbrev pub captures_of : List (List ℕ) → List (List ℕ)
 captures_of [] = codes "-" ∷ []
 captures_of (name ∷ names) = name ∷ names
 
+-- ---- the packets of all captures
+
+-- all packets that were read from a capture; there are none if its beginning was not accepted
+abbrev pub packets_read : (parts : Parts) (left still_left : Option (List ℕ)) (ended : Result Reached CaptureError)
+    (before after : SummaryTables) (text : List ℕ) (reader : Option CaptureReader)
+    → IsCaptureReport parts left still_left ended before after reader text → List FilePacket
+packets_read parts left still_left ended before after text None report = []
+packets_read parts left still_left ended before after text (Some last) report = report.writes.packets
+
+-- all packets that were read from a capture; there are none if it can't be opened
+abbrev pub packets_given : (parts : Parts) (shown row : Option (List ℕ)) (name : List ℕ) (before after : Progress) (text : List ℕ)
+    (lines : List (List ℕ)) (given : Given) → ReportsGiven parts shown row name given before after text lines → List FilePacket
+packets_given parts shown row name before after text lines None reports = []
+packets_given parts shown row name before after text lines (Some left) reports =
+    packets_read parts left reports.still_left reports.ended before.summary after.summary text reports.reader reports.is_report
+
+-- all packets that were read from a capture; there are none if it is skipped
+abbrev pub packets_headed : (Reads : List ℕ → Given → Type 0) (parts : Parts) (count place : ℕ) (name : List ℕ) (before after : Progress)
+    (text : List ℕ) (lines : List (List ℕ)) (is_skipped : Bool)
+    → MatchBool is_skipped ((after ≡ before) × (text ≡ []) × (lines ≡ []))
+    ((packets : List ℕ) × ReportsNamed Reads parts (line_name count name) (row_name count name) name before after packets lines
+    × (text ≡ heading_of parts count place name ++ packets))
+    → List FilePacket
+packets_headed Reads parts count place name before after text lines true skips = []
+packets_headed Reads parts count place name before after text lines false reports =
+    packets_given parts (line_name count name) (row_name count name) name before after reports.0 lines reports.1.0 reports.1.2
+
+-- all packets that were read from the captures with these names, in their order
+abbrev pub packets_of_each : (Reads : List ℕ → Given → Type 0) (parts : Parts) (count place : ℕ) (names : List (List ℕ))
+    (before after : Progress) (text : List ℕ) (lines : List (List ℕ))
+    → ReportsEach Reads parts count place names before after text lines → List FilePacket
+packets_of_each Reads parts count place [] before after text lines reports = []
+packets_of_each Reads parts count place (name ∷ names) before after text lines reports =
+    packets_headed Reads parts count place name before reports.0 reports.1 reports.3
+    (is_full parts.limit (limited parts.lines before.summary)) reports.5
+    ++ packets_of_each Reads parts count (place + 1) names reports.0 after reports.2 reports.4 reports.6
+
+-- ---- the run
+
 -- The report of a run with this exit status. `text` is the text of each capture, and then the summary if it is requested and the beginning
--- of a capture was accepted. `lines` are the lines of all errors, in the order of the captures.
+-- of a capture was accepted. `lines` are the lines of all errors, in the order of the captures. The timeline in the summary is the timeline
+-- of the chosen packets that were read, in their order.
 pub record IsRun (Reads : List ℕ → Given → Type 0) (parts : Parts) (names : List (List ℕ)) (status : ExitStatus) (text : List ℕ) (lines : List (List ℕ)) : Type 0 where
   pub after : Progress
   pub captures : List ℕ
   pub reports : ReportsEach Reads parts (length names) 0 (captures_of names) at_start after captures lines
+  pub timeline : HasTimeline parts.choice (packets_of_each Reads parts (length names) 0 (captures_of names) at_start after captures lines reports)
+      after.summary.timeline
   pub whole : text ≡ captures ++ (if after.is_empty then [] else end_text parts (length names) after.capture after.files after.summary)
   pub is_final : status ≡ final_status parts.check after.status after.summary
 

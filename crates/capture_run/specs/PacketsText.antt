@@ -17,6 +17,7 @@ use Rattle.capture_summary.specs.Files.{Files}
 use Rattle.capture_summary.specs.SummaryTables.{SummaryTables, file_started, has_fault}
 use Rattle.capture_text.specs.FilesText.{files_table}
 use Rattle.capture_text.specs.SummaryText.{summary_text}
+use Rattle.capture_text.specs.TimelineText.{timeline_table}
 use Rattle.capture_request.specs.declared.parts.Format.{Format}
 use Rattle.capture_request.specs.declared.parts.Format.TheVariants as formats
 use Rattle.capture_request.specs.declared.parts.Lines.{Lines}
@@ -101,11 +102,16 @@ has_headings lines.None count = false
 abbrev pub empty_line : Lines → ℕ → SummaryTables → List ℕ
 empty_line lines count tables = if has_packet_line lines tables || has_headings lines count then codes "\n" else []
 
--- The summary as text: the empty line, the facts about the capture if only one was read, the tables, and the table of files. `count` is
--- the number of named captures.
+-- the table of the timeline; it is left out unless it is requested
+abbrev pub timeline_part : Parts → SummaryTables → List ℕ
+timeline_part parts tables = if parts.timeline then timeline_table tables.timeline else []
+
+-- The summary as text: the empty line, the facts about the capture if only one was read, the tables, the table of the timeline, and the
+-- table of files. `count` is the number of named captures.
 abbrev pub text_of_summary : Parts → ℕ → Option CaptureReader → Files → SummaryTables → List ℕ
 text_of_summary parts count capture files tables =
-    empty_line parts.lines count tables ++ (facts_text capture ++ (summary_text parts.top tables ++ files_table files))
+    empty_line parts.lines count tables ++ (facts_text capture ++ (summary_text parts.top tables ++ (timeline_part parts tables
+    ++ files_table files)))
 
 -- the summary in the requested format: as text, or as a JSON object
 abbrev pub summary_in : Format → Parts → ℕ → Option CaptureReader → Files → SummaryTables → List ℕ

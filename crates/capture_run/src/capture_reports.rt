@@ -6,7 +6,7 @@ ghost use Rattle.capture_json.specs.JsonPacket.{json_line};
 ghost use Rattle.capture_json.specs.JsonSummary.{summary_members};
 ghost use Rattle.capture_run.specs.Captures.{files_after, only_capture, progress_of};
 ghost use Rattle.capture_request.specs.Endings.{status_of};
-ghost use Rattle.capture_run.specs.PacketsText.{IsCaptureReport, empty_line, end_text, has_headings, has_packet_line, summary_in};
+ghost use Rattle.capture_run.specs.PacketsText.{IsCaptureReport, empty_line, end_text, has_headings, has_packet_line, summary_in, timeline_part};
 ghost use Rattle.capture_summary.specs.Endpoints.{busiest_endpoints};
 ghost use Rattle.capture_summary.specs.Ranking.{busiest_of};
 ghost use Rattle.capture_request.specs.ExitStatuses.{final_status, greater};
@@ -27,9 +27,9 @@ use crate::{CaptureError, ExitStatus, Format, Lines, MAX_PACKET_LEN, Parts, Reac
 use capture_file::reader::CaptureReader;
 use capture_json::Captures;
 use capture_summary::{Busiest, FileCount, FileTable, Summary};
-use capture_text::{write_files, write_summary};
+use capture_text::{write_files, write_summary, write_timeline};
 use capture_words::write_facts;
-use std::alloc::Global;
+use std::alloc::{AllocError, Global};
 use std::hash::RandomState;
 use std::io;
 use std::io::{Read, Write};
@@ -55,24 +55,32 @@ pub(crate) struct CaptureReports<'a> {
 impl<'a> CaptureReports<'a> {
     /// Returns the state before the first capture. `state` provides the keys for hashing flows. With random keys, no capture can be crafted
     /// to slow down the search for a flow.
-    pub fn new(alloc: Global, state: RandomState, parts: Parts) -> CaptureReports<'a>
-        ensures parts { result.parts ≡ parts }
-        ensures summary { result.summary ≡ empty_tables }
-        ensures status { result.status ≡ ExitStatus.Success }
-        ensures empty { result.is_empty ≡ true }
-        ensures capture { result.capture ≡ None }
-        ensures files { result.files ≡ no_files }
-        ensures unwritten { result.unwritten ≡ None }
+    ///
+    /// # Errors
+    ///
+    /// `AllocError` if no memory is left, and for no other reason.
+    pub fn new(
+        alloc: Global,
+        state: RandomState,
+        parts: Parts,
+    ) -> Result<CaptureReports<'a>, AllocError>
+        ensures parts { IfOk result (λ reports. reports.parts ≡ parts) }
+        ensures summary { IfOk result (λ reports. reports.summary ≡ empty_tables) }
+        ensures status { IfOk result (λ reports. reports.status ≡ ExitStatus.Success) }
+        ensures empty { IfOk result (λ reports. reports.is_empty ≡ true) }
+        ensures capture { IfOk result (λ reports. reports.capture ≡ None) }
+        ensures files { IfOk result (λ reports. reports.files ≡ no_files) }
+        ensures unwritten { IfOk result (λ reports. reports.unwritten ≡ None) }
     {
-        CaptureReports {
+        Ok(CaptureReports {
             parts,
-            summary: Summary::new(alloc, state),
+            summary: Summary::new(alloc, state)?,
             status: ExitStatus::Success,
             is_empty: true,
             capture: None,
             files: FileTable::new(),
             unwritten: None,
-        }
+        })
     }
 
     /// Reads a capture, and adds its chosen packets to the counts of the captures before it. The call writes the line of each chosen packet
@@ -259,8 +267,9 @@ impl<'a> CaptureReports<'a> {
         capture_json::write_summary(output, alloc, &captures, &self.summary, busiest)
     }
 
-    /// Writes the summary as text: the facts about the capture if only one capture was read, the tables, and the table of files. An empty
-    /// line can come first, as `write_empty_line` describes. `count` is the number of named captures.
+    /// Writes the summary as text: the facts about the capture if only one capture was read, the tables, the table of the timeline if it is
+    /// requested, and the table of files. An empty line can come first, as `write_empty_line` describes. `count` is the number of named
+    /// captures.
     fn write_text_summary<W: Write>(
         &self,
         count: usize,
@@ -270,21 +279,33 @@ impl<'a> CaptureReports<'a> {
         ensures { OnOk result (Appends (W.contents output.old) (W.contents output.new)
             (empty_line self.now.parts.lines count self.now.summary ++ (facts_text self.now.capture
             ++ (tables_text busiest.now.conversations.items busiest.now.endpoints.items self.now.summary
-            ++ files_table self.now.files)))) }
+            ++ (timeline_part self.now.parts self.now.summary ++ files_table self.now.files))))) }
     {
         write_empty_line(output, self.parts.lines, count, &self.summary)?;
         Ok(self.write_facts_and_tables(busiest, output)?)
     }
 
-    /// Writes the facts about the capture, if only one capture was read, then the tables, and then the table of files.
+    /// Writes the facts about the capture, if only one capture was read, then the tables, the table of the timeline if it is requested, and
+    /// the table of files.
     fn write_facts_and_tables<W: Write>(&self, busiest: &Busiest, output: &mut W) -> io::Result<()>
         ensures { OnOk result (Appends (W.contents output.old) (W.contents output.new) (facts_text self.now.capture
             ++ (tables_text busiest.now.conversations.items busiest.now.endpoints.items self.now.summary
-            ++ files_table self.now.files))) }
+            ++ (timeline_part self.now.parts self.now.summary ++ files_table self.now.files)))) }
     {
         write_facts(output, &self.capture)?;
         write_summary(output, &self.summary, busiest)?;
+        self.write_timeline(output)?;
         write_files(output, &self.files)
+    }
+
+    /// Writes the table of the timeline, if it is requested.
+    fn write_timeline<W: Write>(&self, output: &mut W) -> io::Result<()>
+        ensures { OnOk result (Appends (W.contents output.old) (W.contents output.new) (timeline_part self.now.parts self.now.summary)) }
+    {
+        if !self.parts.timeline {
+            return Ok(());
+        }
+        write_timeline(output, self.summary.timeline())
     }
 
     /// Returns the exit status of the run. It is `Fault` if a check is requested, and a packet has a wrong checksum or was refused.

@@ -51,8 +51,8 @@ pub fn run<O: Open, W: Write, E: Write>(
         (length sources.now.names.now) (specs.captures_of (map (λ name. name.now) sources.now.names.now)) at_start
         (E.contents outputs.old.errors) (E.contents outputs.new.errors)) }
 {
-    let reports = CaptureReports::new(outputs.alloc, state, parts);
-    let reports = report_captures(sources, reports, buffer, outputs)?;
+    let start = CaptureReports::new(outputs.alloc, state, parts)?;
+    let reports = report_captures(sources, start, buffer, outputs)?;
     let status = reports.finish(sources.names.len(), outputs.alloc, &mut outputs.report)?;
     match reports.into_unwritten() {
         Some(error) => Err(WriteError::Write(error)),

@@ -3,6 +3,7 @@ mod CountedPacketsLemmas
 mod EndpointOrder
 mod EndpointRows
 mod EndpointTable
+mod EventLemmas
 mod FlowLemmas
 mod FlowPlacesLemmas
 mod NetworkLemmas

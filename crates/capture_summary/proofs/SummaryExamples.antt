@@ -1,10 +1,11 @@
 -- Worked examples of what a summary counts, so that a wrong definition fails before any code does.
-use Rattle.std.proofs.Common.{◌≡◌, ℕ, [], ◌∷◌, None, Some, Ok, arith, codes, inl, inr, pos, refl, replicate, suc, zero}
+use Rattle.std.proofs.Common.{◌≡◌, ◌∙◌, ℕ, [], ◌∷◌, None, Some, Ok, ap, arith, codes, inl, inr, pos, refl, replicate, suc, zero}
 use Rattle.std.specs.declared.net.ip_addr.IpAddr.TheVariants as ip_addr
 use Rattle.std.specs.declared.net.socket_addr.SocketAddr.{SocketAddr}
 use Rattle.std.specs.declared.net.socket_addr.SocketAddr.TheVariants as socket_addr
 use Rattle.std.specs.Fmt.{digits}
 use Rattle.std.specs.Net.Addr.{ipv4_bits}
+use Rattle.std.specs.Prelude.{◌+◌, slice_index_or}
 use Rattle.capture_file.specs.declared.packet_time.PacketTime.{PacketTime}
 use Rattle.capture_file.specs.declared.pcapng.time_resolution.TimeResolution.TheVariants.{PowerOfTen}
 use Rattle.capture_packet.proofs.PacketExamples.{packet}
@@ -14,6 +15,7 @@ use Rattle.capture_summary.specs.Choice.{HasAny, HasNone, HasPort, IsChosen, eve
 use Rattle.capture_summary.specs.declared.choice.ChosenProtocol.TheVariants as chosen
 use Rattle.capture_summary.specs.declared.choice.PortRange.{PortRange}
 use Rattle.capture_summary.specs.CountedPackets.{table_of}
+use Rattle.capture_summary.specs.Events.{event_of}
 use Rattle.capture_summary.specs.FlowOf.{IsFlowOf}
 use Rattle.capture_summary.specs.Networks.{IsIpv4In, ReadsNetwork}
 use Rattle.capture_summary.specs.Ranking.{by_packets}
@@ -28,6 +30,15 @@ use Rattle.capture_summary.specs.declared.flow.Flow.{Flow}
 use Rattle.capture_summary.specs.declared.flow.FlowProtocol.TheVariants.{Udp}
 use Rattle.capture_summary.specs.declared.network.Network.{Network}
 use Rattle.capture_summary.specs.declared.verdict_kind.VerdictKind.TheVariants.{Refused, Right, Wrong}
+use Rattle.timeline.proofs.TimelineLemmas.{Widens, first_counted, untimed_counted}
+use Rattle.timeline.specs.Counts as of_times
+use Rattle.timeline.specs.Counts.{counts_with}
+use Rattle.timeline.specs.Timelines.{CountsPacket, TimelineBins, empty_timeline}
+use Rattle.timeline.specs.Widening.{CountsAt}
+use Rattle.timeline.specs.declared.counts.Counts.{Counts}
+use Rattle.timeline.specs.declared.event.Event.{Event}
+use Rattle.timeline.specs.declared.event.Fault.TheVariants as faults
+use Rattle.timeline.specs.declared.event.Transport.TheVariants as transports
 
 -- ---- flows
 
@@ -94,21 +105,71 @@ one_packet = record {
     without_ports = no_packets;
     without_room = no_packets;
   };
+  timeline = record empty_timeline {
+    untimed = record of_times.no_packets { udp = record { packets = 1; bytes = 1000 } };
+  };
   file = record { all = count 1 1000; wrong = 0; refused = 0 };
 }
 
 counts_one : CountsOne empty_tables protocols.Udp Right None (Some request) info one_packet
 counts_one = record {
-  packets = refl;
-  bytes = refl;
-  span = refl;
-  protocols = refl;
-  verdicts = refl;
-  links = refl;
-  refusals = refl;
-  flows = refl;
-  file = refl;
+  rows = record {
+    packets = refl;
+    bytes = refl;
+    span = refl;
+    protocols = refl;
+    verdicts = refl;
+    links = refl;
+    refusals = refl;
+    flows = refl;
+    file = refl;
+  };
+  timeline = untimed_counted empty_timeline (event_of protocols.Udp Right info) refl;
 }
+
+-- ---- times
+
+-- 20 microseconds after 1,600,000,000 seconds since 1970: this is 1600000000 + 2^63 seconds after the first time
+event_of_response : event_of protocols.Icmpv6 Wrong (record info { time = Some (time 20) })
+    ≡ record {
+      time = Some 9223372038454775808000020000;
+      len = 1000;
+      transport = transports.Icmp;
+      fault = Some faults.Wrong;
+    }
+event_of_response = refl
+
+-- the timeline after its first packet, which has a time
+abbrev pub first_in_timeline : ℕ → Counts → TimelineBins
+first_in_timeline time counts = record empty_timeline { start = Some time; bins = counts ∷ [] }
+
+no_wider : Widens 0 0 1 1 [] []
+no_wider = record {
+  grows = omega arith;
+  positive = omega arith;
+  is_place = refl;
+  within = omega arith;
+  kept = λ start packets are. are;
+  power = λ is. is;
+  least = λ is other other_is order reached. order;
+}
+
+first_bin : (packet : Event) → CountsAt 0 packet [] (counts_with packet of_times.no_packets ∷ [])
+first_bin packet = record { len = refl; here = refl; elsewhere = elsewhere }
+  where
+    elsewhere : (other : ℕ) → (other ≡ 0 → ⊥)
+        → slice_index_or (counts_with packet of_times.no_packets ∷ []) other of_times.no_packets
+        ≡ slice_index_or [] other of_times.no_packets
+    elsewhere zero apart = absurd (apart refl)
+    elsewhere (suc other) apart = refl
+
+-- the first packet with a time is in the first interval
+pub counts_first : (packet : Event) (time : ℕ) → packet.time ≡ Some time
+    → CountsPacket empty_timeline packet (first_in_timeline time (counts_with packet of_times.no_packets))
+counts_first packet time timed =
+    let at_start : time ≡ time + 0 = omega arith in
+    first_counted empty_timeline packet time 0 0 1 [] (counts_with packet of_times.no_packets ∷ []) (timed ∙ ap Some at_start) no_wider
+    (first_bin packet) refl refl
 
 -- ---- files
 

@@ -2,6 +2,7 @@ pub mod Choice
 pub mod Conversations
 pub mod CountedPackets
 pub mod Endpoints
+pub mod Events
 pub mod Files
 pub mod FlowOf
 pub mod FlowPlaces

@@ -3,19 +3,20 @@ use Rattle.std.specs.Prelude.{◌≡◌, ◌≤◌, ℕ, Bool, nat_lt, ◌+◌, 
 use Rattle.capture_summary.specs.Kinds.{link_kind, link_kinds, link_place, refusal_kinds, refusal_place, verdict_kinds, verdict_place}
 use Rattle.capture_summary.specs.FlowTable.{FlowTable, packets_counted, table_counted}
 use Rattle.capture_summary.specs.Files.{file_counted, no_file_packets}
-use Rattle.capture_summary.specs.Tables.{counted_at, no_packets, packet_counted_at}
+use Rattle.capture_summary.specs.Events.{event_of}
+use Rattle.capture_summary.specs.Tables.{counted_at, counted_len, no_packets, packet_counted_at}
 use Rattle.capture_summary.specs.declared.refusal_kind.RefusalKind.{RefusalKind}
 use Rattle.capture_summary.specs.declared.verdict_kind.VerdictKind.{VerdictKind}
 use Rattle.capture_summary.specs.declared.verdict_kind.VerdictKind.TheVariants.{Refused, Wrong}
 use Rattle.capture_summary.specs.TimeSpans.{with_time}
 use Rattle.capture_summary.specs.declared.capture_info.CaptureInfo.{CaptureInfo}
-use Rattle.capture_summary.specs.declared.capture_info.FrameLen.{FrameLen}
 use Rattle.capture_summary.specs.declared.count.Count.{Count}
 use Rattle.capture_summary.specs.declared.file_count.FileCount.{FileCount}
 use Rattle.capture_summary.specs.declared.flow.Flow.{Flow}
 use Rattle.capture_summary.specs.declared.time_span.TimeSpan.{TimeSpan}
 use Rattle.capture_summary.specs.Protocols.{protocol_kinds, protocol_place}
 use Rattle.capture_summary.specs.declared.protocol.Protocol.{Protocol}
+use Rattle.timeline.specs.Timelines.{CountsPacket, TimelineBins, empty_timeline}
 
 -- The numbers of packets and bytes, the times of the packets, and the tables in which each packet is counted. `file` counts the packets of
 -- the capture that is being read.
@@ -28,6 +29,7 @@ pub record SummaryTables : Type 0 where
   pub links : List ℕ
   pub refusals : List ℕ
   pub flows : FlowTable
+  pub timeline : TimelineBins
   pub file : FileCount
 
 -- the tables without packets
@@ -41,6 +43,7 @@ empty_tables = record {
   links = replicate (length link_kinds) 0;
   refusals = replicate (length refusal_kinds) 0;
   flows = record { rows = []; without_ports = no_packets; without_room = no_packets };
+  timeline = empty_timeline;
   file = no_file_packets;
 }
 
@@ -64,14 +67,9 @@ abbrev pub refusal_counted : Option RefusalKind → List ℕ → List ℕ
 refusal_counted (Some refusal) table = counted_at (refusal_place refusal) table
 refusal_counted None table = table
 
--- the number of bytes that are counted for a packet: the original length of its frame, or 0 if the capture does not state it
-abbrev pub counted_len : Option FrameLen → ℕ
-counted_len None = 0
-counted_len (Some len) = len.original
-
 -- One packet was counted in the rows of these kinds and of this flow. `info` is what the capture states about the packet. No other row
 -- changed.
-pub record CountsOne (before : SummaryTables) (protocol : Protocol) (verdict : VerdictKind) (refusal : Option RefusalKind) (flow : Option Flow) (info : CaptureInfo) (after : SummaryTables) : Type 0 where
+pub record CountsRows (before : SummaryTables) (protocol : Protocol) (verdict : VerdictKind) (refusal : Option RefusalKind) (flow : Option Flow) (info : CaptureInfo) (after : SummaryTables) : Type 0 where
   pub packets : after.packets ≡ before.packets + 1
   pub bytes : after.bytes ≡ min (before.bytes + counted_len info.len) (2 ^ 64 - 1)
   pub span : after.span ≡ with_time before.span info.time
@@ -81,6 +79,11 @@ pub record CountsOne (before : SummaryTables) (protocol : Protocol) (verdict : V
   pub refusals : after.refusals ≡ refusal_counted refusal before.refusals
   pub flows : after.flows ≡ table_counted flow (counted_len info.len) info.time before.flows
   pub file : after.file ≡ file_counted verdict (counted_len info.len) before.file
+
+-- One packet was counted: in the rows of these kinds and of this flow, and in the timeline.
+pub record CountsOne (before : SummaryTables) (protocol : Protocol) (verdict : VerdictKind) (refusal : Option RefusalKind) (flow : Option Flow) (info : CaptureInfo) (after : SummaryTables) : Type 0 where
+  pub rows : CountsRows before protocol verdict refusal flow info after
+  pub timeline : CountsPacket before.timeline (event_of protocol verdict info) after.timeline
 
 -- whether a packet with a wrong checksum, or a refused packet, was counted
 abbrev pub has_fault : SummaryTables → Bool

@@ -1,6 +1,12 @@
 -- Counts, and tables of counts.
-use Rattle.std.specs.Prelude.{ℕ, ◌+◌, ◌-◌, ◌^◌, min, List, slice_index, slice_index_or, slice_set}
+use Rattle.std.specs.Prelude.{ℕ, ◌+◌, ◌-◌, ◌^◌, min, List, slice_index, slice_index_or, slice_set, Option, Some, None}
+use Rattle.capture_summary.specs.declared.capture_info.FrameLen.{FrameLen}
 use Rattle.capture_summary.specs.declared.count.Count.{Count}
+
+-- the number of bytes that are counted for a packet: the original length of its frame, or 0 if the capture does not state it
+abbrev pub counted_len : Option FrameLen → ℕ
+counted_len None = 0
+counted_len (Some len) = len.original
 
 -- the count without packets
 abbrev pub no_packets : Count

@@ -1,5 +1,5 @@
 ghost use Rattle.std.specs.Prelude.{◌≡◌};
-ghost use Rattle.capture_summary.specs.SummaryTables.{counted_len};
+ghost use Rattle.capture_summary.specs.Tables.{counted_len};
 
 use capture_file::{LinkType, PacketTime};
 

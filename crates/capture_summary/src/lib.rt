@@ -11,6 +11,7 @@ mod conversation_count;
 mod count;
 mod endpoint_count;
 mod endpoints;
+mod event;
 mod file_count;
 mod file_table;
 mod flow;

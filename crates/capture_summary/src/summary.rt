@@ -1,4 +1,4 @@
-ghost use Rattle.std.specs.Prelude.{◌≡◌, ◌↔◌, ◌<◌, ◌-◌, ◌^◌, ◌+◌, map, slice_index, slice_index_or, IsSome, OnOk, OnErr};
+ghost use Rattle.std.specs.Prelude.{◌≡◌, ◌↔◌, ◌<◌, ◌-◌, ◌^◌, ◌+◌, map, slice_index, slice_index_or, IfOk, IsSome, OnOk, OnErr};
 ghost use Rattle.capture_summary.specs.SummaryTables.{CountsOne, IsBalanced, empty_tables, file_started, has_fault};
 ghost use Rattle.capture_summary.specs.Kinds.{link_place, link_rows, protocol_rows, refusal_place, refusal_rows, verdict_place, verdict_rows};
 ghost use Rattle.capture_summary.specs.Protocols.{protocol_place};
@@ -7,6 +7,7 @@ ghost use Rattle.capture_summary.specs.Rates.{average_len};
 ghost use Rattle.capture_summary.specs.Tables.{no_packets};
 ghost use Rattle.capture_summary.specs.declared.verdict_kind.VerdictKind.TheVariants.{Refused};
 
+use crate::event::count_event;
 use crate::{
     CaptureInfo, Count, FileCount, Flow, Flows, LinkKind, Protocol, RefusalKind, TimeSpan,
     VerdictKind, protocol_rows,
@@ -15,11 +16,12 @@ use arrayvec::ArrayVec;
 use std::alloc::{AllocError, Global};
 use std::hash::RandomState;
 use std::marker::Model;
+use timeline::Timeline;
 
 /// The counts of the packets of captures.
 ///
-/// Each packet is counted once by its protocol, once by its verdict, once by its link type, and once by its flow. A refused packet is also
-/// counted by the kind of its refusal. The packets of the capture that is being read are also counted on their own.
+/// Each packet is counted once by its protocol, once by its verdict, once by its link type, once by its flow, and once by its time. A refused
+/// packet is also counted by the kind of its refusal. The packets of the capture that is being read are also counted on their own.
 #[derive(Drop)]
 pub struct Summary {
     bytes: u64,
@@ -29,6 +31,7 @@ pub struct Summary {
     links: [u64; LinkKind::COUNT],
     refusals: [u64; RefusalKind::COUNT],
     flows: Flows,
+    timeline: Timeline,
     file: FileCount,
 }
 
@@ -47,6 +50,7 @@ impl Model for Summary {
       links = summary.links;
       refusals = summary.refusals;
       flows = summary.flows;
+      timeline = summary.timeline;
       file = summary.file;
     } };
 
@@ -59,17 +63,22 @@ impl Model for Summary {
       links = summary.links;
       refusals = summary.refusals;
       flows = summary.flows;
+      timeline = summary.timeline;
       file = summary.file;
     } };
 }
 
 impl Summary {
-    /// A summary without packets. `state` provides the keys of the hashes that find a flow.
-    pub fn new(alloc: Global, state: RandomState) -> Summary
-        ensures empty { result ≡ empty_tables }
-        ensures balanced { IsBalanced result }
+    /// A summary without packets, with the memory of its timeline. `state` provides the keys of the hashes that find a flow.
+    ///
+    /// # Errors
+    ///
+    /// `AllocError` if no memory is left, and for no other reason.
+    pub fn new(alloc: Global, state: RandomState) -> Result<Summary, AllocError>
+        ensures empty { IfOk result (λ summary. summary ≡ empty_tables) }
+        ensures balanced { IfOk result (λ summary. IsBalanced summary) }
     {
-        Summary {
+        Ok(Summary {
             bytes: 0,
             span: None,
             protocols: [Count::NONE; Protocol::COUNT],
@@ -77,8 +86,9 @@ impl Summary {
             links: [0; LinkKind::COUNT],
             refusals: [0; RefusalKind::COUNT],
             flows: Flows::new(alloc, state),
+            timeline: Timeline::new(alloc)?,
             file: FileCount::NONE,
-        }
+        })
     }
 
     /// Begins another capture: `file` counts only the packets after this call.
@@ -111,6 +121,7 @@ impl Summary {
     {
         let len = info.counted_len();
         self.flows.add(flow, len, info.time)?;
+        count_event(&mut self.timeline, protocol, verdict, info);
         self.bytes = self.bytes.saturating_add(len);
         self.span = TimeSpan::with_time(self.span, info.time);
         self.protocols[protocol.place()].add(len);
@@ -236,5 +247,12 @@ impl Summary {
         ensures { result.now ≡ self.now.flows }
     {
         &self.flows
+    }
+
+    /// The counts by time. The times are numbers of nanoseconds, counted from 2^63 seconds before the beginning of 1970.
+    pub fn timeline(&self) -> &Timeline
+        ensures { result.now ≡ self.now.timeline }
+    {
+        &self.timeline
     }
 }

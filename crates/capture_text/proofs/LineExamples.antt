@@ -27,6 +27,8 @@ use Rattle.capture_words.specs.declared.times.Times.TheVariants.{SinceFirst}
 use Rattle.capture_text.specs.PacketLine.{IsLine}
 use Rattle.capture_text.specs.SummaryText.{summary_text, times_cells}
 use Rattle.capture_words.specs.AbsoluteTime.{absolute_text}
+use Rattle.timeline.specs.Counts.{none}
+use Rattle.timeline.specs.Timelines.{empty_timeline}
 
 -- ---- lines
 
@@ -99,6 +101,16 @@ five_packets = record {
     rows = record { flow = request; forward = count 1 1000; reverse = count 1 44; span = None } ∷ [];
     without_ports = count 3 268;
     without_room = no_packets;
+  };
+  timeline = record empty_timeline {
+    untimed = record {
+      udp = record { packets = 2; bytes = 1044 };
+      tcp = none;
+      icmp = record { packets = 1; bytes = 200 };
+      other = record { packets = 2; bytes = 68 };
+      wrong = record { packets = 1; bytes = 200 };
+      refused = record { packets = 2; bytes = 68 };
+    };
   };
   file = record { all = count 2 268; wrong = 1; refused = 1 };
 }

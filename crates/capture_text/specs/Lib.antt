@@ -5,5 +5,6 @@ pub mod FilesText
 pub mod InterfaceText
 pub mod PacketLine
 pub mod SummaryText
+pub mod TimelineText
 pub mod TotalsText
 pub mod VerdictText

@@ -16,6 +16,7 @@ mod interface;
 pub mod laws;
 mod packet_line;
 mod tables;
+mod timeline_table;
 mod totals;
 mod verdict;
 
@@ -23,3 +24,4 @@ pub use endpoints::write_endpoints;
 pub use files::write_files;
 pub use packet_line::write_packet_line;
 pub use tables::{write_conversations, write_summary};
+pub use timeline_table::write_timeline;

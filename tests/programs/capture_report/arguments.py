@@ -46,7 +46,7 @@ def check_unknown_options(tally):
 def check_known_options(tally):
     """Each option that the help shows is known, so that an error about another word names this word."""
     shown = re.findall(r"^ +(?:(-[a-zA-Z]), )?(--[a-z-]+)", run(b"", "--help").stdout.decode(), re.MULTILINE)
-    tally.expect("options of the help", len(shown), 23)
+    tally.expect("options of the help", len(shown), 24)
     for name in [name for names in shown for name in names if name not in ("", "-h", "--help", "-V", "--version")]:
         value = {"--protocol": "udp"}.get(name, "192.0.2.1" if name in HOST_OPTIONS else "1")
         done = run(b"", name, value, "--other")
@@ -82,8 +82,8 @@ def check_options_not_utf_8(tally):
 
 
 # The pairs of options that are not used together, as a message writes them.
-EXCLUSIVE = [("--summary", "--packets"), ("--wrong", "--summary"), ("--absolute", "--summary"), ("--top <N>", "--packets"),
-             *(("--write <FILE>", option) for option in ("--summary", "--packets", "--absolute", "--check", "--json", "--top <N>"))]
+EXCLUSIVE = [("--summary", "--packets"), ("--wrong", "--summary"), ("--absolute", "--summary"), ("--top <N>", "--packets"), ("--timeline", "--packets"),
+             *(("--write <FILE>", option) for option in ("--summary", "--packets", "--absolute", "--check", "--json", "--top <N>", "--timeline"))]
 
 # The options that are used with any other option.
 FREE_OPTIONS = ["--verbose", "--tunnels", *(f"{name} <ADDRESS>" for name in HOST_OPTIONS), "--port <N>", "--not-port <N>", "--protocol <NAME>", "--count <N>", "--line-buffered", "--numeric", "--read <FILE>"]

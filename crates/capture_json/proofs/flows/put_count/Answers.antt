@@ -1,6 +1,6 @@
 use Rattle.std.proofs.Common.{◌∙◌, ap}
 use Rattle.std.proofs.lemmas.Result.{on_ok_weaker}
-use Rattle.capture_json.specs.JsonSummary.{count_members}
+use Rattle.capture_json.specs.JsonCounts.{count_members}
 use Rattle.capture_json.specs.Tokens.{object_ended, tokens_in, with_members}
 use Rattle.capture_json.proofs.TokensLemmas.{nested}
 use Rattle.capture_json.proofs.flows.put_count.Goals as goal
