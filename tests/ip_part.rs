@@ -351,7 +351,12 @@ static UNEXPIRED_ROUTES: [(&[u8], bool); 14] = [
 #[test]
 fn source_routes_expire(rt: HostRuntime) {
     for (options, is_unexpired) in &UNEXPIRED_ROUTES {
-        expect_at(&rt, options, &has_unexpired_source_route(options), is_unexpired);
+        expect_at(
+            &rt,
+            options,
+            &has_unexpired_source_route(options),
+            is_unexpired,
+        );
     }
 }
 
