@@ -1,10 +1,10 @@
 """Tests of the table of the timeline."""
-import itertools
 import random
 import struct
 
 from ..build import IPV4, RAW, START, block, capture, interface_description, ipv4, packet_block, section_header, udp
 from .report import run
+from .timeline import width_for
 
 # Packets of each kind that a row counts, by the column of their kind.
 KINDS = {None: ipv4(17, udp(IPV4, b"abc")), "wrong": ipv4(17, udp(IPV4, b"abcdef", change=1)), "refused": ipv4(17, b"1234")}
@@ -22,10 +22,8 @@ def row_of(name, kinds, bar=""):
 
 
 def row_width(last):
-    """The width of a row, given the latest time after the first packet. At most 256 intervals have the least width of the scale, and at most
-    20 rows have the least number of them."""
-    widths = (step * 10 ** power for power in itertools.count() for step in (1, 2, 5))
-    width = next(width for width in widths if last // width < 256)
+    """The width of a row, given the latest time after the first packet. At most 20 rows have the least number of intervals."""
+    width = width_for(last)
     return width * next(size for size in (1, 2, 5, 10, 20) if last // width // size < 20)
 
 
