@@ -80,7 +80,8 @@ pub record CountsRows (before : SummaryTables) (protocol : Protocol) (verdict : 
   pub flows : after.flows ≡ table_counted flow (counted_len info.len) info.time before.flows
   pub file : after.file ≡ file_counted verdict (counted_len info.len) before.file
 
--- One packet was counted: in the rows of these kinds and of this flow, and in the timeline.
+-- One packet was counted: in the rows of these kinds and of this flow, and in the timeline. The rows are a record of their own, since one
+-- record of all fields is too large for the search of proofs.
 pub record CountsOne (before : SummaryTables) (protocol : Protocol) (verdict : VerdictKind) (refusal : Option RefusalKind) (flow : Option Flow) (info : CaptureInfo) (after : SummaryTables) : Type 0 where
   pub rows : CountsRows before protocol verdict refusal flow info after
   pub timeline : CountsPacket before.timeline (event_of protocol verdict info) after.timeline

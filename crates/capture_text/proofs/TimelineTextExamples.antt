@@ -11,7 +11,7 @@ use Rattle.capture_text.specs.TimelineText.{bar_text, intervals_in_row, row_widt
 abbrev udp : ℕ → ℕ → Counts
 udp packets bytes = record no_packets { udp = record { packets = packets; bytes = bytes } }
 
--- Three packets in the first half second, of which one has a wrong checksum, none in the next, and one after a second. An older packet, and
+-- Three packets in the first half second, one of them with a wrong checksum, none in the next, and one after a second. An older packet, and
 -- no packet without a time.
 abbrev one_second : TimelineBins
 one_second = record {

@@ -45,16 +45,16 @@ abbrev pub ipv6_transport_len : List ℕ → ℕ
 ipv6_transport_len packet = transport_header_len icmpv6_number (next_header (over_ipv6.direct_header packet))
 
 -- the flags and the offset in the fragment header of an IPv6 packet, if there is one
-abbrev pub flags_of : List ℕ → Option ℕ
-flags_of packet = over_ipv6.flags_in (ipv6_header packet) (over_ipv6.payload_of packet)
+abbrev pub fragment_field_of : List ℕ → Option ℕ
+fragment_field_of packet = over_ipv6.flags_in (ipv6_header packet) (over_ipv6.payload_of packet)
 
 -- The bytes after the transport header of an IPv6 packet are the bytes after the transport header of the translated packet. A later
 -- fragment has no transport header. The record states nothing of an ICMPv6 error, whose quoted packet is translated.
 pub record IsIpv6PayloadKept (packet translated : List ℕ) : Type 0 where
-  pub whole : is_part (flags_of packet) ≡ false
+  pub whole : is_part (fragment_field_of packet) ≡ false
       → over_ipv6.is_icmp_error (next_header (over_ipv6.direct_header packet)) (over_ipv6.message_of packet) ≡ false
       → IsKeptAfter (ipv6_transport_len packet) 20 (over_ipv6.message_of packet) translated
-  pub first : is_part (flags_of packet) ≡ true → is_later (flags_of packet) ≡ false
+  pub first : is_part (fragment_field_of packet) ≡ true → is_later (fragment_field_of packet) ≡ false
       → IsKeptAfter (ipv6_transport_len packet) 20 (over_ipv6.message_of packet) translated
-  pub later : is_part (flags_of packet) ≡ true → is_later (flags_of packet) ≡ true
+  pub later : is_part (fragment_field_of packet) ≡ true → is_later (fragment_field_of packet) ≡ true
       → IsKeptAfter 0 20 (over_ipv6.message_of packet) translated

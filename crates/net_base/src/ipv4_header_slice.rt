@@ -1,4 +1,4 @@
-ghost use Rattle.std.specs.Prelude.{◌↔◌, IsTrue, []};
+ghost use Rattle.std.specs.Prelude.{◌≡◌, ◌↔◌, ◌==◌, ◌||◌, ◌+◌, ◌*◌, ◌%◌, ◌^◌, IsTrue, [], bit_and, not};
 ghost use Rattle.net_base.specs.Bytes.{IsBytes};
 ghost use Rattle.word_sum.specs.Checksum.{Verifies};
 
@@ -140,7 +140,7 @@ impl<'a> Ipv4HeaderSlice<'a> {
     pub fn is_fragmenting_payload(&self) -> bool
         ensures { result ≡ ipv4_is_fragment self.now }
     {
-        self.more_fragments() || self.fragments_offset() != 0
+        is_fragment(self.slice[6], self.slice[7])
     }
 
     /// The number of hops that are left (byte 8).
@@ -242,4 +242,13 @@ impl<'a> Eq for Ipv4HeaderSlice<'a> {
     ghost use Rattle.std.proofs.Common.{rules};
 
     ghost laws = { Prim.search (comparing, rules) };
+}
+
+/// Whether bytes 6 and 7 of a header state a part of a packet: the bit for more fragments, or an offset above 0. One mask tests both
+/// fields.
+#[inline(always)]
+fn is_fragment(high: u8, low: u8) -> bool
+    ensures { result ≡ (not (bit_and high 0x20 == 0) || not ((high * 256 + low) % 2 ^ 13 == 0)) }
+{
+    u16::from_be_bytes([high, low]) & 0x3fff != 0
 }

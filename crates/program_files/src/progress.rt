@@ -72,7 +72,7 @@ pub fn with_progress<S: FileSystem>(
 ) -> Progress<Input<S::Standard, S::File>>
     ensures inner { inner_of result ≡ input }
     ensures mixed { IsTrue lines_on_terminal → next_of result ≡ 2 ^ 64 - 1 }
-    ensures short { (len : ℕ) × HasLen (S.describes_open system.now) input len × (len ≤ 100000000 → next_of result ≡ 2 ^ 64 - 1) }
+    ensures short { (len : ℕ) × HasLen (S.describes_open system.now) input len × (len ≤ LONG → next_of result ≡ 2 ^ 64 - 1) }
 {
     let len = len_of(system, &input);
     let shown = is_shown(len, rt.stderr().is_terminal(), lines_on_terminal);
