@@ -367,17 +367,10 @@ fn read_faults_write_nothing(rt: HostRuntime) {
     }
 }
 
-/// Stops the test unless this text is written to a `FaultyWriter` with these fields, and the result is this status.
-fn expect_after_calls(
-    rt: &impl Abort,
-    line: &[u8],
-    calls: usize,
-    takes_nothing: bool,
-    text: &[u8],
-    status: u8,
-) {
+/// Stops the test unless this text is written to this writer, and the result is this status.
+fn expect_written(rt: &impl Abort, line: &[u8], mut output: FaultyWriter, text: &[u8], status: u8) {
     let mut input = line;
-    let mut output = faulty_writer(calls, takes_nothing);
+    let calls = output.calls;
     expect_at(rt, &calls, &run(&mut input, &mut output), &status);
     expect_at(rt, &calls, &output.written.as_slice(), &text);
 }
@@ -387,11 +380,14 @@ fn expect_after_calls(
 fn expect_write_faults(rt: &impl Abort, line: &[u8], text: &[u8], takes_nothing: bool) {
     // Each byte needs a write.
     for calls in 0..text.len() {
-        expect_after_calls(rt, line, calls, takes_nothing, &text[..calls], 3);
+        let output = faulty_writer(calls, takes_nothing);
+        expect_written(rt, line, output, &text[..calls], 3);
     }
     // The flush is the last call.
-    expect_after_calls(rt, line, text.len(), takes_nothing, text, 3);
-    expect_after_calls(rt, line, text.len() + 1, takes_nothing, text, 0);
+    let output = faulty_writer(text.len(), takes_nothing);
+    expect_written(rt, line, output, text, 3);
+    let output = faulty_writer(text.len() + 1, takes_nothing);
+    expect_written(rt, line, output, text, 0);
 }
 
 #[test]
