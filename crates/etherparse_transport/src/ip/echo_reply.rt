@@ -20,7 +20,7 @@ use crate::checksum_change::ChecksumChange;
 use crate::err::packet::AnswerEchoError;
 use crate::ip::ip_header::{
     IPV4_CHECKSUM_AT, IPV4_DESTINATION_AT, IPV4_LEN, IPV4_PROTOCOL_AT, IPV4_TIME_TO_LIVE_AT,
-    IPV6_LEN, ipv4_fields, ipv6_header,
+    IPV6_LEN, ipv4_fields, ipv4_middle, ipv6_header,
 };
 use crate::ip::without_options::{are_padding, remove_options};
 use crate::ip::{TransportInIp, transport_in_ip};
@@ -142,8 +142,8 @@ fn reply_ipv4(
     let reply = icmpv4_reply_to(&packet[IPV4_LEN..usize::from(len)]);
     let start = ipv4_reply_start(packet);
     let destination = between.source;
-    let protocol = ip_number::ICMP;
-    let ip_header = ipv4_fields(start, time_to_live, protocol, source, destination, checksum);
+    let middle = ipv4_middle(time_to_live, ip_number::ICMP, checksum);
+    let ip_header = ipv4_fields(start, middle, source, destination);
     let header = reply.to_bytes();
     let front: [u8; ECHOED_AT] = [header[0], header[1], header[2], header[3]];
     replace_front(packet, &ip_header, front);

@@ -1,4 +1,5 @@
-ghost use Rattle.std.specs.Prelude.{◌≡◌};
+ghost use Rattle.std.specs.Int.{to_be_bytes, w16};
+ghost use Rattle.std.specs.Prelude.{◌≡◌, ◌++◌, ◌∷◌};
 ghost use Rattle.etherparse_transport.specs.Packets as specs;
 
 use crate::checksum::Sum16BitWords;
@@ -49,26 +50,30 @@ pub(crate) fn ipv4_header(
         .add_4bytes(source)
         .add_4bytes(destination)
         .ones_complement();
-    ipv4_fields(start, time_to_live, protocol, source, destination, checksum)
+    let middle = ipv4_middle(time_to_live, protocol, checksum);
+    ipv4_fields(start, middle, source, destination)
 }
 
-/// An IPv4 header without options, with this checksum.
-pub(crate) fn ipv4_fields(
-    start: [u8; 8],
-    time_to_live: u8,
-    protocol: IpNumber,
-    source: [u8; 4],
-    destination: [u8; 4],
-    checksum: u16,
-) -> ArrayVec<u8, IPV4_LEN>
-    ensures { result.items ≡ specs.ipv4_fields start time_to_live protocol.0 source destination checksum }
+/// The middle of an IPv4 header: bytes 8 to 11, which are the time to live, the protocol and the checksum.
+pub(crate) fn ipv4_middle(time_to_live: u8, protocol: IpNumber, checksum: u16) -> [u8; 4]
+    ensures { result ≡ time_to_live ∷ protocol.0 ∷ to_be_bytes w16 checksum }
 {
     let [checksum_high, checksum_low] = checksum.to_be_bytes();
+    [time_to_live, protocol.0, checksum_high, checksum_low]
+}
+
+/// An IPv4 header without options, of its first eight bytes, its [middle](ipv4_middle) and its addresses.
+pub(crate) fn ipv4_fields(
+    start: [u8; 8],
+    middle: [u8; 4],
+    source: [u8; 4],
+    destination: [u8; 4],
+) -> ArrayVec<u8, IPV4_LEN>
+    ensures { result.items ≡ start ++ (middle ++ (source ++ destination)) }
+{
     let mut header = ArrayVec::new();
     header.try_extend_from_slice(&start).unwrap();
-    header
-        .try_extend_from_slice(&[time_to_live, protocol.0, checksum_high, checksum_low])
-        .unwrap();
+    header.try_extend_from_slice(&middle).unwrap();
     header.try_extend_from_slice(&source).unwrap();
     header.try_extend_from_slice(&destination).unwrap();
     header

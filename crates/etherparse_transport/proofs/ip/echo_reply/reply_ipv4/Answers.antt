@@ -81,6 +81,7 @@ returns-clause-answered c =
     (total (ipv4_fields (ipv4_reply_start packet) time_to_live 1 (unwrap_or c.args.passed destination) receiver 0)))
     (range_in_front 16 4 20 packet (omega arith)) in
     let first = c.deref-5.ensures.0 ∙ c.ipv4_fields-ip_header.ensures
+    ∙ ap (λ middle. c.ipv4_reply_start-start.result ++ (middle ++ (found ++ c.args.between.now.source))) c.ipv4_middle-middle.ensures
     ∙ ap (λ start. ipv4_fields start time_to_live 1 found c.args.between.now.source checksum) start
     ∙ ap (λ source. ipv4_fields (ipv4_reply_start packet) time_to_live 1 source c.args.between.now.source checksum) (source c)
     ∙ ap (λ addresses. ipv4_fields (ipv4_reply_start packet) time_to_live 1 from addresses.source checksum) is

@@ -19,5 +19,6 @@ returns c =
     rw (c.add_4bytes-4.ensures, c.add_4bytes-3.ensures, c.add_2bytes.ensures, c.add_4bytes-2.ensures, c.add_4bytes.ensures, c.new.ensures)
     (simp folded_twice (ap folded (omega (arith, front, back, total_eight c.args.start eight)))) in
     c.ipv4_fields.ensures
+    ∙ ap (λ middle. c.args.start ++ (middle ++ (c.args.source ++ c.args.destination))) c.ipv4_middle-middle.ensures
     ∙ ap (ipv4_fields c.args.start c.args.time_to_live c.args.protocol.0 c.args.source c.args.destination)
     (c.ones_complement-checksum.ensures ∙ ap complement sum)
