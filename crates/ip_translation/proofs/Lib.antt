@@ -25,5 +25,6 @@ pub mod PayloadLemmas
 pub mod PseudoHeaderLemmas
 pub mod RuleLemmas
 pub mod SkippedLemmas
+pub mod TranslatedAddressLemmas
 pub mod WideNumberLemmas
 pub mod WorkedExamples

@@ -24,3 +24,4 @@ pub mod QuotedToIpv4
 pub mod QuotedToIpv6
 pub mod SkippedHeaders
 pub mod ThereAndBack
+pub mod TranslatedAddresses

@@ -1,4 +1,4 @@
-ghost use Rattle.std.specs.Prelude.{◌≡◌, ◌≤◌, ◌+◌, ℕ};
+ghost use Rattle.std.specs.Prelude.{◌≡◌, ◌≤◌, ◌+◌, ℕ, length, slice_range};
 ghost use Rattle.net_base.specs.PseudoHeader.{ipv4_pseudo_header, ipv6_pseudo_header, max_len_over_ipv4};
 ghost use Rattle.word_sum.specs.Checksum.{folded, total};
 ghost use Rattle.word_sum.specs.ChecksumChange.{TurnsInto, added_value, removed_value};
@@ -25,4 +25,13 @@ pub(crate) fn address_change(
         .replace_4bytes(old_destination, [0; 4])
         .replace_16bytes([0; 16], new_source)
         .replace_16bytes([0; 16], new_destination)
+}
+
+/// The address in the bytes from this place on.
+#[inline(always)]
+pub(crate) fn address_at<const N: usize>(bytes: &[u8], place: usize) -> [u8; N]
+    requires there { place + N ≤ length bytes.now }
+    ensures { result ≡ slice_range bytes.now place (place + N) }
+{
+    *bytes[place..].first_chunk::<N>().unwrap()
 }

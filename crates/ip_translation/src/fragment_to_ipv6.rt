@@ -9,6 +9,7 @@ ghost use Rattle.ip_translation.specs.FragmentsToIpv6 as specs;
 ghost use Rattle.ip_translation.specs.HeadersToIpv4.{max_payload_len};
 ghost use Rattle.ip_translation.specs.HeadersToIpv6 as headers;
 ghost use Rattle.ip_translation.specs.PacketsToIpv6 as packets;
+ghost use Rattle.ip_translation.specs.TranslatedAddresses.{HasIpv6Addresses};
 ghost use Rattle.ip_translation.specs.declared.packet_translation_error.PacketTranslationError.TheVariants.{Header, IcmpFragment};
 
 use crate::header_translation::{
@@ -60,6 +61,7 @@ fn translate_message_of_part(
     buffer: &mut [u8],
 ) -> Result<usize, PacketTranslationError>
     requires len { length front.now ≡ specs.headers_len }
+    requires addresses { HasIpv6Addresses prefixes.now header.now front.now }
     requires counted { length message.now ≤ max_len_over_ipv4 }
     ensures refused { RefusesExactly result (specs.message_refusal header.now message.now (length buffer.old)) }
     ensures len { IfOk result (λ len. len ≡ specs.headers_len + length message.now) }
@@ -124,6 +126,7 @@ fn translate_first_part(
     buffer: &mut [u8],
 ) -> Result<usize, PacketTranslationError>
     requires len { length front.now ≡ specs.headers_len }
+    requires addresses { HasIpv6Addresses prefixes.now header.now front.now }
     requires counted { length message.now ≤ max_len_over_ipv4 }
     requires other { headers.protocol header.now ≢ icmpv4_number }
     ensures refused { RefusesExactly result (specs.first_refusal (headers.protocol header.now) message.now (length buffer.old)) }
@@ -150,6 +153,7 @@ fn part_headers(
     ensures refused { RefusesExactly result (option_map Header (headers.any_header_refusal prefixes.now header.now)) }
     ensures written { IfOk result (λ front. front.items ≡ specs.part_headers prefixes.now header.now) }
     ensures len { IfOk result (λ front. length front.items ≡ specs.headers_len) }
+    ensures addresses { IfOk result (λ front. HasIpv6Addresses prefixes.now header.now front.items) }
     ensures total_len { IfOk result (λ _. ipv4_header_len header.now ≤ headers.total_len header.now) }
 {
     match checked_payload_len(header, prefixes) {
@@ -187,6 +191,7 @@ pub(crate) fn headers_with(
     requires short { payload_len ≤ max_payload_len }
     ensures written { result.items ≡ fragments.headers_with prefixes.now payload_len hop_limit header.now }
     ensures len { length result.items ≡ specs.headers_len }
+    ensures addresses { HasIpv6Addresses prefixes.now header.now result.items }
 {
     let ipv6 = ipv6_header(
         byte_at(header.slice(), TYPE_OF_SERVICE_AT),

@@ -1,4 +1,4 @@
-ghost use Rattle.std.specs.Prelude.{◌≡◌, ◌≤◌, ◌<◌, ◌+◌, [], ◌∷◌, ℕ, IfOk, length, slice_index};
+ghost use Rattle.std.specs.Prelude.{◌≡◌, ◌≤◌, ◌<◌, ◌+◌, [], ◌∷◌, ℕ, IfOk, length, slice_index, slice_range};
 ghost use Rattle.net_base.specs.IpHeaders.{ipv4_header_len};
 ghost use Rattle.net_base.specs.PseudoHeader.{max_len_over_ipv4};
 ghost use Rattle.net_base.specs.Refusals.{RefusesExactly};
@@ -7,8 +7,10 @@ ghost use Rattle.word_sum.specs.ChecksumChange.{TurnsInto, added_value, removed_
 ghost use Rattle.ip_translation.specs.AddressTables.{embedded};
 ghost use Rattle.ip_translation.specs.HeadersToIpv6 as specs;
 ghost use Rattle.ip_translation.specs.PacketsToIpv6.{added_addresses, removed_addresses};
+ghost use Rattle.ip_translation.specs.PseudoHeaders.{AreTurned};
+ghost use Rattle.ip_translation.specs.TranslatedAddresses.{HasIpv6Addresses};
 
-use crate::address_change::address_change;
+use crate::address_change::{address_at, address_change};
 use crate::{Prefixes, TranslationError};
 use arrayvec::ArrayVec;
 use ip_part::has_unexpired_source_route;
@@ -46,6 +48,20 @@ pub fn header_to_ipv6(
     ensures len { IfOk result (λ translated. length translated.items ≡ 40) }
     ensures total_len { IfOk result (λ _. ipv4_header_len header.now ≤ specs.total_len header.now) }
 {
+    checked_ipv6_header(header, prefixes)
+}
+
+/// Checks an IPv4 header, and returns the IPv6 header for it, as `header_to_ipv6` does. Callers read the translated addresses from the result.
+pub(crate) fn checked_ipv6_header(
+    header: &Ipv4HeaderSlice<'_>,
+    prefixes: &Prefixes,
+) -> Result<ArrayVec<u8, IPV6_LEN>, TranslationError>
+    ensures refused { RefusesExactly result (specs.header_refusal prefixes.now header.now) }
+    ensures written { IfOk result (λ translated. translated.items ≡ specs.translated_header prefixes.now header.now) }
+    ensures len { IfOk result (λ translated. length translated.items ≡ 40) }
+    ensures total_len { IfOk result (λ _. ipv4_header_len header.now ≤ specs.total_len header.now) }
+    ensures addresses { IfOk result (λ translated. HasIpv6Addresses prefixes.now header.now translated.items) }
+{
     let payload_len = check_header(header)?;
     let (source, destination) = embedded_addresses(header, prefixes)?;
     let hop_limit = header.ttl().saturating_sub(1);
@@ -74,6 +90,36 @@ pub fn pseudo_header_change(header: &Ipv4HeaderSlice<'_>, prefixes: &Prefixes) -
     let new_destination = prefixes.destination.embed(destination);
     address_change(source, destination, new_source, new_destination)
 }
+
+/// The change of the pseudo header for a packet whose translation begins with these headers.
+#[inline(always)]
+pub(crate) fn change_by_headers(
+    header: &Ipv4HeaderSlice<'_>,
+    prefixes: &Prefixes,
+    front: &[u8],
+) -> ChecksumChange
+    requires there { 40 ≤ length front.now }
+    requires addresses { HasIpv6Addresses prefixes.now header.now front.now }
+    ensures removed { removed_value result ≡ removed_addresses header.now }
+    ensures added { added_value result ≡ added_addresses prefixes.now header.now }
+    ensures turned { (protocol : ℕ) → 0 < protocol →
+        AreTurned result (specs.old_pseudo_header header.now protocol) (specs.new_pseudo_header prefixes.now header.now protocol) }
+{
+    // The prefixes are not used, since the headers contain the translated addresses.
+    let _ = prefixes;
+    address_change(
+        header.source(),
+        header.destination(),
+        address_at::<16>(front, SOURCE_AT),
+        address_at::<16>(front, DESTINATION_AT),
+    )
+}
+
+/// The place of the source in an IPv6 header, in bytes (RFC 8200, section 3).
+const SOURCE_AT: usize = 8;
+
+/// The place of the destination in an IPv6 header, in bytes.
+const DESTINATION_AT: usize = 24;
 
 /// The length of an IPv6 header, in bytes (RFC 8200, section 3).
 pub(crate) const IPV6_LEN: usize = Ipv6Header::LEN;
@@ -225,6 +271,8 @@ fn header_between(
     ensures written { result.items ≡ specs.ipv6_header (specs.type_of_service header.now) payload_len
         (specs.next_header (specs.protocol header.now) ∷ hop_limit ∷ []) source destination }
     ensures len { length result.items ≡ 40 }
+    ensures source { slice_range result.items 8 24 ≡ source }
+    ensures destination { slice_range result.items 24 40 ≡ destination }
 {
     let service = byte_at(header.slice(), TYPE_OF_SERVICE_AT);
     let next_header = next_header(header.protocol());

@@ -1,4 +1,4 @@
-ghost use Rattle.std.specs.Prelude.{◌≡◌, ◌<◌, ◌+◌, [], ℕ, IfOk, length};
+ghost use Rattle.std.specs.Prelude.{◌≡◌, ◌≤◌, ◌<◌, ◌+◌, [], ℕ, IfOk, length, slice_range};
 ghost use Rattle.net_base.specs.Refusals.{RefusesExactly};
 ghost use Rattle.word_sum.specs.Checksum.{Verifies, checksum_of, total};
 ghost use Rattle.word_sum.specs.ChecksumChange.{added_value, removed_value};
@@ -6,8 +6,9 @@ ghost use Rattle.ip_translation.specs.AddressTables.{extracted};
 ghost use Rattle.ip_translation.specs.Fragments as fragments;
 ghost use Rattle.ip_translation.specs.HeadersToIpv4 as specs;
 ghost use Rattle.ip_translation.specs.PseudoHeaders.{AreTurned};
+ghost use Rattle.ip_translation.specs.TranslatedAddresses.{HasIpv4Addresses};
 
-use crate::address_change::address_change;
+use crate::address_change::{address_at, address_change};
 use crate::fragment_fields::FragmentFields;
 use crate::header_translation::is_illegal;
 use crate::{Prefixes, TranslationError};
@@ -68,6 +69,7 @@ pub(crate) fn part_header_to_ipv4(
     ensures written { IfOk result (λ translated. translated.items ≡ specs.translated_header prefixes.now fields header.now) }
     ensures verifies { IfOk result (λ translated. Verifies [] translated.items) }
     ensures len { IfOk result (λ translated. length translated.items ≡ 20) }
+    ensures addresses { IfOk result (λ translated. HasIpv4Addresses prefixes.now header.now translated.items) }
 {
     let total_len = check_fields(header)?;
     let addresses = extracted_addresses(header, prefixes)?;
@@ -93,6 +95,37 @@ pub fn pseudo_header_change_to_ipv4(
     let new_destination = prefixes.destination.ipv4_of(&destination);
     address_change(new_source, new_destination, source, destination).reversed()
 }
+
+/// The change of the pseudo header for a packet whose translation begins with this IPv4 header.
+#[inline(always)]
+pub(crate) fn change_by_ipv4_header(
+    header: &Ipv6HeaderSlice<'_>,
+    prefixes: &Prefixes,
+    front: &[u8],
+) -> ChecksumChange
+    requires there { 20 ≤ length front.now }
+    requires addresses { HasIpv4Addresses prefixes.now header.now front.now }
+    ensures removed { removed_value result ≡ specs.removed_addresses header.now }
+    ensures added { added_value result ≡ specs.added_addresses prefixes.now header.now }
+    ensures turned { (protocol : ℕ) → 0 < protocol →
+        AreTurned result (specs.old_pseudo_header header.now protocol) (specs.new_pseudo_header prefixes.now header.now protocol) }
+{
+    // The prefixes are not used, since the header contains the translated addresses.
+    let _ = prefixes;
+    address_change(
+        address_at::<4>(front, SOURCE_AT),
+        address_at::<4>(front, DESTINATION_AT),
+        header.source(),
+        header.destination(),
+    )
+    .reversed()
+}
+
+/// The place of the source in an IPv4 header, in bytes (RFC 791, section 3.1).
+const SOURCE_AT: usize = 12;
+
+/// The place of the destination in an IPv4 header, in bytes.
+const DESTINATION_AT: usize = 16;
 
 /// Checks all fields except the addresses, and returns the total length of the translated packet.
 fn check_fields(header: &Ipv6HeaderSlice<'_>) -> Result<u16, TranslationError>
@@ -176,6 +209,8 @@ fn header_between(
         addresses.0 addresses.1 }
     ensures verifies { Verifies [] result.items }
     ensures len { length result.items ≡ 20 }
+    ensures source { slice_range result.items 12 16 ≡ addresses.0 }
+    ensures destination { slice_range result.items 16 20 ≡ addresses.1 }
 {
     let (source, destination) = addresses;
     let [total_high, total_low] = total_len.to_be_bytes();
@@ -260,6 +295,8 @@ fn ipv4_header(start: [u8; 10], source: [u8; 4], destination: [u8; 4]) -> ArrayV
     ensures bytes { result.items ≡ specs.ipv4_header start source destination }
     ensures verifies { Verifies [] result.items }
     ensures len { length result.items ≡ 20 }
+    ensures source { slice_range result.items 12 16 ≡ source }
+    ensures destination { slice_range result.items 16 20 ≡ destination }
 {
     let checksum = checksum_of(with_checksum(start, 0, source, destination).as_slice());
     with_checksum(start, checksum, source, destination)

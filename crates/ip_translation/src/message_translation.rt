@@ -4,13 +4,16 @@ ghost use Rattle.net_base.specs.IpNumbers.{icmpv4_number, icmpv6_number, tcp_num
 ghost use Rattle.net_base.specs.PseudoHeader.{max_len_over_ipv4};
 ghost use Rattle.net_base.specs.Refusals.{RefusesExactly, refused_if};
 ghost use Rattle.net_base.specs.StoredChecksum.{with_checksum};
-ghost use Rattle.word_sum.specs.Checksum.{IsAllOnes, Verifies, total, udp_checksum_of};
+ghost use Rattle.word_sum.specs.Checksum.{Verifies, total, udp_checksum_of};
 ghost use Rattle.ip_translation.specs.HeadersToIpv6 as headers;
 ghost use Rattle.ip_translation.specs.PacketsToIpv6 as specs;
+ghost use Rattle.ip_translation.specs.TranslatedAddresses.{HasIpv6Addresses};
 ghost use Rattle.ip_translation.specs.declared.packet_translation_error.PacketTranslationError.TheVariants.{Space};
 
 use crate::echo_translation::{icmpv6_pseudo_header, type_over_ipv6, write_echo};
-use crate::{PacketTranslationError, Prefixes, pseudo_header_change};
+use crate::header_translation::change_by_headers;
+use crate::updated_message::{write_updated_tcp, write_updated_udp};
+use crate::{PacketTranslationError, Prefixes};
 use net_base::{IpNumber, Ipv4HeaderSlice, ip_number, pseudo_header_ipv6};
 
 /// The length of a UDP header, in bytes (RFC 768).
@@ -105,14 +108,17 @@ pub(crate) fn check_space(len: usize, room: usize) -> Result<(), PacketTranslati
 }
 
 /// Writes the translation of a message that is no ICMP error. In UDP and TCP only the checksum changes. An ICMP echo message becomes an ICMPv6
-/// echo message. A message of any other protocol is unchanged.
+/// echo message. A message of any other protocol is unchanged. The translated packet begins with the headers `front`.
 pub(crate) fn write_message(
     translated: &mut [u8],
     message: &[u8],
     header: &Ipv4HeaderSlice<'_>,
     prefixes: &Prefixes,
+    front: &[u8],
 )
     requires room { length translated.old ≡ length message.now }
+    requires there { 40 ≤ length front.now }
+    requires addresses { HasIpv6Addresses prefixes.now header.now front.now }
     requires udp { headers.protocol header.now ≡ udp_number → specs.IsWholeUdp message.now }
     requires tcp { headers.protocol header.now ≡ tcp_number → 20 ≤ length message.now }
     requires icmp { headers.protocol header.now ≡ icmpv4_number → 8 ≤ length message.now }
@@ -125,11 +131,12 @@ pub(crate) fn write_message(
         return;
     }
     if header.protocol().0 == ip_number::UDP.0 {
-        write_udp(translated, message, header, prefixes);
+        write_udp(translated, message, header, prefixes, front);
         return;
     }
     if header.protocol().0 == ip_number::TCP.0 {
-        write_tcp(translated, message, header, prefixes);
+        let change = change_by_headers(header, prefixes, front);
+        write_updated_tcp(translated, message, change);
         return;
     }
     translated.copy_from_slice(message);
@@ -156,14 +163,17 @@ fn write_icmp(
     write_echo(translated, message, type_u8, &[], new.as_slice());
 }
 
-/// Writes a UDP packet with its new checksum.
+/// Writes a UDP packet with its new checksum. The translated packet begins with the headers `front`.
 fn write_udp(
     translated: &mut [u8],
     packet: &[u8],
     header: &Ipv4HeaderSlice<'_>,
     prefixes: &Prefixes,
+    front: &[u8],
 )
     requires room { length translated.old ≡ length packet.now }
+    requires front { 40 ≤ length front.now }
+    requires addresses { HasIpv6Addresses prefixes.now header.now front.now }
     requires whole { specs.IsWholeUdp packet.now }
     ensures written { translated.new ≡ specs.translated_udp prefixes.now header.now packet.now }
     ensures alike { specs.udp_checksum packet.now ≢ 0 → specs.VerifiesAlike 8 (headers.old_pseudo_header header.now udp_number)
@@ -171,43 +181,31 @@ fn write_udp(
     ensures computed { specs.udp_checksum packet.now ≡ 0 → Verifies
         (headers.new_pseudo_header prefixes.now header.now udp_number (specs.udp_length packet.now)) (take (specs.udp_length packet.now) translated.new) }
 {
-    let checksum = udp_checksum(packet, header, prefixes);
-    translated.copy_from_slice(packet);
-    store_checksum(translated, UDP_CHECKSUM_AT, checksum);
+    if number(packet, UDP_CHECKSUM_AT) == 0 {
+        write_computed_udp(translated, packet, header, prefixes);
+        return;
+    }
+    let change = change_by_headers(header, prefixes, front);
+    write_updated_udp(translated, packet, change);
 }
 
-/// Writes a TCP segment with its new checksum.
-fn write_tcp(
+/// Writes a UDP packet that had no checksum, with its checksum.
+fn write_computed_udp(
     translated: &mut [u8],
-    segment: &[u8],
+    packet: &[u8],
     header: &Ipv4HeaderSlice<'_>,
     prefixes: &Prefixes,
 )
-    requires room { length translated.old ≡ length segment.now }
-    requires there { 20 ≤ length segment.now }
-    ensures written { translated.new ≡ specs.translated_tcp prefixes.now header.now segment.now }
-    ensures alike { specs.VerifiesAlike 18 (headers.old_pseudo_header header.now tcp_number)
-        (headers.new_pseudo_header prefixes.now header.now tcp_number) segment.now translated.new }
+    requires room { length translated.old ≡ length packet.now }
+    requires whole { specs.IsWholeUdp packet.now }
+    requires none { specs.udp_checksum packet.now ≡ 0 }
+    ensures written { translated.new ≡ specs.translated_udp prefixes.now header.now packet.now }
+    ensures computed { Verifies
+        (headers.new_pseudo_header prefixes.now header.now udp_number (specs.udp_length packet.now)) (take (specs.udp_length packet.now) translated.new) }
 {
-    let checksum = tcp_checksum(segment, header, prefixes);
-    translated.copy_from_slice(segment);
-    store_checksum(translated, TCP_CHECKSUM_AT, checksum);
-}
-
-/// The checksum of a translated UDP packet.
-fn udp_checksum(packet: &[u8], header: &Ipv4HeaderSlice<'_>, prefixes: &Prefixes) -> u16
-    requires there { 8 ≤ length packet.now }
-    ensures checksum { result ≡ specs.new_udp_checksum prefixes.now header.now packet.now }
-    // Assume that the packet has a checksum. Then a receiver accepts the packet exactly if it accepted the packet with the old addresses.
-    ensures verifies { specs.udp_checksum packet.now ≢ 0 → (len rest : ℕ) → len ≤ max_len_over_ipv4 →
-        (IsAllOnes (total (headers.new_pseudo_header prefixes.now header.now udp_number len) + rest + result))
-        ↔ (IsAllOnes (total (headers.old_pseudo_header header.now udp_number len) + rest + specs.udp_checksum packet.now)) }
-{
-    let checksum = number(packet, UDP_CHECKSUM_AT);
-    if checksum == 0 {
-        return computed_udp_checksum(packet, header, prefixes);
-    }
-    pseudo_header_change(header, prefixes).apply_udp(checksum)
+    let checksum = computed_udp_checksum(packet, header, prefixes);
+    translated.copy_from_slice(packet);
+    store_checksum(translated, UDP_CHECKSUM_AT, checksum);
 }
 
 /// The checksum of a translated UDP packet that had no checksum. It covers the pseudo header and the bytes that the length field counts.
@@ -223,18 +221,6 @@ fn computed_udp_checksum(packet: &[u8], header: &Ipv4HeaderSlice<'_>, prefixes: 
     pseudo_header_ipv6(source, destination, ip_number::UDP, u32::from(length))
         .add_slice(counted)
         .to_ones_complement_with_no_zero()
-}
-
-/// The checksum of a translated TCP segment.
-fn tcp_checksum(segment: &[u8], header: &Ipv4HeaderSlice<'_>, prefixes: &Prefixes) -> u16
-    requires there { 20 ≤ length segment.now }
-    ensures checksum { result ≡ specs.new_tcp_checksum prefixes.now header.now segment.now }
-    // A receiver accepts the segment exactly if it accepted the segment with the old addresses.
-    ensures verifies { (len rest : ℕ) → len ≤ max_len_over_ipv4 →
-        (IsAllOnes (total (headers.new_pseudo_header prefixes.now header.now tcp_number len) + rest + result))
-        ↔ (IsAllOnes (total (headers.old_pseudo_header header.now tcp_number len) + rest + specs.tcp_checksum segment.now)) }
-{
-    pseudo_header_change(header, prefixes).apply(number(segment, TCP_CHECKSUM_AT))
 }
 
 /// The number in the two bytes that begin at the offset `place`.

@@ -11,6 +11,7 @@ ghost use Rattle.ip_translation.specs.HeadersToIpv4 as headers;
 ghost use Rattle.ip_translation.specs.Ipv6Packets.{header_counting};
 ghost use Rattle.ip_translation.specs.PacketsToIpv4 as specs;
 ghost use Rattle.ip_translation.specs.Payloads.{IsIpv6PayloadKept};
+ghost use Rattle.ip_translation.specs.TranslatedAddresses.{HasIpv4Addresses};
 ghost use Rattle.ip_translation.specs.declared.packet_translation_error.PacketTranslationError.TheVariants.{Header, IcmpFragment};
 
 use crate::changed_message::store_changed_checksum;
@@ -18,13 +19,13 @@ use crate::echo_translation::{icmpv6_pseudo_header, type_over_ipv4, write_echo};
 use crate::error_to_ipv4::error_to_ipv4;
 use crate::fragment_fields::FragmentFields;
 use crate::header_translation::{IPV6_LEN, ipv6_header};
-use crate::ipv4_header_translation::{header_with, part_header_to_ipv4};
+use crate::ipv4_header_translation::{change_by_ipv4_header, header_with, part_header_to_ipv4};
 use crate::message_translation::{
     ICMP_LEN, TCP_LEN, UDP_CHECKSUM_AT, UDP_LEN, check_header_len, check_space, number,
 };
 use crate::skipped_headers::headers_before;
 use crate::updated_message::{write_updated_tcp, write_updated_udp};
-use crate::{PacketTranslationError, Prefixes, pseudo_header_change_to_ipv4};
+use crate::{PacketTranslationError, Prefixes};
 use arrayvec::ArrayVec;
 use net_base::{IpNumber, Ipv6HeaderSlice, ip_number};
 
@@ -298,6 +299,7 @@ fn translate_message(
     buffer: &mut [u8],
 ) -> Result<usize, PacketTranslationError>
     requires len { length ipv4_header.now ≡ 20 }
+    requires addresses { HasIpv4Addresses prefixes.now header.now ipv4_header.now }
     requires counted { length message.now ≤ max_len_over_ipv4 }
     ensures refused { RefusesExactly result (specs.other_refusal (headers.next_header header.now) message.now (length buffer.old)) }
     ensures len { IfOk result (λ len. len ≡ 20 + length message.now) }
@@ -401,6 +403,7 @@ fn translated_header(
     ensures refused { RefusesExactly result (option_map Header (headers.header_refusal prefixes.now header.now)) }
     ensures written { IfOk result (λ translated. translated.items ≡ headers.translated_header prefixes.now fields header.now) }
     ensures len { IfOk result (λ translated. length translated.items ≡ 20) }
+    ensures addresses { IfOk result (λ translated. HasIpv4Addresses prefixes.now header.now translated.items) }
 {
     match part_header_to_ipv4(header, prefixes, fields) {
         Ok(translated) => Ok(translated),
@@ -467,6 +470,8 @@ fn write_parts(
     prefixes: &Prefixes,
 )
     requires room { length ipv4_header.now + length message.now ≤ length buffer.old }
+    requires there { 20 ≤ length ipv4_header.now }
+    requires addresses { HasIpv4Addresses prefixes.now header.now ipv4_header.now }
     requires udp { headers.next_header header.now ≡ udp_number → 8 ≤ length message.now }
     requires tcp { headers.next_header header.now ≡ tcp_number → 20 ≤ length message.now }
     requires icmp { headers.next_header header.now ≡ icmpv6_number → 8 ≤ length message.now }
@@ -477,18 +482,22 @@ fn write_parts(
 {
     let (front, rest) = buffer.split_at_mut(ipv4_header.len());
     front.copy_from_slice(ipv4_header);
-    write_message(&mut rest[..message.len()], message, header, prefixes);
+    let translated = &mut rest[..message.len()];
+    write_message(translated, message, header, prefixes, ipv4_header);
 }
 
 /// Writes the translation of a message that is no ICMPv6 error. In UDP and TCP only the checksum changes. An ICMPv6 echo message becomes an
-/// ICMP echo message. A message of any other protocol is unchanged.
+/// ICMP echo message. A message of any other protocol is unchanged. The translated packet begins with the header `front`.
 fn write_message(
     translated: &mut [u8],
     message: &[u8],
     header: &Ipv6HeaderSlice<'_>,
     prefixes: &Prefixes,
+    front: &[u8],
 )
     requires room { length translated.old ≡ length message.now }
+    requires there { 20 ≤ length front.now }
+    requires addresses { HasIpv4Addresses prefixes.now header.now front.now }
     requires udp { headers.next_header header.now ≡ udp_number → 8 ≤ length message.now }
     requires tcp { headers.next_header header.now ≡ tcp_number → 20 ≤ length message.now }
     requires icmp { headers.next_header header.now ≡ icmpv6_number → 8 ≤ length message.now }
@@ -501,12 +510,12 @@ fn write_message(
         return;
     }
     if header.next_header().0 == ip_number::UDP.0 {
-        let change = pseudo_header_change_to_ipv4(header, prefixes);
+        let change = change_by_ipv4_header(header, prefixes, front);
         write_updated_udp(translated, message, change);
         return;
     }
     if header.next_header().0 == ip_number::TCP.0 {
-        let change = pseudo_header_change_to_ipv4(header, prefixes);
+        let change = change_by_ipv4_header(header, prefixes, front);
         write_updated_tcp(translated, message, change);
         return;
     }

@@ -11,15 +11,16 @@ ghost use Rattle.ip_translation.specs.HeadersToIpv6 as headers;
 ghost use Rattle.ip_translation.specs.PacketsToIpv6 as specs;
 ghost use Rattle.ip_translation.specs.Payloads.{IsIpv4PayloadKept};
 ghost use Rattle.ip_translation.specs.QuotedPackets.{max_error_len, min_error_len};
+ghost use Rattle.ip_translation.specs.TranslatedAddresses.{HasIpv6Addresses};
 ghost use Rattle.ip_translation.specs.declared.packet_translation_error.PacketTranslationError.TheVariants.{Header};
 
 use crate::changed_message::store_changed_checksum;
 use crate::echo_translation::{icmpv6_pseudo_header, type_over_ipv6};
 use crate::error_to_ipv6::error_to_ipv6;
 use crate::fragment_to_ipv6::translate_part;
-use crate::header_translation::{IPV6_LEN, header_with};
+use crate::header_translation::{IPV6_LEN, checked_ipv6_header, header_with};
 use crate::message_translation::{ICMP_LEN, check_message, check_space, write_message};
-use crate::{PacketTranslationError, Prefixes, header_to_ipv6};
+use crate::{PacketTranslationError, Prefixes};
 use arrayvec::ArrayVec;
 use net_base::{IpNumber, Ipv4HeaderSlice, ip_number};
 
@@ -144,6 +145,7 @@ fn translate_message(
     buffer: &mut [u8],
 ) -> Result<usize, PacketTranslationError>
     requires len { length ipv6_header.now ≡ 40 }
+    requires addresses { HasIpv6Addresses prefixes.now header.now ipv6_header.now }
     requires counted { length message.now ≤ max_len_over_ipv4 }
     ensures refused { RefusesExactly result (specs.other_refusal (headers.protocol header.now) message.now (length buffer.old)) }
     ensures len { IfOk result (λ len. len ≡ 40 + length message.now) }
@@ -246,8 +248,9 @@ fn translated_header(
     ensures written { IfOk result (λ translated. translated.items ≡ headers.translated_header prefixes.now header.now) }
     ensures len { IfOk result (λ translated. length translated.items ≡ 40) }
     ensures total_len { IfOk result (λ _. ipv4_header_len header.now ≤ headers.total_len header.now) }
+    ensures addresses { IfOk result (λ translated. HasIpv6Addresses prefixes.now header.now translated.items) }
 {
-    match header_to_ipv6(header, prefixes) {
+    match checked_ipv6_header(header, prefixes) {
         Ok(translated) => Ok(translated),
         Err(error) => Err(PacketTranslationError::Header(error)),
     }
@@ -282,6 +285,8 @@ pub(crate) fn write_parts(
     prefixes: &Prefixes,
 )
     requires room { length ipv6_header.now + length message.now ≤ length buffer.old }
+    requires there { 40 ≤ length ipv6_header.now }
+    requires addresses { HasIpv6Addresses prefixes.now header.now ipv6_header.now }
     requires udp { headers.protocol header.now ≡ udp_number → specs.IsWholeUdp message.now }
     requires tcp { headers.protocol header.now ≡ tcp_number → 20 ≤ length message.now }
     requires icmp { headers.protocol header.now ≡ icmpv4_number → 8 ≤ length message.now }
@@ -292,5 +297,6 @@ pub(crate) fn write_parts(
 {
     let (front, rest) = buffer.split_at_mut(ipv6_header.len());
     front.copy_from_slice(ipv6_header);
-    write_message(&mut rest[..message.len()], message, header, prefixes);
+    let translated = &mut rest[..message.len()];
+    write_message(translated, message, header, prefixes, ipv6_header);
 }
