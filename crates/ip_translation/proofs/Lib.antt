@@ -19,6 +19,7 @@ pub mod MappedBackLemmas
 pub mod MappingExamples
 pub mod MappingLemmas
 pub mod MessageLemmas
+pub mod OctetLemmas
 pub mod PacketBackLemmas
 pub mod PacketExamples
 pub mod PayloadLemmas

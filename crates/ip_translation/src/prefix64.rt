@@ -1,7 +1,9 @@
-ghost use Rattle.std.specs.Prelude.{◌≡◌, ◌≤◌, IfOk, IfSome, MatchOption, false, length, nat_eq, slice_index, take, true};
+ghost use Rattle.std.specs.Prelude.{◌≡◌, ◌≢◌, ◌≤◌, ◌∷◌, IfOk, IfSome, MatchOption, drop, false, length, nat_eq, slice_index, take, true};
 ghost use Rattle.std.specs.Cmp.Lexicographic.{pointwise};
+ghost use Rattle.std.specs.Int.{from_be_bytes, w32, w64};
 ghost use Rattle.net_base.specs.Refusals.{RefusesExactly};
 ghost use Rattle.ip_translation.specs.Prefixes as specs;
+ghost use Rattle.ip_translation.specs.declared.prefix64.Prefix64.TheVariants.{Bits96};
 
 use crate::{AddressError, Prefix64Error};
 
@@ -47,7 +49,7 @@ impl Prefix64 {
         if address[RESERVED_AT] != 0 {
             return Err(Prefix64Error::ReservedOctet);
         }
-        if prefix.address() != address {
+        if !has_zero_suffix(&prefix, &address) {
             return Err(Prefix64Error::SuffixBits);
         }
         Ok(prefix)
@@ -85,7 +87,20 @@ impl Prefix64 {
     }
 
     /// The IPv6 address that consists of the prefix, this IPv4 address and a suffix of zeros. The reserved octet is 0.
+    #[inline(always)]
     fn join(&self, ipv4: [u8; 4]) -> [u8; 16]
+        ensures joined { result ≡ specs.embedded self.now ipv4 }
+        ensures len { length (specs.octets self.now) ≡ specs.octet_count self.now }
+    {
+        match self {
+            Prefix64::Bits96(start) => join_96(start, ipv4),
+            _ => self.join_any(ipv4),
+        }
+    }
+
+    /// The same address, for a prefix of any length. It is a function of its own, so that the code for 96 bits is not mixed with it.
+    #[inline(never)]
+    fn join_any(&self, ipv4: [u8; 4]) -> [u8; 16]
         ensures joined { result ≡ specs.embedded self.now ipv4 }
         ensures len { length (specs.octets self.now) ≡ specs.octet_count self.now }
     {
@@ -111,10 +126,7 @@ impl Prefix64 {
                 let [a, b, c, d, e, f, g, h] = *start;
                 [a, b, c, d, e, f, g, h, 0, w, x, y, z, 0, 0, 0]
             }
-            Prefix64::Bits96(start) => {
-                let [a, b, c, d, e, f, g, h, i, j, k] = *start;
-                [a, b, c, d, e, f, g, h, 0, i, j, k, w, x, y, z]
-            }
+            Prefix64::Bits96(start) => join_96(start, ipv4),
         }
     }
 
@@ -174,23 +186,35 @@ impl Prefix64 {
         ensures { result ≡ specs.is_excluded self.now ipv4 }
     {
         match self {
-            Prefix64::Bits96(start) => *start == WELL_KNOWN_OCTETS && is_not_global(ipv4),
+            Prefix64::Bits96(start) => are_equal(start, &WELL_KNOWN_OCTETS) && is_not_global(ipv4),
             _ => false,
         }
     }
 
     /// Whether an address begins with the prefix. The reserved octet of the address is skipped.
+    #[inline(always)]
     fn is_front_of(&self, address: &[u8; 16]) -> bool
         ensures { result ≡ pointwise nat_eq (take (specs.octet_count self.now) (specs.without_reserved address.now)) (specs.octets self.now) }
     {
-        let [a, b, c, d, e, f, g, h, _, i, j, k, _, _, _, _] = *address;
+        match self {
+            Prefix64::Bits96(start) => is_front_96(start, address),
+            _ => self.is_any_front_of(address),
+        }
+    }
+
+    /// The same test, for a prefix of any length.
+    #[inline(never)]
+    fn is_any_front_of(&self, address: &[u8; 16]) -> bool
+        ensures { result ≡ pointwise nat_eq (take (specs.octet_count self.now) (specs.without_reserved address.now)) (specs.octets self.now) }
+    {
+        let [a, b, c, d, e, f, g, h, _, _, _, _, _, _, _, _] = *address;
         match self {
             Prefix64::Bits32(start) => [a, b, c, d] == *start,
             Prefix64::Bits40(start) => [a, b, c, d, e] == *start,
             Prefix64::Bits48(start) => [a, b, c, d, e, f] == *start,
             Prefix64::Bits56(start) => [a, b, c, d, e, f, g] == *start,
             Prefix64::Bits64(start) => [a, b, c, d, e, f, g, h] == *start,
-            Prefix64::Bits96(start) => [a, b, c, d, e, f, g, h, i, j, k] == *start,
+            Prefix64::Bits96(start) => is_front_96(start, address),
         }
     }
 
@@ -200,12 +224,23 @@ impl Prefix64 {
         ensures { result ≡ specs.extracted self.now address.now }
     {
         match self {
+            Prefix64::Bits96(_) => last_four(address),
+            _ => self.ipv4_after_any(address),
+        }
+    }
+
+    /// The same IPv4 address, for a prefix of any length.
+    #[inline(never)]
+    fn ipv4_after_any(&self, address: &[u8; 16]) -> [u8; 4]
+        ensures { result ≡ specs.extracted self.now address.now }
+    {
+        match self {
             Prefix64::Bits32(_) => [address[4], address[5], address[6], address[7]],
             Prefix64::Bits40(_) => [address[5], address[6], address[7], address[9]],
             Prefix64::Bits48(_) => [address[6], address[7], address[9], address[10]],
             Prefix64::Bits56(_) => [address[7], address[9], address[10], address[11]],
             Prefix64::Bits64(_) => [address[9], address[10], address[11], address[12]],
-            Prefix64::Bits96(_) => [address[12], address[13], address[14], address[15]],
+            Prefix64::Bits96(_) => last_four(address),
         }
     }
 }
@@ -213,19 +248,103 @@ impl Prefix64 {
 /// The place of the reserved octet, which contains bits 64 to 71 (RFC 6052, section 2.2).
 const RESERVED_AT: usize = 8;
 
+/// The octets that precede the IPv4 address if the prefix has 96 bits, without the reserved octet.
+#[inline(always)]
+fn front_96(address: &[u8; 16]) -> [u8; 11]
+    ensures { result ≡ take 11 (specs.without_reserved address.now) }
+{
+    let [a, b, c, d, e, f, g, h, _, i, j, k, _, _, _, _] = *address;
+    [a, b, c, d, e, f, g, h, i, j, k]
+}
+
+/// The last four octets of an address.
+#[inline(always)]
+fn last_four(address: &[u8; 16]) -> [u8; 4]
+    ensures { result ≡ drop 12 address.now }
+{
+    [address[12], address[13], address[14], address[15]]
+}
+
+/// The IPv6 address that consists of these octets of a prefix of 96 bits and of this IPv4 address.
+#[inline(always)]
+fn join_96(start: &[u8; 11], ipv4: [u8; 4]) -> [u8; 16]
+    ensures joined { result ≡ specs.embedded (Bits96 start.now) ipv4 }
+    ensures len { length start.now ≡ 11 }
+{
+    let [a, b, c, d, e, f, g, h, i, j, k] = *start;
+    let [l, m, n, o] = ipv4;
+    [a, b, c, d, e, f, g, h, 0, i, j, k, l, m, n, o]
+}
+
+/// Whether an address begins with these octets of a prefix of 96 bits. The reserved octet of the address is skipped.
+#[inline(always)]
+fn is_front_96(start: &[u8; 11], address: &[u8; 16]) -> bool
+    ensures { result ≡ pointwise nat_eq (take 11 (specs.without_reserved address.now)) start.now }
+{
+    are_equal(&front_96(address), start)
+}
+
+/// Whether these octets are equal. They are compared as two numbers, which is faster than octet by octet.
+#[inline(always)]
+fn are_equal(octets: &[u8; 11], others: &[u8; 11]) -> bool
+    ensures { result ≡ pointwise nat_eq octets.now others.now }
+{
+    let (front, rest) = numbers_of(octets);
+    let (other_front, other_rest) = numbers_of(others);
+    front == other_front && rest == other_rest
+}
+
+/// The number in the first eight octets, and the number in the last three.
+#[inline(always)]
+fn numbers_of(octets: &[u8; 11]) -> (u64, u32)
+    ensures front { result.0 ≡ from_be_bytes w64 (take 8 octets.now) }
+    ensures rest { result.1 ≡ from_be_bytes w32 (0 ∷ drop 8 octets.now) }
+{
+    let [a, b, c, d, e, f, g, h, i, j, k] = *octets;
+    (
+        u64::from_be_bytes([a, b, c, d, e, f, g, h]),
+        u32::from_be_bytes([0, i, j, k]),
+    )
+}
+
+/// Whether an address has a suffix of zeros after a prefix, which is the prefix at the front of the address.
+#[inline(always)]
+fn has_zero_suffix(prefix: &Prefix64, address: &[u8; 16]) -> bool
+    requires front { specs.prefix_address prefix.now ≡ specs.network address.now (specs.prefix_len prefix.now) }
+    ensures { result ≡ pointwise nat_eq (specs.network address.now (specs.prefix_len prefix.now)) address.now }
+{
+    match prefix {
+        Prefix64::Bits96(_) => u32::from_be_bytes(last_four(address)) == 0,
+        _ => prefix.address() == *address,
+    }
+}
+
 /// The prefix with this length at the front of an address, whatever bits follow the prefix. `None` if no prefix has this length.
+#[inline(always)]
 fn prefix_of(address: &[u8; 16], len: u8) -> Option<Prefix64>
     ensures { MatchOption result (specs.is_prefix_len len ≡ false) (λ prefix. (specs.is_prefix_len len ≡ true) × (specs.prefix_len prefix ≡ len)
         × (slice_index address.now 8 ≡ 0 → specs.prefix_address prefix ≡ specs.network address.now len)) }
 {
-    let [a, b, c, d, e, f, g, h, _, i, j, k, _, _, _, _] = *address;
+    if len == 96 {
+        return Some(Prefix64::Bits96(front_96(address)));
+    }
+    shorter_prefix_of(address, len)
+}
+
+/// The prefix with this length at the front of an address, if the length is not 96.
+#[inline(never)]
+fn shorter_prefix_of(address: &[u8; 16], len: u8) -> Option<Prefix64>
+    requires { len ≢ 96 }
+    ensures { MatchOption result (specs.is_prefix_len len ≡ false) (λ prefix. (specs.is_prefix_len len ≡ true) × (specs.prefix_len prefix ≡ len)
+        × (slice_index address.now 8 ≡ 0 → specs.prefix_address prefix ≡ specs.network address.now len)) }
+{
+    let [a, b, c, d, e, f, g, h, _, _, _, _, _, _, _, _] = *address;
     match len {
         32 => Some(Prefix64::Bits32([a, b, c, d])),
         40 => Some(Prefix64::Bits40([a, b, c, d, e])),
         48 => Some(Prefix64::Bits48([a, b, c, d, e, f])),
         56 => Some(Prefix64::Bits56([a, b, c, d, e, f, g])),
         64 => Some(Prefix64::Bits64([a, b, c, d, e, f, g, h])),
-        96 => Some(Prefix64::Bits96([a, b, c, d, e, f, g, h, i, j, k])),
         _ => None,
     }
 }

@@ -1,8 +1,8 @@
 use Rattle.std.proofs.Common.{rules, ap, ap₂, sym, ◌∙◌}
 use Rattle.ip_translation.specs.Prefixes as specs
-use Rattle.ip_translation.specs.declared.prefix64.Prefix64.TheVariants.{Bits32, Bits40, Bits48, Bits56, Bits64, Bits96}
+use Rattle.ip_translation.specs.declared.prefix64.Prefix64.TheVariants.{Bits32, Bits40, Bits48, Bits56, Bits64}
 use Rattle.ip_translation.proofs.ListedLemmas.{whole}
-use Rattle.ip_translation.proofs.prefix64.Prefix64.join.Goals as goal
+use Rattle.ip_translation.proofs.prefix64.Prefix64.join_any.Goals as goal
 
 pub returns-in-Bits32-clause-joined : goal.returns-in-Bits32-clause-joined
 returns-in-Bits32-clause-joined c =
@@ -28,8 +28,3 @@ pub returns-in-Bits64-clause-joined : goal.returns-in-Bits64-clause-joined
 returns-in-Bits64-clause-joined c =
     ap₂ (λ start ipv4. specs.embedded (Bits64 start) ipv4) (whole c.in-Bits64.start 8 (search rules)) (whole c.args.ipv4 4 (search rules))
     ∙ ap (λ prefix. specs.embedded prefix c.args.ipv4) (sym c.in-Bits64.is)
-
-pub returns-in-Bits96-clause-joined : goal.returns-in-Bits96-clause-joined
-returns-in-Bits96-clause-joined c =
-    ap₂ (λ start ipv4. specs.embedded (Bits96 start) ipv4) (whole c.in-Bits96.start 11 (search rules)) (whole c.args.ipv4 4 (search rules))
-    ∙ ap (λ prefix. specs.embedded prefix c.args.ipv4) (sym c.in-Bits96.is)

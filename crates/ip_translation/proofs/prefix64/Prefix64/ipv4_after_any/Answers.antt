@@ -1,8 +1,8 @@
 use Rattle.std.proofs.Common.{[], ap, sym, ◌∙◌}
 use Rattle.ip_translation.specs.Prefixes as specs
-use Rattle.ip_translation.specs.declared.prefix64.Prefix64.TheVariants.{Bits32, Bits40, Bits48, Bits56, Bits64, Bits96}
+use Rattle.ip_translation.specs.declared.prefix64.Prefix64.TheVariants.{Bits32, Bits40, Bits48, Bits56, Bits64}
 use Rattle.ip_translation.proofs.ListedLemmas.{whole}
-use Rattle.ip_translation.proofs.prefix64.Prefix64.ipv4_after.Goals as goal
+use Rattle.ip_translation.proofs.prefix64.Prefix64.ipv4_after_any.Goals as goal
 
 pub returns-in-Bits32 : goal.returns-in-Bits32
 returns-in-Bits32 c =
@@ -28,8 +28,3 @@ pub returns-in-Bits64 : goal.returns-in-Bits64
 returns-in-Bits64 c =
     ap (λ address. specs.extracted (Bits64 []) address) (whole c.args.address.now 16 c.told-address)
     ∙ ap (λ prefix. specs.extracted prefix c.args.address.now) (sym c.in-Bits64.is)
-
-pub returns-in-Bits96 : goal.returns-in-Bits96
-returns-in-Bits96 c =
-    ap (λ address. specs.extracted (Bits96 []) address) (whole c.args.address.now 16 c.told-address)
-    ∙ ap (λ prefix. specs.extracted prefix c.args.address.now) (sym c.in-Bits96.is)

@@ -2,7 +2,7 @@ use Rattle.std.proofs.Common.{ap, sym, ◌∙◌, take, nat_eq}
 use Rattle.std.specs.Cmp.Lexicographic.{pointwise}
 use Rattle.ip_translation.specs.Prefixes as specs
 use Rattle.ip_translation.proofs.ListedLemmas.{whole}
-use Rattle.ip_translation.proofs.prefix64.Prefix64.is_front_of.Goals as goal
+use Rattle.ip_translation.proofs.prefix64.Prefix64.is_any_front_of.Goals as goal
 
 pub returns-in-Bits32 : goal.returns-in-Bits32
 returns-in-Bits32 c =
@@ -43,11 +43,3 @@ returns-in-Bits64 c =
     (whole c.args.address.now 16 c.told-address)
     ∙ ap (λ prefix. pointwise nat_eq (take (specs.octet_count prefix) (specs.without_reserved c.args.address.now)) (specs.octets prefix))
     (sym c.in-Bits64.is)
-
-pub returns-in-Bits96 : goal.returns-in-Bits96
-returns-in-Bits96 c =
-    c.eq-in-Bits96.ensures
-    ∙ ap (λ address. pointwise nat_eq (take 11 (specs.without_reserved address)) c.in-Bits96.start)
-    (whole c.args.address.now 16 c.told-address)
-    ∙ ap (λ prefix. pointwise nat_eq (take (specs.octet_count prefix) (specs.without_reserved c.args.address.now)) (specs.octets prefix))
-    (sym c.in-Bits96.is)
