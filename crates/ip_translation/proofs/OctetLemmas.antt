@@ -1,11 +1,15 @@
 -- Octets of addresses that are compared as numbers.
-use Rattle.std.proofs.Common.{◌≡◌, ℕ, zero, suc, ◌==◌, Bool, true, false, List, ◌∷◌, ◌++◌, length, drop, take, nat_eq, length-drop, length-take, refl, sym, ap, ap₂, ◌∙◌, arith}
+use Rattle.std.proofs.Common.{◌≡◌, ℕ, zero, suc, ◌==◌, Bool, true, false, List, ◌∷◌, ◌++◌, length, drop, take, nat_eq, length-drop, length-take, refl, sym, ap, ap₂, subst, slice_index, ◌∙◌, arith}
 use Rattle.std.specs.Cmp.Lexicographic.{bytes_decides, pointwise}
 use Rattle.std.specs.Int.{from_be_bytes, w32, w64}
+use Rattle.std.specs.Prelude.{replicate}
 use Rattle.std.proofs.lemmas.Bool.Decides.{nat_tests}
 use Rattle.std.proofs.lemmas.List.{take-append-drop}
 use Rattle.std.proofs.lemmas.Nat.{be_bytes_4, be_bytes_8}
 use Rattle.net_base.specs.Bytes.{IsBytes}
+use Rattle.ip_translation.specs.Prefixes.{prefix_address, without_reserved}
+use Rattle.ip_translation.specs.declared.prefix64.Prefix64.TheVariants.{Bits96}
+use Rattle.ip_translation.proofs.ListedLemmas.{listed, whole}
 use Rattle.ip_translation.proofs.PacketBackLemmas.{bytes_drop, bytes_take, equal}
 
 -- two tests give the same answer if each is passed whenever the other one is
@@ -62,3 +66,14 @@ compared_as_numbers octets others front other_front rest other_rest len len_too 
     (λ same.
     let is : octets ≡ others = (bytes_decides octets others).0 same in
     same_number (is_rest ∙ ap (λ octets. from_be_bytes w32 (0 ∷ drop 8 octets)) is ∙ sym is_rest_too))
+
+-- An address is the address of the prefix of 96 bits at its front if all its other octets are 0.
+pub front_is_address : (address : List ℕ) → length address ≡ 16 → slice_index address 8 ≡ 0 → drop 12 address ≡ replicate 4 0
+    → prefix_address (Bits96 (take 11 (without_reserved address))) ≡ address
+front_is_address address sixteen none zeros =
+    let octets : List ℕ = listed address 0 16 in
+    subst (λ address. slice_index address 8 ≡ 0 → drop 12 address ≡ replicate 4 0
+    → prefix_address (Bits96 (take 11 (without_reserved address))) ≡ address)
+    (whole address 16 sixteen)
+    (λ none zeros. ap₂ (λ octet suffix. take 8 octets ++ (octet ∷ (take 3 (drop 9 octets) ++ suffix))) (sym none) (sym zeros))
+    none zeros

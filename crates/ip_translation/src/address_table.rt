@@ -21,6 +21,7 @@ pub struct AddressTable<'a> {
 
 impl<'a> AddressTable<'a> {
     /// The IPv6 address for an IPv4 address.
+    #[inline(always)]
     pub fn embed(&self, ipv4: [u8; 4]) -> [u8; 16]
         ensures embedded { result ≡ tables.embedded self.now ipv4 }
         // If there are no mappings, this is true for every address.
@@ -34,6 +35,7 @@ impl<'a> AddressTable<'a> {
 
     /// The IPv4 address for an IPv6 address. If no mapping applies, these are the bits after the prefix, even if the address does not begin
     /// with the prefix.
+    #[inline(always)]
     pub(crate) fn ipv4_of(&self, address: &[u8; 16]) -> [u8; 4]
         ensures ipv4 { result ≡ tables.extracted self.now address.now }
     {
@@ -48,6 +50,7 @@ impl<'a> AddressTable<'a> {
     /// # Errors
     ///
     /// The error of `Prefix64::to_ipv6`, if no mapping applies. An address with a mapping is never refused.
+    #[inline(always)]
     pub fn to_ipv6(&self, ipv4: [u8; 4]) -> Result<[u8; 16], AddressError>
         ensures refused { RefusesExactly result (tables.to_ipv6_refusal self.now ipv4) }
         ensures embedded { IfOk result (λ address. address ≡ tables.embedded self.now ipv4) }
@@ -63,6 +66,7 @@ impl<'a> AddressTable<'a> {
     /// # Errors
     ///
     /// The error of `Prefix64::to_ipv4`, if no mapping applies. An address with a mapping is never refused.
+    #[inline(always)]
     pub fn to_ipv4(&self, address: &[u8; 16]) -> Result<[u8; 4], AddressError>
         ensures refused { RefusesExactly result (tables.to_ipv4_refusal self.now address.now) }
         ensures extracted { IfOk result (λ ipv4. ipv4 ≡ tables.extracted self.now address.now) }
@@ -98,6 +102,7 @@ impl<'a> AddressTable<'a> {
 }
 
 /// The mapping with the longest IPv4 prefix that the IPv4 address with this number begins with.
+#[inline(never)]
 fn longest_ipv4(mappings: &[AddressMapping], address: u32) -> Option<AddressMapping>
     ensures { result ≡ specs.longest_ipv4 mappings.now address }
 {
@@ -111,6 +116,7 @@ fn longest_ipv4(mappings: &[AddressMapping], address: u32) -> Option<AddressMapp
 }
 
 /// The mapping with the longest IPv6 prefix that the IPv6 address with this number begins with.
+#[inline(never)]
 fn longest_ipv6(mappings: &[AddressMapping], address: u128) -> Option<AddressMapping>
     ensures { result ≡ specs.longest_ipv6 mappings.now address }
 {

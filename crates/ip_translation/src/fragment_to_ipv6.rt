@@ -31,6 +31,7 @@ pub(crate) const HEADERS_LEN: usize = IPV6_LEN + FRAGMENT_LEN as usize;
 const FRAGMENT_LEN: u16 = 8;
 
 /// Translates a fragment with this header (RFC 7915, section 4.1).
+#[inline(never)]
 pub(crate) fn translate_part(
     header: &Ipv4HeaderSlice<'_>,
     packet: &[u8],

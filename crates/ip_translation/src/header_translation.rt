@@ -52,6 +52,7 @@ pub fn header_to_ipv6(
 }
 
 /// Checks an IPv4 header, and returns the IPv6 header for it, as `header_to_ipv6` does. Callers read the translated addresses from the result.
+#[inline(always)]
 pub(crate) fn checked_ipv6_header(
     header: &Ipv4HeaderSlice<'_>,
     prefixes: &Prefixes,

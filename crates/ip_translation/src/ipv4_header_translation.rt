@@ -60,6 +60,7 @@ pub fn header_to_ipv4(
 }
 
 /// Translates the header of a packet without further extension headers. These fields describe the fragment.
+#[inline(always)]
 pub(crate) fn part_header_to_ipv4(
     header: &Ipv6HeaderSlice<'_>,
     prefixes: &Prefixes,

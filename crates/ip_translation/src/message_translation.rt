@@ -109,6 +109,7 @@ pub(crate) fn check_space(len: usize, room: usize) -> Result<(), PacketTranslati
 
 /// Writes the translation of a message that is no ICMP error. In UDP and TCP only the checksum changes. An ICMP echo message becomes an ICMPv6
 /// echo message. A message of any other protocol is unchanged. The translated packet begins with the headers `front`.
+#[inline(always)]
 pub(crate) fn write_message(
     translated: &mut [u8],
     message: &[u8],
@@ -143,6 +144,7 @@ pub(crate) fn write_message(
 }
 
 /// Writes an ICMP echo message as an ICMPv6 echo message, whose checksum covers a pseudo header.
+#[inline(never)]
 fn write_icmp(
     translated: &mut [u8],
     message: &[u8],
@@ -190,6 +192,7 @@ fn write_udp(
 }
 
 /// Writes a UDP packet that had no checksum, with its checksum.
+#[inline(never)]
 fn write_computed_udp(
     translated: &mut [u8],
     packet: &[u8],

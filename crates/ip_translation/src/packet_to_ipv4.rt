@@ -211,6 +211,7 @@ fn translate_direct(
 }
 
 /// Translates one of several fragments, which consists of this header and this part of a message.
+#[inline(never)]
 fn translate_part(
     header: &Ipv6HeaderSlice<'_>,
     message: &[u8],
@@ -291,6 +292,7 @@ fn translate_whole(
 }
 
 /// Translates a packet with this header and this message, which is no ICMPv6 error. `ipv4_header` is the translated header.
+#[inline(always)]
 fn translate_message(
     ipv4_header: &[u8],
     message: &[u8],
@@ -326,6 +328,7 @@ fn is_icmp_error(protocol: IpNumber, message: &[u8]) -> bool
 }
 
 /// Translates a packet with this header and this ICMPv6 error.
+#[inline(never)]
 fn translate_error(
     message: &[u8],
     header: &Ipv6HeaderSlice<'_>,
@@ -395,6 +398,7 @@ fn write_error(translated: &mut [u8], error: &[u8], message: &[u8], header: &Ipv
 }
 
 /// The IPv4 header for this IPv6 header.
+#[inline(always)]
 fn translated_header(
     header: &Ipv6HeaderSlice<'_>,
     prefixes: &Prefixes,
@@ -462,6 +466,7 @@ fn check_udp(packet: &[u8]) -> Result<(), PacketTranslationError>
 }
 
 /// Writes the translated header and the translated message to the front of the buffer.
+#[inline(always)]
 fn write_parts(
     buffer: &mut [u8],
     ipv4_header: &[u8],
@@ -488,6 +493,7 @@ fn write_parts(
 
 /// Writes the translation of a message that is no ICMPv6 error. In UDP and TCP only the checksum changes. An ICMPv6 echo message becomes an
 /// ICMP echo message. A message of any other protocol is unchanged. The translated packet begins with the header `front`.
+#[inline(always)]
 fn write_message(
     translated: &mut [u8],
     message: &[u8],
@@ -523,6 +529,7 @@ fn write_message(
 }
 
 /// Writes an ICMPv6 echo message as an ICMP echo message, whose checksum covers no pseudo header.
+#[inline(never)]
 fn write_icmp(translated: &mut [u8], message: &[u8], header: &Ipv6HeaderSlice<'_>)
     requires room { length translated.old ≡ length message.now }
     requires there { 8 ≤ length message.now }

@@ -137,6 +137,7 @@ fn translate_after(
 }
 
 /// Translates a packet with this header and this message, which is no ICMP error. `ipv6_header` is the translated header.
+#[inline(always)]
 fn translate_message(
     ipv6_header: &[u8],
     message: &[u8],
@@ -172,6 +173,7 @@ fn is_icmp_error(protocol: IpNumber, message: &[u8]) -> bool
 }
 
 /// Translates a packet with this header and this ICMP error.
+#[inline(never)]
 fn translate_error(
     message: &[u8],
     header: &Ipv4HeaderSlice<'_>,
@@ -240,6 +242,7 @@ fn write_error(
 }
 
 /// The IPv6 header for this IPv4 header.
+#[inline(always)]
 fn translated_header(
     header: &Ipv4HeaderSlice<'_>,
     prefixes: &Prefixes,
@@ -277,6 +280,7 @@ pub(crate) fn message_after<'a>(
 }
 
 /// Writes the translated header and the translated message to the front of the buffer.
+#[inline(always)]
 pub(crate) fn write_parts(
     buffer: &mut [u8],
     ipv6_header: &[u8],

@@ -1,4 +1,4 @@
-ghost use Rattle.std.specs.Prelude.{◌≡◌, ◌≢◌, ◌≤◌, ◌∷◌, IfOk, IfSome, MatchOption, drop, false, length, nat_eq, slice_index, take, true};
+ghost use Rattle.std.specs.Prelude.{◌≡◌, ◌≤◌, ◌↔◌, ◌∷◌, IfOk, IfSome, IsTrue, MatchOption, drop, false, length, nat_eq, replicate, slice_index, take, true};
 ghost use Rattle.std.specs.Cmp.Lexicographic.{pointwise};
 ghost use Rattle.std.specs.Int.{from_be_bytes, w32, w64};
 ghost use Rattle.net_base.specs.Refusals.{RefusesExactly};
@@ -43,13 +43,27 @@ impl Prefix64 {
         ensures kept { IfOk result (λ prefix. specs.prefix_address prefix ≡ address) }
         ensures len { IfOk result (λ prefix. specs.prefix_len prefix ≡ len) }
     {
+        if len == 96 && address[RESERVED_AT] == 0 && is_zero(last_four(&address)) {
+            return Ok(Prefix64::Bits96(front_96(&address)));
+        }
+        Prefix64::checked(address, len)
+    }
+
+    /// The prefix with this length, or the error, as `new` returns it. It is a function of its own, so that the code for a prefix of 96 bits
+    /// is not mixed with it.
+    #[inline(never)]
+    fn checked(address: [u8; 16], len: u8) -> Result<Prefix64, Prefix64Error>
+        ensures refused { RefusesExactly result (specs.prefix_refusal address len) }
+        ensures kept { IfOk result (λ prefix. specs.prefix_address prefix ≡ address) }
+        ensures len { IfOk result (λ prefix. specs.prefix_len prefix ≡ len) }
+    {
         let Some(prefix) = prefix_of(&address, len) else {
             return Err(Prefix64Error::Len(len));
         };
         if address[RESERVED_AT] != 0 {
             return Err(Prefix64Error::ReservedOctet);
         }
-        if !has_zero_suffix(&prefix, &address) {
+        if prefix.address() != address {
             return Err(Prefix64Error::SuffixBits);
         }
         Ok(prefix)
@@ -77,6 +91,7 @@ impl Prefix64 {
     }
 
     /// The IPv6 address that contains an IPv4 address: the prefix, the address, and a suffix of zeros (RFC 6052, section 2.3).
+    #[inline(always)]
     pub fn embed(&self, ipv4: [u8; 4]) -> [u8; 16]
         ensures embedded { result ≡ specs.embedded self.now ipv4 }
         // If `extract` is called with the result, it returns the same IPv4 address.
@@ -132,6 +147,7 @@ impl Prefix64 {
 
     /// The IPv4 address in an IPv6 address (RFC 6052, section 2.3). `None` if the IPv6 address does not begin with the prefix, or if bits
     /// 64 to 71 are not 0, as section 2.2 requires. Any suffix is allowed, since a translator ignores it (section 2.2).
+    #[inline(always)]
     pub fn extract(&self, address: &[u8; 16]) -> Option<[u8; 4]>
         ensures extracted { MatchOption result (specs.is_embedded self.now address.now ≡ false)
             (λ ipv4. (specs.is_embedded self.now address.now ≡ true) × (ipv4 ≡ specs.extracted self.now address.now)) }
@@ -151,6 +167,7 @@ impl Prefix64 {
     /// # Errors
     ///
     /// `NotGlobal` if the prefix is the well-known prefix, and the address is not global (RFC 6052, section 3.1).
+    #[inline(always)]
     pub fn to_ipv6(&self, ipv4: [u8; 4]) -> Result<[u8; 16], AddressError>
         ensures refused { RefusesExactly result (specs.to_ipv6_refusal self.now ipv4) }
         ensures embedded { IfOk result (λ address. address ≡ specs.embedded self.now ipv4) }
@@ -168,6 +185,7 @@ impl Prefix64 {
     /// The call checks these cases, in this order:
     /// - `NotEmbedded` if `extract` returns `None`.
     /// - `NotGlobal` if the prefix is the well-known prefix, and the IPv4 address is not global (RFC 6052, section 3.1).
+    #[inline(always)]
     pub fn to_ipv4(&self, address: &[u8; 16]) -> Result<[u8; 4], AddressError>
         ensures refused { RefusesExactly result (specs.to_ipv4_refusal self.now address.now) }
         ensures extracted { IfOk result (λ ipv4. ipv4 ≡ specs.extracted self.now address.now) }
@@ -182,6 +200,7 @@ impl Prefix64 {
     }
 
     /// Whether the prefix must not embed this address, since the prefix is the well-known prefix and the address is not global.
+    #[inline(always)]
     fn is_excluded(&self, ipv4: [u8; 4]) -> bool
         ensures { result ≡ specs.is_excluded self.now ipv4 }
     {
@@ -271,9 +290,12 @@ fn join_96(start: &[u8; 11], ipv4: [u8; 4]) -> [u8; 16]
     ensures joined { result ≡ specs.embedded (Bits96 start.now) ipv4 }
     ensures len { length start.now ≡ 11 }
 {
-    let [a, b, c, d, e, f, g, h, i, j, k] = *start;
-    let [l, m, n, o] = ipv4;
-    [a, b, c, d, e, f, g, h, 0, i, j, k, l, m, n, o]
+    // Slices are copied, since an array of single octets is put together octet by octet.
+    let mut address = [0; 16];
+    address[..8].copy_from_slice(&start[..8]);
+    address[9..12].copy_from_slice(&start[8..]);
+    address[12..].copy_from_slice(&ipv4);
+    address
 }
 
 /// Whether an address begins with these octets of a prefix of 96 bits. The reserved octet of the address is skipped.
@@ -307,34 +329,16 @@ fn numbers_of(octets: &[u8; 11]) -> (u64, u32)
     )
 }
 
-/// Whether an address has a suffix of zeros after a prefix, which is the prefix at the front of the address.
+/// Whether these octets are zeros.
 #[inline(always)]
-fn has_zero_suffix(prefix: &Prefix64, address: &[u8; 16]) -> bool
-    requires front { specs.prefix_address prefix.now ≡ specs.network address.now (specs.prefix_len prefix.now) }
-    ensures { result ≡ pointwise nat_eq (specs.network address.now (specs.prefix_len prefix.now)) address.now }
+fn is_zero(octets: [u8; 4]) -> bool
+    ensures { IsTrue result ↔ (octets ≡ replicate 4 0) }
 {
-    match prefix {
-        Prefix64::Bits96(_) => u32::from_be_bytes(last_four(address)) == 0,
-        _ => prefix.address() == *address,
-    }
+    u32::from_be_bytes(octets) == 0
 }
 
 /// The prefix with this length at the front of an address, whatever bits follow the prefix. `None` if no prefix has this length.
-#[inline(always)]
 fn prefix_of(address: &[u8; 16], len: u8) -> Option<Prefix64>
-    ensures { MatchOption result (specs.is_prefix_len len ≡ false) (λ prefix. (specs.is_prefix_len len ≡ true) × (specs.prefix_len prefix ≡ len)
-        × (slice_index address.now 8 ≡ 0 → specs.prefix_address prefix ≡ specs.network address.now len)) }
-{
-    if len == 96 {
-        return Some(Prefix64::Bits96(front_96(address)));
-    }
-    shorter_prefix_of(address, len)
-}
-
-/// The prefix with this length at the front of an address, if the length is not 96.
-#[inline(never)]
-fn shorter_prefix_of(address: &[u8; 16], len: u8) -> Option<Prefix64>
-    requires { len ≢ 96 }
     ensures { MatchOption result (specs.is_prefix_len len ≡ false) (λ prefix. (specs.is_prefix_len len ≡ true) × (specs.prefix_len prefix ≡ len)
         × (slice_index address.now 8 ≡ 0 → specs.prefix_address prefix ≡ specs.network address.now len)) }
 {
@@ -345,6 +349,7 @@ fn shorter_prefix_of(address: &[u8; 16], len: u8) -> Option<Prefix64>
         48 => Some(Prefix64::Bits48([a, b, c, d, e, f])),
         56 => Some(Prefix64::Bits56([a, b, c, d, e, f, g])),
         64 => Some(Prefix64::Bits64([a, b, c, d, e, f, g, h])),
+        96 => Some(Prefix64::Bits96(front_96(address))),
         _ => None,
     }
 }
@@ -353,6 +358,7 @@ fn shorter_prefix_of(address: &[u8; 16], len: u8) -> Option<Prefix64>
 const WELL_KNOWN_OCTETS: [u8; 11] = [0, 0x64, 0xff, 0x9b, 0, 0, 0, 0, 0, 0, 0];
 
 /// Whether an address is special (RFC 5735, section 4) or shared (RFC 6598).
+#[inline(never)]
 fn is_not_global(ipv4: [u8; 4]) -> bool
     ensures { result ≡ specs.is_not_global ipv4 }
 {
