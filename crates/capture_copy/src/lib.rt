@@ -11,6 +11,17 @@
 
 mod begin;
 mod copier;
+mod extent;
+mod part_error;
+mod place;
+mod records;
+mod transfer;
+mod visitor;
 
 pub use begin::is_pcapng;
 pub use copier::{BUFFER_LEN, Buffer, Copier, CopyError};
+pub use extent::Extent;
+pub use part_error::PartError;
+pub use place::Place;
+pub use records::{Records, copy_records};
+pub use visitor::Visitor;
