@@ -1,6 +1,11 @@
 -- The results of a whole selection.
-use Rattle.std.proofs.Common.{◌≡◌, ◌⊎◌, ℕ, List, Option, Result, Ok, Err, inl, inr, subst}
-use Rattle.capture_copy.specs.Passing.{PassesTo}
+use Rattle.std.proofs.Common.{◌≡◌, ◌⊎◌, ℕ, List, Option, Result, Ok, Err, inl, inr, refl, subst, sym}
+use Rattle.capture_copy.specs.Captures.{PassesCapture}
+use Rattle.capture_copy.specs.Records.{first_records, records_of}
+use Rattle.capture_copy.specs.declared.extent.Extent.{Extent}
+use Rattle.capture_copy.specs.declared.extent.Extent.TheVariants.{Enough, Whole}
+use Rattle.capture_copy.specs.declared.part_error.PartError.{PartError}
+use Rattle.capture_copy.specs.declared.part_error.PartError.TheVariants as errors
 use Rattle.capture_file.specs.declared.reader.open_error.OpenError.TheVariants.{Classic, Pcapng}
 use Rattle.capture_request.specs.declared.capture_error.CaptureError.{CaptureError}
 use Rattle.capture_request.specs.declared.capture_error.CaptureError.TheVariants.{Header, Read, ReadHeader, RecordCutOff, Refused, TooManyPackets}
@@ -8,11 +13,10 @@ use Rattle.capture_request.specs.declared.reached.Reached.{Reached}
 use Rattle.capture_request.specs.declared.parts.Parts.{Parts}
 use Rattle.capture_selection.proofs.PassingLemmas.{header_ends_none, header_read_ends_none}
 use Rattle.capture_selection.specs.Blocks.{PassesFile, block_selection}
-use Rattle.capture_selection.specs.Captures.{SelectsBlocks, SelectsCapture, SelectsRecords}
-use Rattle.capture_selection.specs.Records.{record_selection, records_of}
+use Rattle.capture_selection.specs.Captures.{SelectsBlocks, SelectsCapture}
+use Rattle.capture_selection.specs.Selector.{selected, selection_of}
 use Rattle.capture_selection.specs.declared.blocks.Blocks.{Blocks}
 use Rattle.capture_selection.specs.declared.counts.Counts.{Counts}
-use Rattle.capture_selection.specs.declared.records.Records.{Records}
 use Rattle.capture_selection.specs.declared.selection_error.SelectionError.{SelectionError}
 use Rattle.capture_selection.specs.declared.selection_error.SelectionError.TheVariants.{Capture, Write}
 
@@ -20,31 +24,32 @@ never : (E : Type 0) → (E → ⊥) → ⊥ ⊎ E → ⊥
 never E refuted (inl none) = none
 never E refuted (inr some) = refuted some
 
--- records from a capture that is the same
-pub passes_from : (options : Parts) (result : Result Reached SelectionError) (before start after : Records)
-    (left still_left held now_held : Option (List ℕ))
+-- the records after the header of a capture were copied, up to a result
+selects_copied : (options : Parts) (copied : Result Extent PartError) (left still_left held now_held : Option (List ℕ))
     (counts now_counts : Counts)
-    → before ≡ start → PassesTo (records_of options) result before after left still_left held now_held counts now_counts
-    → PassesTo (records_of options) result start after left still_left held now_held counts now_counts
-passes_from options result before start after left still_left held now_held counts now_counts same passes =
-    subst (λ given. PassesTo (records_of options) result given after left still_left held now_held counts now_counts) same passes
+    → PassesCapture Extent (records_of (selection_of options)) first_records copied left still_left held now_held counts now_counts
+    → SelectsCapture options (selected copied) left still_left held now_held counts now_counts
+selects_copied options (Ok Whole) left still_left held now_held counts now_counts passes = inl (Ok Whole, refl, passes)
+selects_copied options (Ok Enough) left still_left held now_held counts now_counts passes = inl (Ok Enough, refl, passes)
+selects_copied options (Err (errors.CutOff place required len)) left still_left held now_held counts now_counts passes =
+    inl (Err (errors.CutOff place required len), refl, passes)
+selects_copied options (Err (errors.Refused error)) left still_left held now_held counts now_counts passes =
+    inl (Err (errors.Refused error), refl, passes)
+selects_copied options (Err (errors.Read place error)) left still_left held now_held counts now_counts passes =
+    inl (Err (errors.Read place error), refl, passes)
+selects_copied options (Err errors.TooManyParts) left still_left held now_held counts now_counts passes =
+    inl (Err errors.TooManyParts, refl, passes)
+selects_copied options (Err (errors.Write error)) left still_left held now_held counts now_counts passes = tt
 
--- records after the header of a capture, up to a result
-pub selects_capture : (options : Parts) (result : Result Reached SelectionError) (left still_left held now_held : Option (List ℕ))
-    (counts now_counts : Counts)
-    → SelectsRecords options result left still_left held now_held counts now_counts
+-- the same of a result that stands for the result of the copy
+pub selects_capture : (options : Parts) (result : Result Reached SelectionError) (copied : Result Extent PartError)
+    (left still_left held now_held : Option (List ℕ)) (counts now_counts : Counts)
+    → result ≡ selected copied
+    → PassesCapture Extent (records_of (selection_of options)) first_records copied left still_left held now_held counts now_counts
     → SelectsCapture options result left still_left held now_held counts now_counts
-selects_capture options (Ok done) left still_left held now_held counts now_counts selects = inl selects
-selects_capture options (Err (Write error)) left still_left held now_held counts now_counts selects = tt
-selects_capture options (Err (Capture (Read number offset error))) left still_left held now_held counts now_counts selects = inl selects
-selects_capture options (Err (Capture (RecordCutOff number offset required len))) left still_left held now_held counts now_counts selects =
-    inl selects
-selects_capture options (Err (Capture (Refused error))) left still_left held now_held counts now_counts selects = inl selects
-selects_capture options (Err (Capture TooManyPackets)) left still_left held now_held counts now_counts selects = inl selects
-selects_capture options (Err (Capture (Header error))) left still_left held now_held counts now_counts selects =
-    absurd (never _ (λ ends. header_ends_none (record_selection options) _ _ _ _ _ _ _ _ ends) selects.passes)
-selects_capture options (Err (Capture (ReadHeader error))) left still_left held now_held counts now_counts selects =
-    absurd (never _ (λ ends. header_read_ends_none (record_selection options) _ _ _ _ _ _ _ _ ends) selects.passes)
+selects_capture options result copied left still_left held now_held counts now_counts is passes =
+    subst (λ given. SelectsCapture options given left still_left held now_held counts now_counts) (sym is)
+    (selects_copied options copied left still_left held now_held counts now_counts passes)
 
 no_blocks : (options : Parts) (error : CaptureError) (left still_left held now_held : Option (List ℕ)) (counts now_counts : Counts)
     → ((start after : Blocks) → PassesFile options (Err (Capture error)) start after left still_left held now_held counts now_counts → ⊥)

@@ -2,6 +2,6 @@ mod BlockLemmas
 pub mod CaptureLemmas
 mod FirstBlockLemmas
 pub mod PassingLemmas
-pub mod RecordLemmas
 mod SectionLengthLemmas
 pub mod SelectionExamples
+pub mod SelectorLemmas

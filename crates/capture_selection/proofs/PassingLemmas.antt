@@ -1,22 +1,20 @@
 -- What is read and written by a selection, part by part.
-use Rattle.std.proofs.Common.{◌≡◌, ◌≤◌, ◌+◌, ◌++◌, ◌∙◌, ◌⊎◌, ℕ, List, Option, Result, IfErr, IfOk, Some, None, Ok, Err, [], Bool, true, false, if◌then◌else◌, ap, arith, fold, inl, inr, ⊎_elim, refl, subst, sym, append-nil}
-use Rattle.std.proofs.KnownBytes.{Appends-nil, Appends-trans, Consumes-nil, Consumes-trans}
-use Rattle.std.proofs.lemmas.Bool.Decides.{nat_tests}
-use Rattle.std.specs.Io.KnownBytes.{Appends, Consumes, IsAtEnd}
+use Rattle.std.proofs.Common.{◌≡◌, ◌+◌, ◌++◌, ◌∙◌, ◌⊎◌, ℕ, List, Option, Result, IfErr, IfOk, Some, None, Ok, Err, [], Bool, true, false, if◌then◌else◌, ap, fold, inl, inr, ⊎_elim, refl, subst, sym, append-nil}
+use Rattle.std.proofs.KnownBytes.{Appends-nil, Consumes-nil, Consumes-trans}
+use Rattle.std.specs.Io.KnownBytes.{Appends, Consumes}
 use Rattle.std.specs.Option.{option_to_list}
 use Rattle.std.specs.declared.io.Error.{Error}
 use Rattle.streams.specs.Streams.{Skips}
 use Rattle.capture_copy.proofs.PassingLemmas.{any_to_end, given_error, next_to_error, next_to_write_error}
-use Rattle.capture_copy.specs.Copies.{Copies}
 use Rattle.capture_copy.specs.Passing.{EndsBy, PassesAny, PassesNext, StopsBy, counts_after}
 use Rattle.capture_file.specs.declared.reader.open_error.OpenError.{OpenError}
 use Rattle.capture_selection.specs.Outcomes.{counted}
-use Rattle.capture_selection.specs.Passing.{CopiesUpTo, EndsAtLimit, IsEndBy, IsFront, IsReadError, IsWriteError, LeavesAt, Part, PassesLong, PassesRest, Selection, format_of, written_by}
+use Rattle.capture_selection.specs.Passing.{EndsAtLimit, IsEndBy, IsFront, IsReadError, IsWriteError, LeavesAt, Part, PassesLong, Selection, format_of, written_by}
 use Rattle.capture_selection.specs.declared.counts.Counts.{Counts}
 use Rattle.capture_selection.specs.declared.outcome.Outcome.{Outcome}
 use Rattle.capture_selection.specs.declared.outcome.Outcome.TheVariants.{Excluded, Unlisted, Written}
 use Rattle.capture_selection.specs.declared.place.Place.{Place}
-use Rattle.capture_request.specs.Limits.{IsWithin, is_full}
+use Rattle.capture_request.specs.Limits.{is_full}
 use Rattle.capture_selection.specs.declared.selection_error.SelectionError.{SelectionError}
 use Rattle.capture_selection.specs.declared.selection_error.SelectionError.TheVariants.{Capture, Write}
 use Rattle.capture_request.specs.declared.capture_error.CaptureError.TheVariants.{Header, Read, ReadHeader, RecordCutOff, Refused, TooManyPackets}
@@ -116,25 +114,6 @@ next_to_read_error selection result error before after left then_left still_left
 abbrev pub cut_at : Place → ℕ → ℕ → SelectionError
 cut_at place required len = Capture (RecordCutOff place.number place.offset required len)
 
--- the result if the capture ends within the part that begins with these bytes
-pub ends_cut : (selection : Selection) (error : SelectionError) (required len : ℕ) (state : selection.State)
-    (left still_left held now_held : Option (List ℕ))
-    (counts : Counts) (bytes front : List ℕ)
-    → error ≡ cut_at (selection.place_of state) required len → Consumes left still_left bytes → Appends held now_held front
-    → ((front ≡ []) ⊎ (selection.IsLong state bytes × IsFront front bytes)) → selection.IsCut state bytes required len → IsAtEnd still_left
-    → IsWriteError error ⊎ StopsBy (format_of selection) error state left still_left held now_held counts counts
-ends_cut selection error required len state left still_left held now_held counts bytes front is consumed appended is_front is_cut at_end =
-    subst (λ given. IsWriteError given ⊎ StopsBy (format_of selection) given state left still_left held now_held counts counts) (sym is)
-    (inr (record {
-      then_left = still_left;
-      front = ended bytes front;
-      is_end = (refl, is_front, ((refl, refl), is_cut));
-      consumed = consumed;
-      appended = appended;
-      counted = refl;
-      leaves = (at_end, refl);
-    }))
-
 -- an error in the header of a capture ends no parts
 pub header_ends_none : (selection : Selection) (error : OpenError) (before : selection.State)
     (left still_left held now_held : Option (List ℕ))
@@ -175,37 +154,6 @@ passes_skipped place outcome (Err error) first left still_left held count none s
     appended = subst (Appends held held) (sym (none (first ++ []))) (Appends-nil held);
   },
 )
-
-rest_copied : (outcome : Option Outcome) (first : List ℕ) (left still_left held then_held now_held : Option (List ℕ)) (len : ℕ)
-    → ((bytes : List ℕ) → written_by bytes outcome ≡ bytes) → Appends held then_held first → Copies left still_left then_held now_held len
-    → PassesRest outcome first left still_left held now_held len
-rest_copied outcome first left still_left held then_held now_held len all appended copies = record {
-  bytes = copies.bytes;
-  has_len = copies.has_len;
-  consumed = copies.consumed;
-  appended = subst (Appends held now_held) (sym (all (first ++ copies.bytes)))
-      (Appends-trans held then_held now_held first copies.bytes appended copies.appended);
-}
-
--- the first bytes were written, and then the bytes after them were copied
-pub passes_copied : (place : Place) (outcome : Option Outcome) (result : Result ℕ SelectionError) (first : List ℕ)
-    (left still_left held then_held now_held : Option (List ℕ))
-    → ((bytes : List ℕ) → written_by bytes outcome ≡ bytes) → Appends held then_held first
-    → CopiesUpTo place result left still_left then_held now_held
-    → PassesLong place outcome result first left still_left held now_held
-passes_copied place outcome (Ok len) first left still_left held then_held now_held all appended copies =
-    rest_copied outcome first left still_left held then_held now_held len all appended copies
-passes_copied place outcome (Err error) first left still_left held then_held now_held all appended (inl failed) = inl failed
-passes_copied place outcome (Err error) first left still_left held then_held now_held all appended (inr (is, len, then_left, copies)) =
-    inr (is, len, then_left, rest_copied outcome first left then_left held then_held now_held len all appended copies)
-
--- the result if writing the first bytes failed
-pub passes_long_to_write_error : (place : Place) (outcome : Option Outcome) (result : Result ℕ SelectionError) (error : SelectionError)
-    (first : List ℕ)
-    (left still_left held now_held : Option (List ℕ))
-    → IsWriteError error → result ≡ Err error → PassesLong place outcome result first left still_left held now_held
-passes_long_to_write_error place outcome result error first left still_left held now_held failed fails =
-    subst (λ given. PassesLong place outcome given first left still_left held now_held) (sym fails) (inl failed)
 
 -- nothing is written for bytes, or these bytes are written
 pub front_of : (outcome : Option Outcome) (bytes : List ℕ) (Long : Type 0) → ((written_by bytes outcome ≡ []) ⊎ Long)
@@ -256,12 +204,6 @@ pub nothing_if : (is_written : Bool) (written bytes : List ℕ) → written ≡ 
 nothing_if true written bytes is unwritten = absurd (cc unwritten)
 nothing_if false written bytes is unwritten = is
 
--- a number of packets is within the limit after another packet, if the limit was not reached before
-pub within_one : (limit : Option ℕ) (written now_written : ℕ) → is_full limit written ≡ false → now_written ≤ written + 1
-    → IsWithin limit now_written
-within_one None written now_written below one = tt
-within_one (Some limit) written now_written below one = grind (arith, nat_tests)
-
 -- ---- a requested number of packets
 
 -- if no packet is counted, the number of written packets stays below the limit
@@ -310,10 +252,3 @@ pub none_below : (selection : Selection) (limit : Option ℕ) (is_any : Bool) (b
 none_below selection limit true before after left still_left held now_held counts now_counts below one is = absurd (cc is)
 none_below selection limit false before after left still_left held now_held counts now_counts below none is =
     same_below limit counts now_counts below none.3
-
--- if nothing is counted after the limit is reached, the limit is still reached
-pub still_full : (limit : Option ℕ) (first counts : Counts) → (is_full limit first.written ≡ true → counts ≡ first)
-    → is_full limit counts.written ≡ false → is_full limit first.written ≡ true → ⊥
-still_full limit first counts same below full =
-    let still : is_full limit counts.written ≡ true = subst (λ given. is_full limit given.written ≡ true) (sym (same full)) full in
-    cc (sym still ∙ below)

@@ -5,17 +5,21 @@ use Rattle.capture_numbers.specs.declared.byte_order.ByteOrder.TheVariants.{Litt
 use Rattle.capture_numbers.specs.declared.link_type.LinkType.TheVariants.{RawIp}
 use Rattle.capture_file.specs.declared.classic.capture_header.CaptureHeader.{CaptureHeader}
 use Rattle.capture_file.specs.declared.classic.record_header.Resolution.TheVariants.{Microseconds}
+use Rattle.capture_copy.proofs.VisitLemmas.{part_with}
+use Rattle.capture_copy.specs.Passing.{Part}
+use Rattle.capture_copy.specs.Records.{IsRecordPart, first_records, records_after}
+use Rattle.capture_copy.specs.declared.extent.Extent.TheVariants.{Whole}
 use Rattle.capture_packet.proofs.PacketExamples.{frame, is_read, is_rejected, packet, rejected}
 use Rattle.capture_summary.specs.Choice.{HasAny, HasPort, every_packet}
 use Rattle.capture_summary.specs.declared.choice.PortRange.{PortRange}
 use Rattle.capture_request.specs.declared.parts.Lines.TheVariants.{All}
 use Rattle.capture_request.specs.declared.parts.Parts.{Parts}
 use Rattle.capture_request.specs.declared.reached.Reached.TheVariants.{End}
-use Rattle.capture_selection.proofs.PassingLemmas.{part_of}
 use Rattle.capture_selection.specs.Blocks.{block_copy}
 use Rattle.capture_selection.specs.Captures.{SelectsCapture}
-use Rattle.capture_selection.specs.Records.{IsRecordPart, first_records, records_after}
+use Rattle.capture_selection.specs.Selector.{selection_of}
 use Rattle.capture_selection.specs.declared.counts.Counts.{Counts}
+use Rattle.capture_selection.specs.declared.outcome.Outcome.{Outcome}
 use Rattle.capture_selection.specs.declared.outcome.Outcome.TheVariants.{Excluded, Written}
 
 -- ---- the capture
@@ -49,22 +53,38 @@ options others = record others {
 
 -- ---- its records
 
-udp_part : (others : Parts) → IsRecordPart (options others) capture udp_record (Some Written)
+-- a record with this outcome, which is written as it was read if it is written
+abbrev part_of : Parts → List ℕ → Outcome → Part Outcome
+part_of others bytes outcome = part_with (selection_of (options others)) bytes bytes outcome
+
+udp_part : (others : Parts) → IsRecordPart (selection_of (options others)) capture (part_of others udp_record Written)
 udp_part others = record {
   is_record = refl;
-  has_outcome = record {
-    packet = packet;
-    is_packet = is_read;
-    given = Written;
-    is_outcome = (
-      record {
-        addresses = record { hosts = tt; sources = tt; destinations = tt; other_hosts = tt };
-        content = record { ports = inl (inl (inr (omega arith, omega arith))); other_ports = tt; protocols = tt };
-      },
-      refl,
-    );
-    has = refl;
-  };
+  visited = inl (
+    omega arith,
+    record {
+      after = frame;
+      outcome = Written;
+      visited = (
+        refl,
+        record {
+          packet = packet;
+          is_packet = is_read;
+          given = Written;
+          is_outcome = (
+            record {
+              addresses = record { hosts = tt; sources = tt; destinations = tt; other_hosts = tt };
+              content = record { ports = inl (inl (inr (omega arith, omega arith))); other_ports = tt; protocols = tt };
+            },
+            refl,
+          );
+          has = refl;
+        },
+      );
+      is_written = refl;
+      has_outcome = refl;
+    },
+  );
 }
 
 -- places without a value
@@ -78,17 +98,28 @@ lacks_port : HasAny (HasPort rejected.content) port_9 → ⊥
 lacks_port (inl none) = none
 lacks_port (inr any) = empty_places (HasPort rejected.content) 15 any
 
-other_part : (others : Parts) → IsRecordPart (options others) capture other_record (Some Excluded)
+other_part : (others : Parts) → IsRecordPart (selection_of (options others)) capture (part_of others other_record Excluded)
 other_part others = record {
   is_record = refl;
-  has_outcome = record {
-    packet =
-        rejected;
-    is_packet = is_rejected;
-    given = Excluded;
-    is_outcome = λ chosen. lacks_port chosen.content.ports;
-    has = refl;
-  };
+  visited = inl (
+    omega arith,
+    record {
+      after = 0x50 ∷ [];
+      outcome = Excluded;
+      visited = (
+        refl,
+        record {
+          packet = rejected;
+          is_packet = is_rejected;
+          given = Excluded;
+          is_outcome = λ chosen. lacks_port chosen.content.ports;
+          has = refl;
+        },
+      );
+      is_written = refl;
+      has_outcome = refl;
+    },
+  );
 }
 
 -- ---- the selection
@@ -101,29 +132,33 @@ counts read chosen written = record { read = read; chosen = chosen; written = wr
 pub selection : (others : Parts) → SelectsCapture (options others) (Ok End) (Some (header ++ udp_record ++ other_record)) (Some []) (Some
     []) (Some (header ++ udp_record))
     (counts 0 0 0) (counts 2 1 1)
-selection others = inl (record {
-  header = capture;
-  middle = Some (udp_record ++ other_record);
-  then_held = Some header;
-  copies = record {
-    bytes = header;
-    says = (refl, refl, record { resolution = refl; snap_len = refl; link_type = refl });
-    consumed = refl;
-    appended = refl;
-  };
-  after = records_after (records_after (first_records capture) 45) 17;
-  passes = record {
-    parts = part_of udp_record (Some Written) ∷ part_of other_record (Some Excluded) ∷ [];
-    each = (
-      records_after (first_records capture) 45,
-      ((refl, udp_part others), refl),
-      (records_after (records_after (first_records capture) 45) 17, ((refl, other_part others), refl), refl),
-    );
-    consumed = refl;
-    appended = refl;
-    counted = refl;
-  };
-})
+selection others = inl (
+  Ok Whole,
+  refl,
+  record {
+    header = capture;
+    middle = Some (udp_record ++ other_record);
+    then_held = Some header;
+    copies = record {
+      bytes = header;
+      says = (refl, refl, record { resolution = refl; snap_len = refl; link_type = refl });
+      consumed = refl;
+      appended = refl;
+    };
+    after = records_after (records_after (first_records capture) udp_record) other_record;
+    passes = record {
+      parts = part_of others udp_record Written ∷ part_of others other_record Excluded ∷ [];
+      each = (
+        records_after (first_records capture) udp_record,
+        (refl, udp_part others),
+        (records_after (records_after (first_records capture) udp_record) other_record, (refl, other_part others), refl),
+      );
+      consumed = refl;
+      appended = refl;
+      counted = refl;
+    };
+  },
+)
 
 -- ---- the section length
 

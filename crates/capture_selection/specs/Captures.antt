@@ -1,6 +1,9 @@
 -- The selection of a whole capture.
 use Rattle.std.specs.Prelude.{◌≡◌, ◌⊎◌, ℕ, true, List, ⊤, Option, Result, Ok, Err}
 use Rattle.capture_copy.specs.Captures.{IsNoPcapng, IsPcapng, PassesCapture}
+use Rattle.capture_copy.specs.Records.{first_records, records_of}
+use Rattle.capture_copy.specs.declared.extent.Extent.{Extent}
+use Rattle.capture_copy.specs.declared.part_error.PartError.{PartError}
 use Rattle.capture_file.specs.Reading.{RefusesHeader}
 use Rattle.capture_file.specs.declared.reader.open_error.OpenError.TheVariants.{Classic, Pcapng}
 use Rattle.capture_request.specs.declared.capture_error.CaptureError.TheVariants.{Header, ReadHeader}
@@ -9,17 +12,19 @@ use Rattle.capture_request.specs.declared.reached.Reached.TheVariants.{Limit}
 use Rattle.capture_request.specs.Limits.{is_full}
 use Rattle.capture_request.specs.declared.parts.Parts.{Parts}
 use Rattle.capture_selection.specs.Blocks.{IsFileStart, PassesFile}
-use Rattle.capture_selection.specs.Records.{first_records, records_of}
+use Rattle.capture_selection.specs.Selector.{selected, selection_of}
 use Rattle.capture_selection.specs.declared.blocks.Blocks.{Blocks}
 use Rattle.capture_selection.specs.declared.counts.Counts.{Counts}
 use Rattle.capture_selection.specs.declared.selection_error.SelectionError.{SelectionError}
 use Rattle.capture_selection.specs.declared.selection_error.SelectionError.TheVariants.{Capture, Write}
 
--- the selection of a classic capture up to this result: its header was copied, and then its records were copied or left out
+-- the selection of a classic capture up to this result: its header was copied, and then the copy of
+-- its records, which may leave out records, ended with a result that stands for this result
 abbrev pub SelectsRecords : Parts → Result Reached SelectionError → Option (List ℕ) → Option (List ℕ) → Option (List ℕ) → Option (List ℕ)
     → Counts → Counts → Type 0
 SelectsRecords options result left still_left held now_held counts now_counts =
-    PassesCapture Reached (records_of options) first_records result left still_left held now_held counts now_counts
+    (copied : Result Extent PartError) × (result ≡ selected copied)
+    × PassesCapture Extent (records_of (selection_of options)) first_records copied left still_left held now_held counts now_counts
 
 -- nothing was written, and no packet was counted
 abbrev pub SelectsNothing : Option (List ℕ) → Option (List ℕ) → Counts → Counts → Type 0

@@ -2,4 +2,4 @@ pub mod Blocks
 pub mod Captures
 pub mod Outcomes
 pub mod Passing
-pub mod Records
+pub mod Selector

@@ -10,9 +10,9 @@ ghost use Rattle.capture_selection.specs.Captures.{SelectsCapture};
 ghost use Rattle.capture_selection.specs.Passing.{EndsAtLimit};
 
 use crate::blocks::{Blocks, select_blocks};
-use crate::records::{Records, select_records};
+use crate::selector::{Selector, selected};
 use crate::{Counts, SelectionError};
-use capture_copy::{Copier, CopyError, is_pcapng};
+use capture_copy::{Copier, CopyError, Records, copy_records, is_pcapng};
 use capture_file::pcapng::MIN_BLOCK_LEN;
 use capture_file::reader::OpenError;
 use capture_request::{CaptureError, Parts, Reached};
@@ -92,5 +92,5 @@ fn select_capture<R: Read, W: Write>(
         Err(CopyError::Write(error)) => return Err(SelectionError::Write(error)),
     };
     let mut records = Records::after(header);
-    select_records(copier, &mut records, parts, counts)
+    selected(copy_records(copier, &mut records, &Selector { parts }, counts))
 }

@@ -17,8 +17,8 @@ mod capture;
 mod counts;
 mod outcome;
 mod place;
-mod records;
 mod selection_error;
+mod selector;
 mod transfer;
 
 pub use capture::write_selected;

@@ -30,11 +30,10 @@ use Rattle.capture_copy.proofs.BlockLemmas.{alone, next_of}
 use Rattle.capture_copy.proofs.PassingLemmas.{next_to_end, next_to_error, next_to_write_error, passes_part}
 use Rattle.capture_copy.specs.Copies.{Copies, CopiesFront}
 use Rattle.capture_copy.specs.Passing.{PassesNext, PassesOne, StopsBy}
-use Rattle.translator.proofs.RecordLemmas.{copied, leaves_at_read}
 use Rattle.translator.specs.Blocks.{CopiesRest, CopiesToEnd, DiffersAtEnd, HasTaken, IsBeyond, IsBlockEnd, IsFilled, IsKept, IsLongFront, IsRestEnd, StopsRest, TakesKept, TranslatesBlock, TranslatesKept, TranslatesWhere, blocks_of, cut_at, kept_body, written_at}
 use Rattle.translator.specs.Packets.{TranslatesCaptured}
 use Rattle.translator.specs.Outcomes.{counted_if}
-use Rattle.translator.specs.Passing.{IfBlockCutOff, IsReadError, IsWriteError, Part}
+use Rattle.translator.specs.Passing.{IfBlockCutOff, IsReadError, IsWriteError, LeavesAt, Part}
 use Rattle.translator.specs.declared.blocks.Blocks.{Blocks}
 use Rattle.translator.specs.declared.capture_error.CaptureError.{CaptureError}
 use Rattle.translator.specs.declared.capture_error.CaptureError.TheVariants as capture_errors
@@ -42,6 +41,20 @@ use Rattle.translator.specs.declared.counts.Counts.{Counts}
 use Rattle.translator.specs.declared.done.Done.{Done}
 use Rattle.translator.specs.declared.reason.Reason.{Reason}
 use Rattle.translator.specs.declared.table.Table.{Table}
+
+-- bytes that are written as they were read, without an outcome
+abbrev pub copied : List ℕ → Part
+copied bytes = record { read = bytes; written = bytes; outcome = None }
+
+-- nothing is stated about the input that is left after a read error
+leaves_at_read : (place : ℕ) (error : CaptureError) (then_left still_left : Option (List ℕ)) → IsReadError place error
+    → LeavesAt error then_left still_left
+leaves_at_read place (capture_errors.Header error) then_left still_left is = absurd is
+leaves_at_read place (capture_errors.RecordCutOff offset required len) then_left still_left is = absurd is
+leaves_at_read place (capture_errors.Block error) then_left still_left is = absurd is
+leaves_at_read place (capture_errors.Read offset error) then_left still_left is = tt
+leaves_at_read place capture_errors.TooManyParts then_left still_left is = absurd is
+leaves_at_read place (capture_errors.Write error) then_left still_left is = absurd is
 
 -- ---- first bytes of a block
 

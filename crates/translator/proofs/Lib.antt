@@ -5,4 +5,4 @@ pub mod CountLemmas
 pub mod MergingLemmas
 pub mod OutputLemmas
 pub mod PacketLemmas
-pub mod RecordLemmas
+pub mod TranslationLemmas

@@ -2,22 +2,26 @@
 use Rattle.std.specs.Prelude.{◌≡◌, ◌⊎◌, ℕ, List, ⊤, Option, Result, Ok, Err}
 use Rattle.capture_copy.specs.Captures.{IsNoPcapng, IsPcapng, PassesCapture}
 use Rattle.capture_copy.specs.Passing.{PassesTo}
-use Rattle.capture_file.specs.Packets.{begins_records}
+use Rattle.capture_copy.specs.Records.{first_records, records_of}
+use Rattle.capture_copy.specs.declared.extent.Extent.{Extent}
+use Rattle.capture_copy.specs.declared.part_error.PartError.{PartError}
 use Rattle.capture_file.specs.Reading.{RefusesHeader}
 use Rattle.translator.specs.Blocks.{IsFileStart, blocks_of}
-use Rattle.translator.specs.Records.{records_of}
+use Rattle.translator.specs.Translation.{of_records, translation_of}
 use Rattle.translator.specs.declared.blocks.Blocks.{Blocks}
 use Rattle.translator.specs.declared.capture_error.CaptureError.{CaptureError}
 use Rattle.translator.specs.declared.capture_error.CaptureError.TheVariants.{Block, Header, Read, RecordCutOff, TooManyParts, Write}
 use Rattle.translator.specs.declared.counts.Counts.{Counts}
 use Rattle.translator.specs.declared.table.Table.{Table}
 
--- a classic capture was translated up to this result: its header was copied, and then its records were translated one by one
+-- a classic capture was translated up to this result: its header was copied, and then the copy of its records, whose packets were
+-- translated, ended with a result that stands for this result
 abbrev pub TranslatesRecords : Table → Result (Unit {0}) CaptureError → Option (List ℕ) → Option (List ℕ) → Option (List ℕ)
     → Option (List ℕ)
     → Counts → Counts → Type 0
 TranslatesRecords table result left still_left held now_held counts now_counts =
-    PassesCapture (Unit {0}) (records_of table) begins_records result left still_left held now_held counts now_counts
+    (copied : Result Extent PartError) × (result ≡ of_records copied)
+    × PassesCapture Extent (records_of (translation_of table)) first_records copied left still_left held now_held counts now_counts
 
 -- a pcapng file was translated up to this result, block by block
 pub record TranslatesBlocks (table : Table) (result : Result (Unit {0}) CaptureError) (left still_left held now_held : Option (List ℕ))

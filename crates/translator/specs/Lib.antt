@@ -11,6 +11,6 @@ pub mod Outputs
 pub mod Packets
 pub mod Passing
 pub mod Reasons
-pub mod Records
 pub mod ReplacementTexts
 pub mod Replacements
+pub mod Translation

@@ -9,12 +9,11 @@ ghost use Rattle.translator.specs.Captures.{TranslatesCapture};
 use crate::blocks::{Blocks, translate_blocks};
 use crate::capture_error::CaptureError;
 use crate::counts::Counts;
-use crate::records::translate_records;
 use crate::table::Table;
 use crate::transfer::read_into;
-use capture_copy::{Copier, CopyError, is_pcapng};
+use crate::translation::{Translation, of_records};
+use capture_copy::{Copier, CopyError, Records, copy_records, is_pcapng};
 use capture_file::pcapng::MIN_BLOCK_LEN;
-use capture_file::reader::ClassicReader;
 use std::io::{Read, Write};
 
 /// Translates the packets of a capture, and writes the capture. Every byte outside of the translated packets is written as it was read.
@@ -65,6 +64,6 @@ fn translate_classic<R: Read, W: Write>(
         Err(CopyError::Read(error)) => return Err(CaptureError::Read { offset: 0, error }),
         Err(CopyError::Write(error)) => return Err(CaptureError::Write(error)),
     };
-    let mut records = ClassicReader::new(header);
-    translate_records(copier, &mut records, table, counts)
+    let mut records = Records::after(header);
+    of_records(copy_records(copier, &mut records, &Translation { table }, counts))
 }

@@ -32,12 +32,12 @@ mod merging;
 mod network;
 mod packet;
 mod reason;
-mod records;
 mod replacement_error;
 mod replacement_text;
 mod replacements;
 mod table;
 mod transfer;
+mod translation;
 
 use arguments::Options;
 use capture::translate_capture;

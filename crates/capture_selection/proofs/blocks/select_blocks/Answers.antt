@@ -2,7 +2,7 @@ use Rattle.std.proofs.Common.{None}
 use Rattle.capture_selection.proofs.FirstBlockLemmas.{file_passes, file_refused, first_below}
 use Rattle.capture_copy.proofs.PassingLemmas.{one_given, passes_one, passes_to_on}
 use Rattle.capture_selection.specs.Blocks.{blocks_of}
-use Rattle.capture_selection.proofs.PassingLemmas.{within_one}
+use Rattle.capture_selection.proofs.SelectorLemmas.{within_one}
 use Rattle.capture_selection.proofs.blocks.select_blocks.Goals as goal
 
 pub returns-clause-passes : goal.returns-clause-passes

@@ -2,7 +2,8 @@ use Rattle.std.proofs.Common.{◌∙◌, ◌≤◌, arith, inr, length, rules, s
 use Rattle.capture_selection.proofs.FirstBlockLemmas.{passes_past, stops_past}
 use Rattle.capture_request.specs.Endings.{max_packets}
 use Rattle.capture_copy.proofs.PassingLemmas.{ends_by_number, passes_any, passes_more, passes_nothing, passes_on, passes_on_to_error}
-use Rattle.capture_selection.proofs.PassingLemmas.{ends_below, none_below, within_one}
+use Rattle.capture_selection.proofs.PassingLemmas.{ends_below, none_below}
+use Rattle.capture_selection.proofs.SelectorLemmas.{within_one}
 use Rattle.capture_selection.specs.Blocks.{block_selection}
 use Rattle.capture_selection.proofs.blocks.select_others.Goals as goal
 

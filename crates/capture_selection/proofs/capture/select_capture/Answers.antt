@@ -1,6 +1,10 @@
-use Rattle.std.proofs.Common.{Err, Ok, refl, subst}
+use Rattle.std.proofs.Common.{◌∙◌, Err, Ok, refl, subst, sym}
+use Rattle.capture_copy.proofs.VisitLemmas.{passes_from}
 use Rattle.capture_copy.specs.Captures.{BeginsCapture}
-use Rattle.capture_selection.proofs.CaptureLemmas.{passes_from, selects_capture}
+use Rattle.capture_selection.proofs.CaptureLemmas.{selects_capture}
+use Rattle.capture_selection.proofs.SelectorLemmas.{limit_of, whole_of}
+use Rattle.capture_selection.specs.Passing.{EndsAtLimit}
+use Rattle.capture_selection.specs.Selector.{selection_of}
 use Rattle.capture_selection.proofs.capture.select_capture.Goals as goal
 
 -- the header is refused
@@ -26,7 +30,7 @@ returns-in-Err-Read-clause-selects g c =
 -- the header was copied
 pub returns-clause-selects : goal.returns-clause-selects
 returns-clause-selects g c =
-    λ left consumed other. selects_capture _ _ left _ _ _ _ _ (record {
+    λ left consumed other. selects_capture c.args.parts.now _ c.copy_records.result left _ _ _ _ _ c.selected.ensures (record {
       header = c.in-Ok-Ok.header;
       middle = _;
       then_held = _;
@@ -34,5 +38,13 @@ returns-clause-selects g c =
           (g.W.Write.contents c.args.copier.now.output) (g.W.Write.contents c.copy_header.new.self.output)) c.in-Ok-Ok.field-0-is
           (c.in-Ok-Ok.ensures.begins left c.requires.begin consumed);
       after = _;
-      passes = passes_from _ _ _ _ _ _ _ _ _ _ _ c.after-records.ensures c.select_records.ensures.passes;
+      passes = passes_from (selection_of c.args.parts.now) _ _ _ _ _ _ _ _ _ _ c.after-records.ensures c.copy_records.ensures.passes;
     })
+
+pub returns-clause-ends : goal.returns-clause-ends
+returns-clause-ends g c = λ is_end. c.copy_records.ensures.ends (whole_of c.copy_records.result (sym c.selected.ensures ∙ is_end))
+
+pub returns-clause-limit : goal.returns-clause-limit
+returns-clause-limit g c =
+    subst (EndsAtLimit c.args.parts.now.limit c.copy_records.new.counts.written) (sym c.selected.ensures)
+    (limit_of c.args.parts.now.limit c.copy_records.new.counts.written c.copy_records.result c.copy_records.ensures.enough)

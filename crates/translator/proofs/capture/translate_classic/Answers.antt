@@ -1,6 +1,10 @@
-use Rattle.std.proofs.Common.{Err, Ok, inl, refl, subst}
+use Rattle.std.proofs.Common.{Err, Ok, OnOk, inl, refl, subst, sym}
+use Rattle.std.specs.Io.KnownBytes.{IsAtEnd}
+use Rattle.capture_copy.proofs.VisitLemmas.{passes_from}
 use Rattle.capture_copy.specs.Captures.{BeginsCapture}
-use Rattle.translator.proofs.CaptureLemmas.{passes_from, translates_records}
+use Rattle.translator.proofs.CaptureLemmas.{translates_records}
+use Rattle.translator.proofs.TranslationLemmas.{at_end_of}
+use Rattle.translator.specs.Translation.{translation_of}
 use Rattle.translator.proofs.capture.translate_classic.Goals as goal
 
 -- the header is refused
@@ -29,7 +33,7 @@ returns-in-Err-Read-clause-translates g c =
 -- the header was copied
 pub returns-clause-translates : goal.returns-clause-translates
 returns-clause-translates g c =
-    λ left consumed no_pcapng. translates_records _ c.translate_records.result left _ _ _ _ _ (record {
+    λ left consumed no_pcapng. translates_records c.args.table.now _ c.copy_records.result left _ _ _ _ _ c.of_records.ensures (record {
       header = c.in-Ok-Ok.header;
       middle = _;
       then_held = _;
@@ -37,5 +41,10 @@ returns-clause-translates g c =
           (g.W.Write.contents c.args.copier.now.output) (g.W.Write.contents c.copy_header.new.self.output)) c.in-Ok-Ok.field-0-is
           (c.in-Ok-Ok.ensures.begins left c.requires.begin consumed);
       after = _;
-      passes = passes_from _ c.translate_records.result _ _ _ _ _ _ _ _ _ c.new-records.ensures c.translate_records.ensures.passes;
+      passes = passes_from (translation_of c.args.table.now) _ _ _ _ _ _ _ _ _ _ c.after-records.ensures c.copy_records.ensures.passes;
     })
+
+pub returns-clause-ends : goal.returns-clause-ends
+returns-clause-ends g c =
+    subst (λ given. OnOk given (IsAtEnd (g.R.Read.remaining c.copy_records.new.copier.input))) (sym c.of_records.ensures)
+    (at_end_of c.copy_records.result _ c.copy_records.ensures.enough c.copy_records.ensures.ends)

@@ -1,0 +1,40 @@
+-- The translation as a visitor of the packets of a capture.
+use Rattle.std.specs.Prelude.{◌≡◌, true, Result, Ok, Err}
+use Rattle.capture_copy.specs.Visits.{Visits}
+use Rattle.capture_copy.specs.declared.extent.Extent.{Extent}
+use Rattle.capture_copy.specs.declared.part_error.PartError.{PartError}
+use Rattle.capture_copy.specs.declared.part_error.PartError.TheVariants as errors
+use Rattle.translator.specs.Outcomes.{counted}
+use Rattle.translator.specs.Packets.{TranslatesCaptured}
+use Rattle.translator.specs.Passing.{max_parts}
+use Rattle.translator.specs.declared.capture_error.CaptureError.{CaptureError}
+use Rattle.translator.specs.declared.capture_error.CaptureError.TheVariants.{Block, Read, RecordCutOff, TooManyParts, Write}
+use Rattle.translator.specs.declared.counts.Counts.{Counts}
+use Rattle.translator.specs.declared.done.Done.{Done}
+use Rattle.translator.specs.declared.reason.Reason.{Reason}
+use Rattle.translator.specs.declared.reason.Reason.TheVariants.{TooLong}
+use Rattle.translator.specs.declared.table.Table.{Table}
+
+-- The translation by this table. Every packet is written. A packet that does not fit in the buffer is not translated.
+abbrev pub translation_of : Table → Visits (Result Done Reason) Counts
+translation_of table = record {
+  visits = λ captured frame after outcome. TranslatesCaptured table captured.link_type captured.byte_order frame after outcome;
+  visits_long = λ required_len outcome. outcome ≡ Err TooLong;
+  is_written = λ outcome. true;
+  writes_all = true;
+  counted = counted;
+  max_parts = max_parts;
+}
+
+-- the error of the translation if this error ended the copy of the records
+abbrev pub record_error : PartError → CaptureError
+record_error (errors.CutOff place required len) = RecordCutOff place.offset required len
+record_error (errors.Refused error) = Block error
+record_error (errors.Read place error) = Read place.offset error
+record_error errors.TooManyParts = TooManyParts
+record_error (errors.Write error) = Write error
+
+-- the result of the translation if this is the result of the copy of the records
+abbrev pub of_records : Result Extent PartError → Result (Unit {0}) CaptureError
+of_records (Ok extent) = Ok tt
+of_records (Err error) = Err (record_error error)
