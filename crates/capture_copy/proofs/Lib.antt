@@ -1,7 +1,10 @@
 pub mod BeginLemmas
+pub mod BlockEndLemmas
 pub mod BlockLemmas
 pub mod CopyLemmas
+pub mod LongBlockLemmas
 pub mod PartLemmas
 pub mod PassingLemmas
 pub mod RecordLemmas
+pub mod SectionLengthLemmas
 pub mod VisitLemmas

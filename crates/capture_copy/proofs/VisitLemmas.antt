@@ -14,8 +14,8 @@ use Rattle.capture_numbers.specs.declared.byte_order.ByteOrder.{ByteOrder}
 use Rattle.capture_copy.proofs.PartLemmas.{front_if_long, leaves_at_read}
 use Rattle.capture_copy.proofs.PassingLemmas.{given_error, next_to_error, next_to_write_error}
 use Rattle.capture_copy.proofs.RecordLemmas.{is_record}
-use Rattle.capture_copy.specs.Parts.{IsReadError, IsWriteError, PassesLong, WritesFront}
-use Rattle.capture_copy.specs.Passing.{Part, PassesAny, PassesNext, PassesTo, StopsBy, counted_if, counts_after}
+use Rattle.capture_copy.specs.Parts.{IsReadError, IsWriteError, PassesLong, WritesFront, format_of}
+use Rattle.capture_copy.specs.Passing.{Format, Part, PassesAny, PassesNext, PassesTo, StopsBy, counted_if, counts_after}
 use Rattle.capture_copy.specs.Records.{EndsRecord, IsCutRecord, IsLongRecord, IsRecordEnd, IsRecordFront, IsRecordPart, passed, records_after, records_of}
 use Rattle.capture_copy.specs.Visits.{EndsWithEnough, Visits, written_if}
 use Rattle.capture_copy.specs.declared.copier.TheConstants.{BUFFER_LEN}
@@ -182,27 +182,43 @@ same_below : {Counts : Type 0} (is_enough : Counts → Bool) (counts now_counts 
     → is_enough now_counts ≡ false
 same_below is_enough counts now_counts below same = subst (λ given. is_enough given ≡ false) (sym same) below
 
-error_below : {Outcome Counts : Type 0} (visits : Visits Outcome Counts) (is_enough : Counts → Bool) (error : PartError) (state : Records)
+-- the error of a format whose ends are not counted ended the copy before enough packets were read
+pub error_below : {Outcome Counts : Type 0} (visits : Visits Outcome Counts) (State : Type 0) (IsPart : State → Part Outcome → State → Type 0)
+    (IsEnd : State → Part Outcome → PartError → Type 0) (is_enough : Counts → Bool) (error : PartError) (state : State)
     (left still_left held now_held : Option (List ℕ)) (counts now_counts : Counts)
-    → is_enough counts ≡ false
-    → (IsWriteError error ⊎ StopsBy (records_of visits) error state left still_left held now_held counts now_counts)
+    → ((part : Part Outcome) → IsEnd state part error → part.outcome ≡ None) → is_enough counts ≡ false
+    → (IsWriteError error
+    ⊎ StopsBy (format_of visits State IsPart IsEnd) error state left still_left held now_held counts now_counts)
     → EndsWithEnough (is_enough now_counts) (Err error)
-error_below visits is_enough (CutOff place required len) state left still_left held now_held counts now_counts below (inl failed) =
-    absurd failed
-error_below visits is_enough (CutOff place required len) state left still_left held now_held counts now_counts below (inr stops) =
+error_below visits State IsPart IsEnd is_enough (CutOff place required len) state left still_left held now_held counts now_counts uncounted
+    below (inl failed) = absurd failed
+error_below visits State IsPart IsEnd is_enough (CutOff place required len) state left still_left held now_held counts now_counts uncounted
+    below (inr stops) =
     same_below is_enough counts now_counts below
-    (stops.counted ∙ ap (counted_if (records_of visits) counts) stops.is_end.1.0)
-error_below visits is_enough (Refused error) state left still_left held now_held counts now_counts below (inl failed) =
-    absurd failed
-error_below visits is_enough (Refused error) state left still_left held now_held counts now_counts below (inr stops) =
-    absurd stops.is_end
-error_below visits is_enough (Read place error) state left still_left held now_held counts now_counts below (inl failed) =
-    absurd failed
-error_below visits is_enough (Read place error) state left still_left held now_held counts now_counts below (inr stops) =
+    (stops.counted ∙ ap (counted_if (format_of visits State IsPart IsEnd) counts) (uncounted stops.front stops.is_end))
+error_below visits State IsPart IsEnd is_enough (Refused error) state left still_left held now_held counts now_counts uncounted below
+    (inl failed) = absurd failed
+error_below visits State IsPart IsEnd is_enough (Refused error) state left still_left held now_held counts now_counts uncounted below
+    (inr stops) =
     same_below is_enough counts now_counts below
-    (stops.counted ∙ ap (counted_if (records_of visits) counts) stops.is_end.1.0)
-error_below visits is_enough TooManyParts state left still_left held now_held counts now_counts below ends = tt
-error_below visits is_enough (Write error) state left still_left held now_held counts now_counts below ends = tt
+    (stops.counted ∙ ap (counted_if (format_of visits State IsPart IsEnd) counts) (uncounted stops.front stops.is_end))
+error_below visits State IsPart IsEnd is_enough (Read place error) state left still_left held now_held counts now_counts uncounted below
+    (inl failed) = absurd failed
+error_below visits State IsPart IsEnd is_enough (Read place error) state left still_left held now_held counts now_counts uncounted below
+    (inr stops) =
+    same_below is_enough counts now_counts below
+    (stops.counted ∙ ap (counted_if (format_of visits State IsPart IsEnd) counts) (uncounted stops.front stops.is_end))
+error_below visits State IsPart IsEnd is_enough TooManyParts state left still_left held now_held counts now_counts uncounted below ends = tt
+error_below visits State IsPart IsEnd is_enough (Write error) state left still_left held now_held counts now_counts uncounted below ends = tt
+
+-- no packet is counted for the first bytes of a record
+uncounted : {Outcome Counts : Type 0} (visits : Visits Outcome Counts) (records : Records) (error : PartError) (part : Part Outcome)
+    → IsRecordEnd visits records part error → part.outcome ≡ None
+uncounted visits records (CutOff place required len) part is = is.1.0
+uncounted visits records (Refused error) part is = absurd is
+uncounted visits records (Read place error) part is = is.1.0
+uncounted visits records TooManyParts part is = absurd is
+uncounted visits records (Write error) part is = absurd is
 
 -- an error ended the copy before enough packets were read
 pub ends_below : {Outcome Counts : Type 0} (visits : Visits Outcome Counts) (is_enough : Counts → Bool) (result : Result Extent PartError)
@@ -212,16 +228,17 @@ pub ends_below : {Outcome Counts : Type 0} (visits : Visits Outcome Counts) (is_
     → result ≡ Err error → EndsWithEnough (is_enough now_counts) result
 ends_below visits is_enough result error state left still_left held now_held counts now_counts below ends fails =
     subst (EndsWithEnough (is_enough now_counts)) (sym fails)
-    (error_below visits is_enough error state left still_left held now_held counts now_counts below ends)
+    (error_below visits Records (records_of visits).IsPart (records_of visits).IsEnd is_enough error state left still_left held now_held
+    counts now_counts (uncounted visits state error) below ends)
 
 -- there is no part after the last, and enough packets were not read
-pub none_below : {Outcome Counts : Type 0} (visits : Visits Outcome Counts) (is_enough : Counts → Bool) (is_any : Bool)
-    (before after : Records) (left still_left held now_held : Option (List ℕ)) (counts now_counts : Counts)
+pub none_below : (format : Format) (is_enough : format.Counts → Bool) (is_any : Bool)
+    (before after : format.State) (left still_left held now_held : Option (List ℕ)) (counts now_counts : format.Counts)
     → is_enough counts ≡ false
-    → PassesAny (records_of visits) (Ok is_any) before after left still_left held now_held counts now_counts → is_any ≡ false
+    → PassesAny format (Ok is_any) before after left still_left held now_held counts now_counts → is_any ≡ false
     → is_enough now_counts ≡ false
-none_below visits is_enough true before after left still_left held now_held counts now_counts below one is = absurd (cc is)
-none_below visits is_enough false before after left still_left held now_held counts now_counts below none is =
+none_below format is_enough true before after left still_left held now_held counts now_counts below one is = absurd (cc is)
+none_below format is_enough false before after left still_left held now_held counts now_counts below none is =
     same_below is_enough counts now_counts below none.3
 
 -- ---- whole captures

@@ -1,4 +1,4 @@
--- The beginning of a capture, which determines its format, and the copy of a classic capture.
+-- The beginning of a capture, which determines its format, and the copy of a whole capture in either format.
 use Rattle.std.specs.Prelude.{◌≡◌, true, false, List, ℕ, take, ⊤, Option, IfSome, Result, Ok, Err}
 use Rattle.std.specs.Io.KnownBytes.{Appends, Consumes}
 use Rattle.capture_file.specs.Opening.{SaysHeader}
@@ -7,9 +7,14 @@ use Rattle.capture_file.specs.Reading.{RefusesHeader}
 use Rattle.capture_file.specs.declared.classic.capture_header.CaptureHeader.{CaptureHeader}
 use Rattle.capture_file.specs.declared.classic.capture_header_error.CaptureHeaderError.{CaptureHeaderError}
 use Rattle.capture_numbers.specs.Blocks.{min_block_len}
+use Rattle.capture_copy.specs.Blocks.{IsFileStart, blocks_of}
 use Rattle.capture_copy.specs.Passing.{Format, PassesTo}
+use Rattle.capture_copy.specs.Visits.{Visits}
+use Rattle.capture_copy.specs.declared.blocks.Blocks.{Blocks}
 use Rattle.capture_copy.specs.declared.copier.CopyError.{CopyError}
 use Rattle.capture_copy.specs.declared.copier.CopyError.TheVariants.{Read, Write}
+use Rattle.capture_copy.specs.declared.extent.Extent.{Extent}
+use Rattle.capture_copy.specs.declared.part_error.PartError.{PartError}
 
 -- the first 12 bytes of an input, if they are known, begin with the type of a section header block; no block is shorter than 12 bytes
 abbrev pub IsPcapng : Option (List ℕ) → Type 0
@@ -45,3 +50,12 @@ pub record PassesCapture (A : Type 0) (format : Format) (first : CaptureHeader �
   pub copies : CopiesHeader header left middle held then_held
   pub after : format.State
   pub passes : PassesTo format result (first header) after middle still_left then_held now_held counts now_counts
+
+-- A pcapng file was copied up to this result, block by block. The file begins with the type of a section header block.
+pub record PassesFile {Outcome Counts : Type 0} (visits : Visits Outcome Counts) (result : Result Extent PartError)
+    (left still_left held now_held : Option (List ℕ)) (counts now_counts : Counts) : Type 0 where
+  pub is_pcapng : IsPcapng left
+  pub start : Blocks
+  pub is_start : IsFileStart start
+  pub after : Blocks
+  pub passes : PassesTo (blocks_of visits) result start after left still_left held now_held counts now_counts

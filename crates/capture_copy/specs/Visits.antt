@@ -1,5 +1,5 @@
 -- What a visitor does with the packets of a capture that is copied.
-use Rattle.std.specs.Prelude.{◌≡◌, ℕ, Bool, true, false, if◌then◌else◌, List, [], ⊤, Result, Ok, Err}
+use Rattle.std.specs.Prelude.{◌≡◌, ℕ, Bool, true, false, if◌then◌else◌, List, [], ⊤, Option, Some, None, Result, Ok, Err}
 use Rattle.capture_file.specs.declared.reader.captured_packet.CapturedPacket.{CapturedPacket}
 use Rattle.capture_copy.specs.declared.extent.Extent.{Extent}
 use Rattle.capture_copy.specs.declared.extent.Extent.TheVariants.{Enough, Whole}
@@ -20,6 +20,11 @@ pub record Visits (Outcome Counts : Type 0) : Type 1 where
   pub counted : Counts → Outcome → Counts
   -- the maximum number of records or blocks that are read
   pub max_parts : ℕ
+
+-- A block whose packet has this outcome is written. A block without a packet is written, and has no outcome.
+abbrev pub is_written_with : {Outcome Counts : Type 0} → Visits Outcome Counts → Option Outcome → Bool
+is_written_with visits None = true
+is_written_with visits (Some outcome) = visits.is_written outcome
 
 -- the bytes if they are written, or else no bytes
 abbrev pub written_if : Bool → List ℕ → List ℕ

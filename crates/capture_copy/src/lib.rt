@@ -10,6 +10,7 @@
 #![tactic(auto)]
 
 mod begin;
+mod blocks;
 mod copier;
 mod extent;
 mod part_error;
@@ -19,6 +20,7 @@ mod transfer;
 mod visitor;
 
 pub use begin::is_pcapng;
+pub use blocks::{Blocks, copy_blocks};
 pub use copier::{BUFFER_LEN, Buffer, Copier, CopyError};
 pub use extent::Extent;
 pub use part_error::PartError;

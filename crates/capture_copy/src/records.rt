@@ -2,7 +2,7 @@
 
 ghost use Rattle.std.specs.Prelude.{◌≡◌, ◌<◌, ◌≤◌, ℕ, List, Ok, Option, false, true};
 ghost use Rattle.std.specs.Io.KnownBytes.{Consumes, IsAtEnd};
-ghost use Rattle.capture_copy.specs.Passing.{PassesAny, PassesGiven, PassesTo, counted_if};
+ghost use Rattle.capture_copy.specs.Passing.{PassesAny, PassesGiven, PassesTo};
 ghost use Rattle.capture_copy.specs.Records.{first_records, passed, records_of};
 ghost use Rattle.capture_copy.specs.Visits.{EndsWithEnough};
 ghost use Rattle.capture_copy.specs.declared.copier.TheConstants.{BUFFER_LEN};
@@ -11,6 +11,7 @@ ghost use Rattle.capture_copy.specs.declared.extent.Extent.TheVariants.{Whole};
 ghost use Rattle.capture_file.specs.Classic.{record_header};
 
 use crate::transfer::{pass_long, read_into, write_if};
+use crate::visitor::count_if;
 use crate::{BUFFER_LEN, Copier, Extent, PartError, Place, Visitor};
 use capture_file::classic::{CaptureHeader, RecordHeader};
 use capture_file::reader::CapturedPacket;
@@ -133,16 +134,6 @@ fn copy_headed<R: Read, W: Write, V: Visitor>(
         copy_long(copier, records, first, &header, visitor)
     } else {
         copy_kept(copier, records, first, &header, visitor)
-    }
-}
-
-/// Counts a packet with this outcome, or nothing if the outcome is `None`.
-fn count_if<V: Visitor>(visitor: &V, counts: &mut V::Counts, outcome: Option<V::Outcome>)
-    ensures counted { counts.new ≡ counted_if (records_of (V.visits visitor.now)) counts.old outcome }
-    ensures holds { V.is_enough visitor.now counts.old ≡ false → V.holds visitor.now counts.old → V.holds visitor.now counts.new }
-{
-    if let Some(outcome) = outcome {
-        visitor.count(counts, outcome);
     }
 }
 

@@ -2,12 +2,13 @@
 
 ghost use Rattle.std.specs.Prelude.{◌≡◌, ◌<◌, ◌≤◌, ◌++◌, IfErr, IfOk, OnOk, length, take};
 ghost use Rattle.std.specs.Io.KnownBytes.{Appends, Consumes, IsAtEnd};
+ghost use Rattle.streams.specs.Streams.{FillsAfter};
 ghost use Rattle.capture_copy.specs.Parts.{IsReadError, IsWriteError, PassesLong};
 ghost use Rattle.capture_copy.specs.Visits.{written_if};
 
 use crate::{Copier, CopyError, PartError, Place};
 use std::io::{Read, Write};
-use streams::{fill, skip};
+use streams::{fill, fill_after, skip};
 
 /// Reads into a buffer until it is full or the input ends, and returns the number of bytes read.
 pub(crate) fn read_into<R: Read>(
@@ -21,6 +22,25 @@ pub(crate) fn read_into<R: Read>(
     ensures failed { IfErr result (IsReadError place) }
 {
     match fill(input, buffer) {
+        Ok(len) => Ok(len),
+        Err(error) => Err(PartError::Read { place, error }),
+    }
+}
+
+/// Copies `first` to the front of a buffer, and then reads from the input until the buffer is full or the input ends. Returns the number of
+/// bytes in the buffer.
+pub(crate) fn read_after<R: Read>(
+    input: &mut R,
+    first: &[u8],
+    buffer: &mut [u8],
+    place: Place,
+) -> Result<usize, PartError>
+    requires { length first.now ≤ length buffer.old }
+    ensures fills { IfOk result (FillsAfter first.now (R.remaining input.old) (R.remaining input.new) buffer.new) }
+    ensures within { IfOk result (λ len. len ≤ length buffer.new) }
+    ensures failed { IfErr result (IsReadError place) }
+{
+    match fill_after(input, first, buffer) {
         Ok(len) => Ok(len),
         Err(error) => Err(PartError::Read { place, error }),
     }

@@ -1,5 +1,9 @@
 //! What is done with the packets of a capture that is copied.
 
+ghost use Rattle.std.specs.Prelude.{◌≡◌, Option, false, fold, true};
+ghost use Rattle.std.specs.Option.{option_to_list};
+ghost use Rattle.capture_copy.specs.Visits.{is_written_with};
+
 use capture_file::reader::CapturedPacket;
 
 /// Decides about each packet of a capture that is copied: whether the packet is written, and with which bytes.
@@ -50,4 +54,25 @@ pub trait Visitor {
     /// Returns whether enough packets were read. Then no other packet is read.
     fn is_enough(&self, counts: &Self::Counts) -> bool
         ensures { result ≡ is_enough self.now counts.now };
+}
+
+/// Counts a packet with this outcome, or nothing if the outcome is `None`.
+pub(crate) fn count_if<V: Visitor>(visitor: &V, counts: &mut V::Counts, outcome: Option<V::Outcome>)
+    ensures counted { counts.new ≡ fold (V.visits visitor.now).counted counts.old (option_to_list outcome) }
+    ensures holds { V.is_enough visitor.now counts.old ≡ false → V.holds visitor.now counts.old → V.holds visitor.now counts.new }
+{
+    if let Some(outcome) = outcome {
+        visitor.count(counts, outcome);
+    }
+}
+
+/// Whether a block whose packet has this outcome is written. A block without a packet is written, and its outcome is `None`.
+pub(crate) fn is_written<V: Visitor>(visitor: &V, outcome: Option<V::Outcome>) -> bool
+    ensures written { result ≡ is_written_with (V.visits visitor.now) outcome }
+    ensures each { (V.visits visitor.now).writes_all ≡ true → result ≡ true }
+{
+    match outcome {
+        Some(outcome) => visitor.is_written(outcome),
+        None => true,
+    }
 }

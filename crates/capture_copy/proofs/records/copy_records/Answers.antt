@@ -1,6 +1,7 @@
 use Rattle.std.proofs.Common.{◌∙◌, ◌≤◌, arith, inr, length, refl, rules, sym}
 use Rattle.capture_copy.proofs.PassingLemmas.{ends_by_number, passes_any, passes_more, passes_nothing, passes_on, passes_on_to_error}
 use Rattle.capture_copy.proofs.VisitLemmas.{ends_below, none_below, still_enough}
+use Rattle.capture_copy.specs.Records.{records_of}
 use Rattle.capture_copy.proofs.records.copy_records.Goals as goal
 
 pub loop-record-init : goal.loop-record-init
@@ -36,7 +37,7 @@ returns-then-not-is_record-clause-passes g c =
 
 pub returns-then-not-is_record-clause-enough : goal.returns-then-not-is_record-clause-enough
 returns-then-not-is_record-clause-enough g c =
-    none_below _ (g.V.Visitor.is_enough c.args.visitor.now) _ _ _ _ _ _ _ _ _
+    none_below (records_of (g.V.Visitor.visits c.args.visitor.now)) (g.V.Visitor.is_enough c.args.visitor.now) _ _ _ _ _ _ _ _ _
     (sym c.is_enough.ensures ∙ c.if-is_enough.false) c.in_ok-is_record.ensures.passes (search rules)
 
 pub returns-then-not-is_record-clause-none : goal.returns-then-not-is_record-clause-none
