@@ -2,12 +2,12 @@
 use Rattle.std.proofs.Common.{◌≡◌, ◌≢◌, ◌≤◌, ◌++◌, ◌∙◌, ◌⊎◌, ℕ, List, Bool, false, IfErr, Option, Result, Some, None, Ok, Err, [], ap, append-nil, arith, inl, inr, length, length-append, refl, subst, sym, take}
 use Rattle.std.proofs.KnownBytes.{Consumes-trans}
 use Rattle.std.proofs.lemmas.List.{take_all}
-use Rattle.std.specs.Io.KnownBytes.{Appends, Consumes, IsAtEnd}
+use Rattle.std.specs.Io.KnownBytes.{Appends, Consumes}
 use Rattle.streams.specs.Streams.{FillsAfter}
 use Rattle.capture_file.proofs.PcapngReadingLemmas.{cut_off_short, last_by, refused_first, whole_block}
 use Rattle.capture_file.specs.Pcapng.{IsBlock, block_header_refusal, block_refusal}
 use Rattle.capture_file.specs.PcapngReading.{AreFirst, BeginsBlock, IsLastBlock}
-use Rattle.capture_file.specs.Sections.{TakesBlock, TakesBody, TakesUnless}
+use Rattle.capture_file.specs.Sections.{TakesBody, TakesUnless}
 use Rattle.capture_numbers.specs.declared.byte_order.ByteOrder.{ByteOrder}
 use Rattle.capture_file.specs.declared.pcapng.block.BlockHeader.{BlockHeader}
 use Rattle.capture_file.specs.declared.pcapng.block_body.BlockBody.{BlockBody}

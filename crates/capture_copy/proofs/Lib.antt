@@ -1,5 +1,6 @@
 pub mod BeginLemmas
 pub mod BlockEndLemmas
+pub mod BlockExamples
 pub mod BlockLemmas
 pub mod CopyLemmas
 pub mod LongBlockLemmas

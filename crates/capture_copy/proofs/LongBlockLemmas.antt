@@ -1,10 +1,10 @@
 -- The blocks of a pcapng file that do not fit in the buffer.
-use Rattle.std.proofs.Common.{◌≡◌, ◌≢◌, ◌≤◌, ◌<◌, ◌+◌, ◌-◌, ◌++◌, ◌∙◌, ◌⊎◌, ℕ, List, Bool, true, false, Option, OnErr, Result, Some, None, Ok, Err, [], ap, append-nil, append_assoc, arith, inl, inr, length, length-append, refl, subst, sym}
-use Rattle.std.proofs.KnownBytes.{Appends-nil, Appends-trans, Consumes-trans}
+use Rattle.std.proofs.Common.{◌≡◌, ◌<◌, ◌+◌, ◌-◌, ◌++◌, ◌∙◌, ◌⊎◌, ℕ, List, Bool, true, false, Option, OnErr, Result, Some, None, Ok, Err, [], ap, append-nil, append_assoc, arith, inl, inr, length, length-append, refl, subst, sym}
+use Rattle.std.proofs.KnownBytes.{Appends-trans, Consumes-trans}
 use Rattle.std.specs.Io.KnownBytes.{Appends, Consumes, IsAtEnd}
-use Rattle.capture_file.proofs.PcapngLemmas.{block_header_front, block_len_front}
+use Rattle.capture_file.proofs.PcapngLemmas.{block_header_front}
 use Rattle.capture_file.proofs.PcapngReadingLemmas.{cut_off_after, differs_after, passed_over}
-use Rattle.capture_file.specs.Pcapng.{IsBlock, block_header, block_header_refusal, block_len, block_refusal}
+use Rattle.capture_file.specs.Pcapng.{IsBlock, block_header, block_header_refusal}
 use Rattle.capture_file.specs.PcapngReading.{BeginsBlock}
 use Rattle.capture_file.specs.PcapngSteps.{is_description}
 use Rattle.capture_file.specs.declared.pcapng.block.BlockHeader.{BlockHeader}
@@ -14,17 +14,16 @@ use Rattle.capture_file.specs.declared.reader.packet_error.PacketError.{PacketEr
 use Rattle.capture_file.specs.declared.reader.packet_error.PacketError.TheVariants as errors
 use Rattle.capture_numbers.specs.Numbers.{number_at}
 use Rattle.capture_numbers.specs.declared.byte_order.ByteOrder.{ByteOrder}
-use Rattle.capture_copy.proofs.BlockEndLemmas.{ends_refused, ends_rejected, next_to_read_error}
+use Rattle.capture_copy.proofs.BlockEndLemmas.{ends_refused, next_to_read_error}
 use Rattle.capture_copy.proofs.BlockLemmas.{alone, next_of}
 use Rattle.capture_copy.proofs.PassingLemmas.{given_error, next_to_end, next_to_write_error}
-use Rattle.capture_copy.specs.Blocks.{DiffersAtEnd, EndsInLast, EndsWithLast, HasLongOutcome, IsBlockFront, IsBlockPart, IsLongBlock, RefusesBlock, blocks_of, refused_by, writes_front}
-use Rattle.capture_copy.specs.Parts.{IsReadError, IsWriteError, PassesLong, WritesFront}
-use Rattle.capture_copy.specs.Passing.{Part, PassesNext, StopsBy, counts_after}
+use Rattle.capture_copy.specs.Blocks.{EndsWithLast, HasLongOutcome, IsBlockFront, IsBlockPart, IsLongBlock, RefusesBlock, blocks_of, refused_by, writes_front}
+use Rattle.capture_copy.specs.Parts.{IsWriteError, PassesLong, WritesFront}
+use Rattle.capture_copy.specs.Passing.{PassesNext, StopsBy, counts_after}
 use Rattle.capture_copy.specs.Visits.{Visits, is_written_with, written_if}
 use Rattle.capture_copy.specs.declared.blocks.Blocks.{Blocks}
 use Rattle.capture_copy.specs.declared.copier.TheConstants.{BUFFER_LEN}
 use Rattle.capture_copy.specs.declared.part_error.PartError.{PartError}
-use Rattle.capture_copy.specs.declared.place.Place.{Place}
 
 -- These are the first bytes of a block that does not fit in the buffer. If the copy ends within it, `writes_front` states whether its bytes
 -- are written. Otherwise `is_written` states it.
@@ -274,12 +273,15 @@ pub long_part : {Outcome Counts : Type 0} (visits : Visits Outcome Counts) (bloc
     }) blocks.section
 long_part visits blocks first more header outcome has_len is is_block beyond has = record {
   is_block = is_block;
-  visited = inr (beyond, record {
-    has_outcome = subst (λ given. HasLongOutcome visits given (Ok outcome))
-        (header_of blocks.section.byte_order first more header has_len is) has;
-    same = refl;
-    is_written = refl;
-  });
+  visited = inr (
+    beyond,
+    record {
+      has_outcome = subst (λ given. HasLongOutcome visits given (Ok outcome))
+          (header_of blocks.section.byte_order first more header has_len is) has;
+      same = refl;
+      is_written = refl;
+    },
+  );
 }
 
 -- the block is refused

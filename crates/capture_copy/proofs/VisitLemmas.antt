@@ -183,7 +183,8 @@ same_below : {Counts : Type 0} (is_enough : Counts → Bool) (counts now_counts 
 same_below is_enough counts now_counts below same = subst (λ given. is_enough given ≡ false) (sym same) below
 
 -- the error of a format whose ends are not counted ended the copy before enough packets were read
-pub error_below : {Outcome Counts : Type 0} (visits : Visits Outcome Counts) (State : Type 0) (IsPart : State → Part Outcome → State → Type 0)
+pub error_below : {Outcome Counts : Type 0} (visits : Visits Outcome Counts) (State : Type 0)
+    (IsPart : State → Part Outcome → State → Type 0)
     (IsEnd : State → Part Outcome → PartError → Type 0) (is_enough : Counts → Bool) (error : PartError) (state : State)
     (left still_left held now_held : Option (List ℕ)) (counts now_counts : Counts)
     → ((part : Part Outcome) → IsEnd state part error → part.outcome ≡ None) → is_enough counts ≡ false
@@ -209,7 +210,8 @@ error_below visits State IsPart IsEnd is_enough (Read place error) state left st
     same_below is_enough counts now_counts below
     (stops.counted ∙ ap (counted_if (format_of visits State IsPart IsEnd) counts) (uncounted stops.front stops.is_end))
 error_below visits State IsPart IsEnd is_enough TooManyParts state left still_left held now_held counts now_counts uncounted below ends = tt
-error_below visits State IsPart IsEnd is_enough (Write error) state left still_left held now_held counts now_counts uncounted below ends = tt
+error_below visits State IsPart IsEnd is_enough (Write error) state left still_left held now_held counts now_counts uncounted below
+    ends = tt
 
 -- no packet is counted for the first bytes of a record
 uncounted : {Outcome Counts : Type 0} (visits : Visits Outcome Counts) (records : Records) (error : PartError) (part : Part Outcome)

@@ -1,5 +1,5 @@
 -- The blocks of a pcapng file as parts (draft-ietf-opsawg-pcapng, section 3.1).
-use Rattle.std.specs.Prelude.{◌≡◌, ◌≢◌, ◌+◌, ◌-◌, ◌<◌, ◌≤◌, ◌++◌, ◌⊎◌, ◌==◌, ℕ, Bool, true, false, if◌then◌else◌, List, [], drop, length, min, replicate, slice_range, take, Option, Some, None, Result, Ok, Err}
+use Rattle.std.specs.Prelude.{◌≡◌, ◌≢◌, ◌+◌, ◌-◌, ◌<◌, ◌≤◌, ◌++◌, ◌⊎◌, ◌==◌, ℕ, Bool, true, false, if◌then◌else◌, List, [], drop, length, replicate, slice_range, take, Option, Some, None, Result, Ok, Err}
 use Rattle.std.specs.Option.{is_some}
 use Rattle.std.specs.Io.KnownBytes.{Appends, Consumes, IsAtEnd}
 use Rattle.capture_file.specs.Packets.{IsWithin}
@@ -44,7 +44,8 @@ not_specified = replicate 8 255
 -- header block does not specify a length. The copy of every other block is the block itself.
 abbrev pub copy_of : Bool → List ℕ → List ℕ
 copy_of true block = block
-copy_of false block = if is_section_header block then take section_len_at block ++ (not_specified ++ drop section_options_at block) else block
+copy_of false block =
+    if is_section_header block then take section_len_at block ++ (not_specified ++ drop section_options_at block) else block
 
 -- ---- whole blocks
 
@@ -59,7 +60,8 @@ pub record VisitsPacket {Outcome Counts : Type 0} (visits : Visits Outcome Count
   pub has_outcome : outcome ≡ Some given
 
 -- the packet in a block was visited, if the block contains one
-abbrev pub VisitsTaken : {Outcome Counts : Type 0} → Visits Outcome Counts → Option CapturedPacket → List ℕ → List ℕ → Option Outcome → Type 0
+abbrev pub VisitsTaken : {Outcome Counts : Type 0} → Visits Outcome Counts → Option CapturedPacket → List ℕ → List ℕ → Option Outcome
+    → Type 0
 VisitsTaken visits None block copy outcome = (copy ≡ copy_of visits.writes_all block) × (outcome ≡ None)
 VisitsTaken visits (Some packet) block copy outcome = VisitsPacket visits packet block copy outcome
 
@@ -132,24 +134,25 @@ abbrev pub IsMalformed : ByteOrder → List ℕ → BlockError → Type 0
 IsMalformed section bytes (block_errors.CutOff required len) = ⊥
 IsMalformed section bytes reason = (bytes ≢ []) × (block_refusal section bytes ≡ Some reason)
 
--- this error refuses a block with this header, which does not fit in the buffer, since later packets can't be read without it
+-- this error refuses a block with this header, which does not fit in the buffer, because later packets can't be read without it
 abbrev pub IsTooLong : BlockHeader → PacketError → Type 0
 IsTooLong header error = (is_description header.block_type ≡ true) × (error ≡ errors.TooLong header.block_type header.total_len)
 
--- these bytes are a block that is refused: by the section, or because it does not fit in the buffer
+-- the bytes are a block that is refused: by the section, or because it does not fit in the buffer
 abbrev pub RefusesBlock : Section → List ℕ → PacketError → Type 0
 RefusesBlock section block error =
     IsBlock section.byte_order block
     × (((length block ≤ BUFFER_LEN) × (after : Section) × TakesFrom section block after (Err error))
     ⊎ ((BUFFER_LEN < length block) × IsTooLong (block_header section.byte_order block) error))
 
--- these bytes are no block, or a block that is refused
+-- this error refuses the bytes: they are no block, or a block that is refused
 abbrev pub IsRefusedBlock : Section → List ℕ → PacketError → Type 0
 IsRefusedBlock section bytes error =
     ((reason : BlockError) × IsMalformed section.byte_order bytes reason × (error ≡ errors.Block reason))
     ⊎ RefusesBlock section bytes error
 
--- if the copy ends within a block at this place, its first bytes are written; they are not written if they begin the file
+-- The first bytes of a block at this place are written if the copy ends within the block. Those of the first block of a file are not
+-- written.
 abbrev pub writes_front : {Outcome Counts : Type 0} → Visits Outcome Counts → Place → Bool
 writes_front visits place = if place.offset == 0 then false else visits.writes_all
 
@@ -190,7 +193,7 @@ blocks_of visits = format_of visits Blocks
 
 -- ---- results
 
--- the section read this from the bytes of a whole block, which is the packet in the block, if it contains one
+-- the bytes are a whole block, and the section read from it its packet, if it contains one
 abbrev pub Takes : Section → List ℕ → Section → Option CapturedPacket → Type 0
 Takes before block after taken = (block_refusal before.byte_order block ≡ None) × TakesFrom before block after (Ok taken)
 
@@ -211,7 +214,8 @@ pub record ReadsEnd (is_written : Bool) (bytes : List ℕ) (left still_left held
   pub appended : Appends held now_held (written_if is_written bytes)
 
 -- the file ends within the last field of a block of this length
-pub record EndsInLast (total_len : ℕ) (place : Place) (is_written : Bool) (error : PartError) (left still_left held now_held : Option (List ℕ)) : Type 0 where
+pub record EndsInLast (total_len : ℕ) (place : Place) (is_written : Bool) (error : PartError)
+    (left still_left held now_held : Option (List ℕ)) : Type 0 where
   pub bytes : List ℕ
   pub short : length bytes < trailer_len
   pub reads : ReadsEnd is_written bytes left still_left held now_held
@@ -219,7 +223,8 @@ pub record EndsInLast (total_len : ℕ) (place : Place) (is_written : Bool) (err
   pub at_end : IsAtEnd still_left
 
 -- the last field of a block differs from the total length in its header
-pub record DiffersAtEnd (header : BlockHeader) (place : Place) (is_written : Bool) (error : PartError) (left still_left held now_held : Option (List ℕ)) : Type 0 where
+pub record DiffersAtEnd (header : BlockHeader) (place : Place) (is_written : Bool) (error : PartError)
+    (left still_left held now_held : Option (List ℕ)) : Type 0 where
   pub last : List ℕ
   pub four : length last ≡ trailer_len
   pub reads : ReadsEnd is_written last left still_left held now_held
@@ -227,11 +232,13 @@ pub record DiffersAtEnd (header : BlockHeader) (place : Place) (is_written : Boo
   pub is_error : error
       ≡ refused_by place (errors.Block (block_errors.LastLength header.total_len (number_at header.byte_order last 0)))
 
--- The last field of a block with this header was read, and it repeats the total length of the block. Nothing is written then. After an
--- error of reading nothing more was read or written.
-abbrev pub EndsWithLast : BlockHeader → Place → Bool → Result (List ℕ) PartError → Option (List ℕ) → Option (List ℕ) → Option (List ℕ) → Option (List ℕ) → Type 0
+-- The last field of a block with this header was read, and it repeats the total length of the block. Nothing was written. If the field is
+-- cut off or differs, `is_written` states whether its bytes were written. If reading failed, nothing was written.
+abbrev pub EndsWithLast : BlockHeader → Place → Bool → Result (List ℕ) PartError → Option (List ℕ) → Option (List ℕ) → Option (List ℕ)
+    → Option (List ℕ) → Type 0
 EndsWithLast header place is_written (Ok last) left still_left held now_held =
-    (length last ≡ trailer_len) × (number_at header.byte_order last 0 ≡ header.total_len) × Consumes left still_left last × (now_held ≡ held)
+    (length last ≡ trailer_len) × (number_at header.byte_order last 0 ≡ header.total_len) × Consumes left still_left last
+    × (now_held ≡ held)
 EndsWithLast header place is_written (Err error) left still_left held now_held =
     IsWriteError error
     ⊎ ((IsReadError place error × (now_held ≡ held))

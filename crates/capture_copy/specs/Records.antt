@@ -1,5 +1,5 @@
 -- The records of a classic capture as parts (draft-ietf-opsawg-pcap, section 5).
-use Rattle.std.specs.Prelude.{◌≡◌, ◌≢◌, ◌+◌, ◌<◌, ◌≤◌, ◌++◌, ◌⊎◌, ℕ, List, [], drop, length, take, Some, None}
+use Rattle.std.specs.Prelude.{◌≡◌, ◌≢◌, ◌<◌, ◌≤◌, ◌++◌, ◌⊎◌, ℕ, List, [], drop, length, take, Some, None}
 use Rattle.capture_file.specs.Classic.{IsPartial, IsRecord, capture_header_len, record_header, record_header_len, record_len}
 use Rattle.capture_file.specs.Packets.{offset_after_record, packet_of_record}
 use Rattle.capture_file.specs.Reading.{required_len}

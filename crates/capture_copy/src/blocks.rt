@@ -17,7 +17,10 @@ use crate::{BUFFER_LEN, Copier, Extent, PartError, Place, Visitor, is_pcapng};
 use capture_file::ByteOrder;
 use capture_file::pcapng::{Block, BlockError, BlockHeader, MIN_BLOCK_LEN};
 use capture_file::reader::{CapturedPacket, PacketError, PlacedPacketError, Section};
-use capture_numbers::block::{BODY_AT, ENHANCED_PACKET, INTERFACE_DESCRIPTION, LAST_LEN, OBSOLETE_PACKET, SECTION_HEADER, SECTION_HEADER_LEN, SIMPLE_PACKET};
+use capture_numbers::block::{
+    BODY_AT, ENHANCED_PACKET, INTERFACE_DESCRIPTION, LAST_LEN, OBSOLETE_PACKET, SECTION_HEADER,
+    SECTION_HEADER_LEN, SIMPLE_PACKET,
+};
 use std::io::{Read, Write};
 
 /// The offset of the section length in a section header block (section 4.1).
@@ -52,7 +55,8 @@ impl Blocks {
         }
     }
 
-    /// Whether the first bytes of the next block are written if the copy ends within it. They are not written if they begin the file.
+    /// Whether the first bytes of the next block are written if the copy ends within it. Those of the first block of a file are not
+    /// written, so that nothing is written for a file that is refused at once.
     fn writes_front<V: Visitor>(&self, visitor: &V) -> bool
         ensures { result ≡ writes_front (V.visits visitor.now) self.now.place }
     {

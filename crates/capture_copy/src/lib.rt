@@ -1,11 +1,13 @@
-//! What the calls that copy a capture have in common: they recognize a pcapng file, copy the header of a classic capture, and copy bytes in
-//! pieces.
+//! Copies a capture, and asks a `Visitor` about each packet: whether it is written, and with which bytes.
 //!
-//! A part is a record of a classic capture or a block of a pcapng file. `specs/Passing` states what a copier does with each part.
+//! `copy_records` copies the records of a classic capture, after `Copier::copy_header` has copied its header. `copy_blocks` copies the
+//! blocks of a pcapng file. A part is a record of a classic capture or a block of a pcapng file. `specs/Passing` states what a copier does
+//! with each part.
 //!
 //! ```
 //! let mut copier = Copier::new(input, output, buffer);
-//! let len = copier.copy(header.captured_len as usize)?;
+//! let header = copier.copy_header(begin)??;
+//! let extent = copy_records(&mut copier, &mut Records::after(header), &visitor, &mut counts)?;
 //! ```
 #![tactic(auto)]
 

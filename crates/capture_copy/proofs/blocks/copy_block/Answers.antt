@@ -1,4 +1,3 @@
-use Rattle.std.proofs.Common.{rules}
 use Rattle.capture_copy.proofs.BlockEndLemmas.{ends_first}
 use Rattle.capture_copy.proofs.blocks.copy_block.Goals as goal
 

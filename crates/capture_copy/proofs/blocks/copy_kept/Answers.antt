@@ -1,4 +1,4 @@
-use Rattle.std.proofs.Common.{◌≡◌, ◌++◌, ◌∙◌, Ok, [], ap, append-nil, arith, inl, length, length-take, refl, rules, subst, sym}
+use Rattle.std.proofs.Common.{◌≡◌, ◌∙◌, Ok, [], ap, append-nil, arith, inl, length, length-take, refl, rules, subst, sym}
 use Rattle.std.proofs.KnownBytes.{Appends-nil, Consumes-nil, Consumes-trans}
 use Rattle.std.specs.Io.KnownBytes.{Appends, Consumes}
 use Rattle.capture_file.proofs.PcapngLemmas.{block_header_front}

@@ -1,4 +1,4 @@
-use Rattle.std.proofs.Common.{inl, inr, refl, rules}
+use Rattle.std.proofs.Common.{rules}
 use Rattle.capture_copy.proofs.BlockEndLemmas.{taken_refused}
 use Rattle.capture_copy.proofs.blocks.take_block.Goals as goal
 

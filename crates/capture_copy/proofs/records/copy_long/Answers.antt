@@ -1,4 +1,4 @@
-use Rattle.std.proofs.Common.{◌++◌, ◌∙◌, ap, arith, refl, rules, subst, true}
+use Rattle.std.proofs.Common.{◌++◌, ap, arith, refl, rules, subst}
 use Rattle.std.proofs.KnownBytes.{Consumes-trans}
 use Rattle.capture_copy.proofs.PartLemmas.{front_if_long}
 use Rattle.capture_copy.proofs.PassingLemmas.{passes_part}
