@@ -15,7 +15,6 @@ use Rattle.capture_summary.specs.declared.choice.PortRange.{PortRange}
 use Rattle.capture_request.specs.declared.parts.Lines.TheVariants.{All}
 use Rattle.capture_request.specs.declared.parts.Parts.{Parts}
 use Rattle.capture_request.specs.declared.reached.Reached.TheVariants.{End}
-use Rattle.capture_selection.specs.Blocks.{block_copy}
 use Rattle.capture_selection.specs.Captures.{SelectsCapture}
 use Rattle.capture_selection.specs.Selector.{selection_of}
 use Rattle.capture_selection.specs.declared.counts.Counts.{Counts}
@@ -159,29 +158,3 @@ selection others = inl (
     };
   },
 )
-
--- ---- the section length
-
--- a section header block of 28 bytes in each byte order, with this section length
-abbrev big_endian : List ℕ → List ℕ
-big_endian len = 0x0A ∷ 0x0D ∷ 0x0D ∷ 0x0A ∷ 0 ∷ 0 ∷ 0 ∷ 28 ∷ 0x1A ∷ 0x2B ∷ 0x3C ∷ 0x4D ∷ 0 ∷ 1 ∷ 0 ∷ 0 ∷ (len ++ 0 ∷ 0 ∷ 0 ∷ 28 ∷ [])
-
-abbrev little_endian : List ℕ → List ℕ
-little_endian len = 0x0A ∷ 0x0D ∷ 0x0D ∷ 0x0A ∷ 28 ∷ 0 ∷ 0 ∷ 0 ∷ 0x4D ∷ 0x3C ∷ 0x2B ∷ 0x1A ∷ 1 ∷ 0 ∷ 0 ∷ 0 ∷ (len ++ 28 ∷ 0 ∷ 0 ∷ 0 ∷ [])
-
--- the section length -1, which is not specified
-abbrev not_specified : List ℕ
-not_specified = 255 ∷ 255 ∷ 255 ∷ 255 ∷ 255 ∷ 255 ∷ 255 ∷ 255 ∷ []
-
-pub big_endian_section : block_copy (big_endian (0 ∷ 0 ∷ 0 ∷ 0 ∷ 0 ∷ 0 ∷ 0 ∷ 20 ∷ [])) ≡ big_endian not_specified
-big_endian_section = refl
-
-pub little_endian_section : block_copy (little_endian (20 ∷ 0 ∷ 0 ∷ 0 ∷ 0 ∷ 0 ∷ 0 ∷ 0 ∷ [])) ≡ little_endian not_specified
-little_endian_section = refl
-
--- an interface description block of 20 bytes keeps bytes 16 to 19
-abbrev interface : List ℕ
-interface = 1 ∷ 0 ∷ 0 ∷ 0 ∷ 20 ∷ 0 ∷ 0 ∷ 0 ∷ 101 ∷ 0 ∷ 0 ∷ 0 ∷ 0 ∷ 0 ∷ 0 ∷ 0 ∷ 20 ∷ 0 ∷ 0 ∷ 0 ∷ []
-
-pub interface_copy : block_copy interface ≡ interface
-interface_copy = refl

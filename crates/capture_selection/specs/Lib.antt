@@ -1,5 +1,3 @@
-pub mod Blocks
 pub mod Captures
 pub mod Outcomes
-pub mod Passing
 pub mod Selector

@@ -6,13 +6,11 @@ ghost use Rattle.capture_copy.specs.Captures.{IsNoPcapng};
 ghost use Rattle.capture_file.specs.PcapngReading.{AreFirst};
 ghost use Rattle.capture_request.specs.Limits.{IsWithin, is_full};
 ghost use Rattle.capture_request.specs.declared.reached.Reached.TheVariants.{End};
-ghost use Rattle.capture_selection.specs.Captures.{SelectsCapture};
-ghost use Rattle.capture_selection.specs.Passing.{EndsAtLimit};
+ghost use Rattle.capture_selection.specs.Captures.{EndsAtLimit, SelectsCapture};
 
-use crate::blocks::{Blocks, select_blocks};
-use crate::selector::{Selector, selected};
+use crate::selector::{Selector, selected, selected_blocks};
 use crate::{Counts, SelectionError};
-use capture_copy::{Copier, CopyError, Records, copy_records, is_pcapng};
+use capture_copy::{Blocks, Copier, CopyError, Records, copy_blocks, copy_records, is_pcapng};
 use capture_file::pcapng::MIN_BLOCK_LEN;
 use capture_file::reader::OpenError;
 use capture_request::{CaptureError, Parts, Reached};
@@ -59,8 +57,8 @@ pub fn write_selected<R: Read, W: Write>(
     if counts.is_full(parts.limit) {
         return Ok(Reached::Limit);
     }
-    let mut file = Blocks::start();
-    select_blocks(copier, begin, &mut file, parts, counts)
+    let mut blocks = Blocks::start();
+    selected_blocks(copy_blocks(copier, begin, &mut blocks, &Selector { parts }, counts))
 }
 
 /// Writes a classic capture that begins with these bytes, without the packets that have no line.

@@ -1,5 +1,4 @@
-ghost use Rattle.std.specs.Prelude.{◌≡◌, ◌≤◌, ◌+◌, fold};
-ghost use Rattle.std.specs.Option.{option_to_list};
+ghost use Rattle.std.specs.Prelude.{◌≡◌, ◌≤◌, ◌+◌};
 ghost use Rattle.capture_request.specs.Limits.{is_full};
 ghost use Rattle.capture_selection.specs.Outcomes.{counted};
 
@@ -37,15 +36,7 @@ impl Counts {
             self.written = self.written.saturating_add(1);
         }
     }
-    /// Counts a packet with this outcome, or nothing if the outcome is `None`.
-    pub(crate) fn add_if(&mut self, outcome: Option<Outcome>)
-        ensures counted { self.new ≡ fold counted self.old (option_to_list outcome) }
-        ensures one { self.new.written ≤ self.old.written + 1 }
-    {
-        if let Some(outcome) = outcome {
-            self.add(outcome);
-        }
-    }
+
     /// Whether the number of written packets has reached this limit. If there is no limit, the result is `false`.
     pub fn is_full(&self, limit: Option<u64>) -> bool
         ensures { result ≡ is_full limit self.now.written }

@@ -12,14 +12,11 @@
 //! ```
 #![tactic(auto)]
 
-mod blocks;
 mod capture;
 mod counts;
 mod outcome;
-mod place;
 mod selection_error;
 mod selector;
-mod transfer;
 
 pub use capture::write_selected;
 pub use capture_copy::Copier;

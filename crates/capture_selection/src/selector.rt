@@ -1,16 +1,20 @@
 //! The selection as a visitor of the packets of a capture.
 
 ghost use Rattle.std.specs.Prelude.{◌≡◌};
-ghost use Rattle.capture_selection.specs.Selector.{selected, selection_error};
+ghost use Rattle.capture_file.specs.declared.reader.open_error.OpenError.TheVariants.{Pcapng};
+ghost use Rattle.capture_request.specs.declared.capture_error.CaptureError.TheVariants.{Header};
+ghost use Rattle.capture_selection.specs.Selector.{block_error, selected, selected_blocks, selection_error};
+ghost use Rattle.capture_selection.specs.declared.selection_error.SelectionError.TheVariants.{Capture};
 
 use crate::outcome::{outcome_in_frame, outcome_of};
 use crate::{Counts, Outcome, SelectionError};
-use capture_copy::{Extent, PartError, Visitor};
-use capture_file::reader::CapturedPacket;
+use capture_copy::{Extent, PartError, Place, Visitor};
+use capture_file::pcapng::BlockError;
+use capture_file::reader::{CapturedPacket, OpenError, PacketError, PlacedPacketError};
 use capture_request::{CaptureError, Parts, Reached, packet_without_room};
 
-/// The maximum number of records that are read, as in a report.
-const MAX_RECORDS: u64 = u64::MAX - 1;
+/// The maximum number of records or blocks that are read, as in a report.
+const MAX_PARTS: u64 = u64::MAX - 1;
 
 /// Selects the packets that have a line in a report with these options.
 #[derive(Drop)]
@@ -54,7 +58,7 @@ impl<'a> Visitor for Selector<'a> {
     }
 
     fn max_parts(&self) -> u64 {
-        MAX_RECORDS
+        MAX_PARTS
     }
 
     fn count(&self, counts: &mut Counts, outcome: Outcome) {
@@ -66,7 +70,7 @@ impl<'a> Visitor for Selector<'a> {
     }
 }
 
-/// The result of a selection whose copy ended with this result.
+/// The result of a selection from a classic capture whose copy ended with this result.
 pub(crate) fn selected(copied: Result<Extent, PartError>) -> Result<Reached, SelectionError>
     ensures { result ≡ selected copied }
 {
@@ -101,4 +105,36 @@ fn selection_error(error: PartError) -> SelectionError
         PartError::TooManyParts => SelectionError::Capture(CaptureError::TooManyPackets),
         PartError::Write(error) => SelectionError::Write(error),
     }
+}
+
+/// The result of a selection from a pcapng file whose copy ended with this result.
+pub(crate) fn selected_blocks(copied: Result<Extent, PartError>) -> Result<Reached, SelectionError>
+    ensures { result ≡ selected_blocks copied }
+{
+    match copied {
+        Ok(extent) => selected(Ok(extent)),
+        Err(error) => Err(block_error(error)),
+    }
+}
+
+/// The error of a selection from a pcapng file whose copy ended with this error. An error in the first block is an error of the header.
+fn block_error(error: PartError) -> SelectionError
+    ensures { result ≡ block_error error }
+{
+    match error {
+        PartError::CutOff {
+            place: Place { offset: 0, .. },
+            required_len,
+            len,
+        } => header_error(PacketError::Block(BlockError::CutOff { required_len, len })),
+        PartError::Refused(PlacedPacketError { offset: 0, error }) => header_error(error),
+        error => selection_error(error),
+    }
+}
+
+/// The error of a pcapng file whose first block is refused or cut off.
+fn header_error(error: PacketError) -> SelectionError
+    ensures { result ≡ Capture (Header (Pcapng error)) }
+{
+    SelectionError::Capture(CaptureError::Header(OpenError::Pcapng(error)))
 }

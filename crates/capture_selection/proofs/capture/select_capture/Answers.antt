@@ -3,7 +3,7 @@ use Rattle.capture_copy.proofs.VisitLemmas.{passes_from}
 use Rattle.capture_copy.specs.Captures.{BeginsCapture}
 use Rattle.capture_selection.proofs.CaptureLemmas.{selects_capture}
 use Rattle.capture_selection.proofs.SelectorLemmas.{limit_of, whole_of}
-use Rattle.capture_selection.specs.Passing.{EndsAtLimit}
+use Rattle.capture_selection.specs.Captures.{EndsAtLimit}
 use Rattle.capture_selection.specs.Selector.{selection_of}
 use Rattle.capture_selection.proofs.capture.select_capture.Goals as goal
 
