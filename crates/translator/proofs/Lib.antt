@@ -1,5 +1,4 @@
 pub mod ArgumentLemmas
-pub mod BlockLemmas
 pub mod CaptureLemmas
 pub mod CountLemmas
 pub mod MergingLemmas

@@ -38,7 +38,7 @@ use Rattle.translator.specs.declared.reason.Reason.TheVariants as reasons
 use Rattle.translator.specs.declared.table.Table.{Table}
 
 -- a range of a beginning is a range of all elements
-pub range_within : (a b n : ℕ) (xs : List ℕ) → a ≤ b → b ≤ n → slice_range (take n xs) a b ≡ slice_range xs a b
+range_within : (a b n : ℕ) (xs : List ℕ) → a ≤ b → b ≤ n → slice_range (take n xs) a b ≡ slice_range xs a b
 range_within a b n xs order within =
     let split : n ≡ a + (n - a) = omega arith in
     ap (λ m. take (b - a) (drop a (take m xs))) split

@@ -1,21 +1,18 @@
 -- The translation of a whole capture.
 use Rattle.std.specs.Prelude.{◌≡◌, ◌⊎◌, ℕ, List, ⊤, Option, Result, Ok, Err}
-use Rattle.capture_copy.specs.Captures.{IsNoPcapng, IsPcapng, PassesCapture}
-use Rattle.capture_copy.specs.Passing.{PassesTo}
+use Rattle.capture_copy.specs.Captures.{IsNoPcapng, PassesCapture, PassesFile}
 use Rattle.capture_copy.specs.Records.{first_records, records_of}
 use Rattle.capture_copy.specs.declared.extent.Extent.{Extent}
 use Rattle.capture_copy.specs.declared.part_error.PartError.{PartError}
 use Rattle.capture_file.specs.Reading.{RefusesHeader}
-use Rattle.translator.specs.Blocks.{IsFileStart, blocks_of}
-use Rattle.translator.specs.Translation.{of_records, translation_of}
-use Rattle.translator.specs.declared.blocks.Blocks.{Blocks}
+use Rattle.translator.specs.Translation.{of_blocks, of_records, translation_of}
 use Rattle.translator.specs.declared.capture_error.CaptureError.{CaptureError}
 use Rattle.translator.specs.declared.capture_error.CaptureError.TheVariants.{Block, Header, Read, RecordCutOff, TooManyParts, Write}
 use Rattle.translator.specs.declared.counts.Counts.{Counts}
 use Rattle.translator.specs.declared.table.Table.{Table}
 
--- a classic capture was translated up to this result: its header was copied, and then the copy of its records, whose packets were
--- translated, ended with a result that stands for this result
+-- A classic capture was translated up to this result. Its header was copied, and then its records were copied with translated packets. The
+-- result of this copy, as `of_records` states it, is the result of the translation.
 abbrev pub TranslatesRecords : Table → Result (Unit {0}) CaptureError → Option (List ℕ) → Option (List ℕ) → Option (List ℕ)
     → Option (List ℕ)
     → Counts → Counts → Type 0
@@ -23,14 +20,14 @@ TranslatesRecords table result left still_left held now_held counts now_counts =
     (copied : Result Extent PartError) × (result ≡ of_records copied)
     × PassesCapture Extent (records_of (translation_of table)) first_records copied left still_left held now_held counts now_counts
 
--- a pcapng file was translated up to this result, block by block
-pub record TranslatesBlocks (table : Table) (result : Result (Unit {0}) CaptureError) (left still_left held now_held : Option (List ℕ))
-    (counts now_counts : Counts) : Type 0 where
-  pub is_pcapng : IsPcapng left
-  pub start : Blocks
-  pub is_start : IsFileStart start
-  pub after : Blocks
-  pub passes : PassesTo (blocks_of table) result start after left still_left held now_held counts now_counts
+-- A pcapng file was translated up to this result. Its blocks were copied with translated packets. The result of this copy, as `of_blocks`
+-- states it, is the result of the translation. If the first block is refused or cut off, nothing was written. This follows from
+-- `IsBlockEnd` and `writes_front` in capture_copy.
+abbrev pub TranslatesBlocks : Table → Result (Unit {0}) CaptureError → Option (List ℕ) → Option (List ℕ) → Option (List ℕ) → Option (List ℕ)
+    → Counts → Counts → Type 0
+TranslatesBlocks table result left still_left held now_held counts now_counts =
+    (copied : Result Extent PartError) × (result ≡ of_blocks copied)
+    × PassesFile (translation_of table) copied left still_left held now_held counts now_counts
 
 -- a capture of one of the two formats was translated up to this result
 abbrev pub TranslatesEither : Table → Result (Unit {0}) CaptureError → Option (List ℕ) → Option (List ℕ) → Option (List ℕ) → Option (List ℕ)

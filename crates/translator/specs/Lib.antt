@@ -1,5 +1,4 @@
 pub mod Arguments
-pub mod Blocks
 pub mod Captures
 pub mod CommandLine
 pub mod ErrorTexts
@@ -9,7 +8,6 @@ pub mod Merging
 pub mod Outcomes
 pub mod Outputs
 pub mod Packets
-pub mod Passing
 pub mod Reasons
 pub mod ReplacementTexts
 pub mod Replacements

@@ -1,6 +1,5 @@
 -- The outcomes of packets, their counts, and the exit status.
-use Rattle.std.specs.Prelude.{ℕ, ◌+◌, ◌==◌, ◌||◌, Bool, true, false, if◌then◌else◌, List, fold, Option, Some, None, [], ◌∷◌, ◌++◌, flat_map, slice_index, slice_set, zero, suc, Result, Ok, Err, codes, decimal}
-use Rattle.std.specs.Option.{option_to_list}
+use Rattle.std.specs.Prelude.{ℕ, ◌+◌, ◌==◌, ◌||◌, Bool, true, false, if◌then◌else◌, List, Option, Some, None, [], ◌∷◌, ◌++◌, flat_map, slice_index, slice_set, zero, suc, Result, Ok, Err, codes, decimal}
 use Rattle.capture_copy.specs.Passing.{one_more}
 use Rattle.capture_file.specs.declared.classic.capture_header_error.CaptureHeaderError.TheVariants.{CutOff, Magic, Modified, Pcapng, Version}
 use Rattle.capture_file.specs.declared.classic.capture_header_error.CaptureHeaderError.{CaptureHeaderError}
@@ -78,10 +77,6 @@ counted counts (Ok TranslatedIpv6) = record counts { translated_ipv6 = one_more 
 counted counts (Ok UnaffectedIpv4) = record counts { unaffected_ipv4 = one_more counts.unaffected_ipv4 }
 counted counts (Ok UnaffectedIpv6) = record counts { unaffected_ipv6 = one_more counts.unaffected_ipv6 }
 counted counts (Err reason) = counted_reason counts reason
-
--- the counts after a packet with this outcome, or after no packet
-abbrev pub counted_if : Counts → Option (Result Done Reason) → Counts
-counted_if counts outcome = fold counted counts (option_to_list outcome)
 
 -- ---- the lines on standard error
 

@@ -6,24 +6,23 @@ ghost use Rattle.capture_file.specs.PcapngReading.{AreFirst};
 ghost use Rattle.capture_copy.specs.Captures.{IsNoPcapng};
 ghost use Rattle.translator.specs.Captures.{TranslatesCapture};
 
-use crate::blocks::{Blocks, translate_blocks};
 use crate::capture_error::CaptureError;
 use crate::counts::Counts;
 use crate::table::Table;
-use crate::transfer::read_into;
-use crate::translation::{Translation, of_records};
-use capture_copy::{Copier, CopyError, Records, copy_records, is_pcapng};
+use crate::translation::{Translation, of_blocks, of_records};
+use capture_copy::{Blocks, Copier, CopyError, Records, copy_blocks, copy_records, is_pcapng};
 use capture_file::pcapng::MIN_BLOCK_LEN;
 use std::io::{Read, Write};
+use streams::fill;
 
 /// Translates the packets of a capture, and writes the capture. Every byte outside of the translated packets is written as it was read.
 ///
 /// # Errors
 ///
-/// The reason why the capture is not translated to its end. Nothing is written if the header of a classic capture is refused. If the first
-/// block of a pcapng file is refused by its bytes in the buffer, nothing is written either. If another block is refused, or the capture
-/// ends within it or within a record, all bytes that were read are written. If reading fails, the beginning of the capture is written.
-/// `TooManyParts` is returned only after 2^64 - 1 records or blocks.
+/// The reason why the capture is not translated to its end. Nothing is written if the header of a classic capture is refused, or if the
+/// first block of a pcapng file is refused or cut off. If another block is refused, or the capture ends within it or within a record, all
+/// bytes that were read are written. If reading fails, the beginning of the capture is written. `TooManyParts` is returned only after
+/// 2^64 - 1 records or blocks.
 pub fn translate_capture<R: Read, W: Write>(
     copier: &mut Copier<'_, R, W>,
     table: &Table,
@@ -34,14 +33,16 @@ pub fn translate_capture<R: Read, W: Write>(
     ensures ends { OnOk result (IsAtEnd (R.remaining copier.new.input)) }
 {
     let mut begin = [0u8; MIN_BLOCK_LEN];
-    let len = read_into(&mut copier.input, &mut begin, 0)?;
+    let len = match fill(&mut copier.input, &mut begin) {
+        Ok(len) => len,
+        Err(error) => return Err(CaptureError::Read { offset: 0, error }),
+    };
     let begin = &begin[..len];
-    if is_pcapng(begin) {
-        let mut file = Blocks::start();
-        translate_blocks(copier, begin, &mut file, table, counts)
-    } else {
-        translate_classic(copier, begin, table, counts)
+    if !is_pcapng(begin) {
+        return translate_classic(copier, begin, table, counts);
     }
+    let mut blocks = Blocks::start();
+    of_blocks(copy_blocks(copier, begin, &mut blocks, &Translation { table }, counts))
 }
 
 /// Translates the packets of a classic capture that begins with these bytes.

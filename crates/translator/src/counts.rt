@@ -2,7 +2,7 @@ ghost use Rattle.std.specs.Prelude.{◌≡◌, OnOk, flat_map};
 ghost use Rattle.std.specs.Io.KnownBytes.{Appends};
 ghost use Rattle.capture_copy.specs.Passing.{one_more};
 ghost use Rattle.net_base.specs.TextParts.{reads_as};
-ghost use Rattle.translator.specs.Outcomes.{all_reasons, counted, counted_if, counted_line, counted_reason, counts_text, protocol_line, protocol_lines, reason_line, first_refusal_text, numbered_line, refusal_after, refusal_line, refusal_text};
+ghost use Rattle.translator.specs.Outcomes.{all_reasons, counted, counted_line, counted_reason, counts_text, protocol_line, protocol_lines, reason_line, first_refusal_text, numbered_line, refusal_after, refusal_line, refusal_text};
 
 use crate::done::Done;
 use crate::reason::Reason;
@@ -69,15 +69,6 @@ impl Counts {
         if let Reason::Protocol(protocol) = reason {
             let place = usize::from(protocol.0);
             self.by_protocol[place] = self.by_protocol[place].saturating_add(1);
-        }
-    }
-
-    /// Counts a packet with this outcome, or nothing if the outcome is `None`.
-    pub fn add_if(&mut self, outcome: Option<Result<Done, Reason>>)
-        ensures { self.new ≡ counted_if self.old outcome }
-    {
-        if let Some(outcome) = outcome {
-            self.add(outcome);
         }
     }
 

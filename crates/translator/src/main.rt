@@ -19,7 +19,6 @@ ghost use Rattle.translator.specs.Inputs.{input_name};
 ghost use Rattle.translator.specs.Outputs.{WritesText, WritesTranslation, answer_number, failure_number};
 
 mod arguments;
-mod blocks;
 mod capture;
 mod capture_error;
 mod compression;
@@ -36,7 +35,6 @@ mod replacement_error;
 mod replacement_text;
 mod replacements;
 mod table;
-mod transfer;
 mod translation;
 
 use arguments::Options;

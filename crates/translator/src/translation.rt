@@ -1,7 +1,7 @@
 //! The translation as a visitor of the packets of a capture.
 
 ghost use Rattle.std.specs.Prelude.{◌≡◌};
-ghost use Rattle.translator.specs.Translation.{of_records, record_error};
+ghost use Rattle.translator.specs.Translation.{block_error, of_blocks, of_records, record_error};
 
 use crate::capture_error::CaptureError;
 use crate::counts::Counts;
@@ -10,7 +10,8 @@ use crate::packet::translate_captured_frame;
 use crate::reason::Reason;
 use crate::table::Table;
 use capture_copy::{Extent, PartError, Visitor};
-use capture_file::reader::CapturedPacket;
+use capture_file::pcapng::BlockError;
+use capture_file::reader::{CapturedPacket, PacketError, PlacedPacketError};
 
 /// Translates the packets of a capture by this table.
 #[derive(Drop)]
@@ -69,6 +70,33 @@ pub(crate) fn of_records(copied: Result<Extent, PartError>) -> Result<(), Captur
     match copied {
         Ok(_) => Ok(()),
         Err(error) => Err(record_error(error)),
+    }
+}
+
+/// The result of a translation whose copy of the blocks ended with this result.
+pub(crate) fn of_blocks(copied: Result<Extent, PartError>) -> Result<(), CaptureError>
+    ensures { result ≡ of_blocks copied }
+{
+    match copied {
+        Ok(_) => Ok(()),
+        Err(error) => Err(block_error(error)),
+    }
+}
+
+/// The error of a translation whose copy of the blocks ended with this error.
+fn block_error(error: PartError) -> CaptureError
+    ensures { result ≡ block_error error }
+{
+    match error {
+        PartError::CutOff {
+            place,
+            required_len,
+            len,
+        } => CaptureError::Block(PlacedPacketError {
+            offset: place.offset,
+            error: PacketError::Block(BlockError::CutOff { required_len, len }),
+        }),
+        error => record_error(error),
     }
 }
 

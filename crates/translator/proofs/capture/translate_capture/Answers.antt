@@ -1,21 +1,30 @@
-use Rattle.std.proofs.Common.{◌∙◌, false, rules, sym, true}
+use Rattle.std.proofs.Common.{◌∙◌, OnOk, false, inl, refl, subst, sym, true}
+use Rattle.std.specs.Io.KnownBytes.{IsAtEnd}
 use Rattle.capture_copy.proofs.BeginLemmas.{begins_pcapng}
-use Rattle.translator.proofs.CaptureLemmas.{to_read_error, translates_blocks}
+use Rattle.translator.proofs.CaptureLemmas.{translates_blocks}
+use Rattle.translator.proofs.TranslationLemmas.{at_end_of}
+use Rattle.translator.specs.Translation.{block_error}
 use Rattle.translator.proofs.capture.translate_capture.Goals as goal
 
-pub returns-in_err-len-clause-translates : goal.returns-in_err-len-clause-translates
-returns-in_err-len-clause-translates g c = to_read_error _ _ _ _ _ _ _ c.in_err-len.ensures.failed (search rules)
+-- reading the first bytes failed
+pub returns-in-Err-clause-translates : goal.returns-in-Err-clause-translates
+returns-in-Err-clause-translates g c = inl (refl, (refl, refl))
 
-pub returns-then-is_pcapng-clause-translates : goal.returns-then-is_pcapng-clause-translates
-returns-then-is_pcapng-clause-translates g c = translates_blocks _ c.translate_blocks.result _ _ _ _ _ _ (record {
-  is_pcapng = begins_pcapng _ _ true c.in_ok-len.ensures.bytes (sym c.is_pcapng.ensures.is ∙ c.if-is_pcapng.true);
+pub returns-then-not-is_pcapng-clause-translates : goal.returns-then-not-is_pcapng-clause-translates
+returns-then-not-is_pcapng-clause-translates g c =
+    c.translate_classic.ensures.translates _ c.in-Ok.ensures.consumed
+    (begins_pcapng _ _ false c.in-Ok.ensures.bytes (sym c.is_pcapng.ensures.is ∙ c.if-not-is_pcapng.true))
+
+pub returns-clause-translates : goal.returns-clause-translates
+returns-clause-translates g c = translates_blocks c.args.table.now _ c.copy_blocks.result _ _ _ _ _ _ c.of_blocks.ensures (record {
+  is_pcapng = begins_pcapng _ _ true c.in-Ok.ensures.bytes (sym c.is_pcapng.ensures.is ∙ c.if-not-is_pcapng.false);
   start = _;
-  is_start = c.start-file.ensures;
+  is_start = c.start-blocks.ensures;
   after = _;
-  passes = c.translate_blocks.ensures.passes _ c.in_ok-len.ensures.consumed;
+  passes = c.copy_blocks.ensures.passes _ c.in-Ok.ensures.consumed;
 })
 
-pub returns-else-is_pcapng-clause-translates : goal.returns-else-is_pcapng-clause-translates
-returns-else-is_pcapng-clause-translates g c =
-    c.translate_classic.ensures.translates _ c.in_ok-len.ensures.consumed
-    (begins_pcapng _ _ false c.in_ok-len.ensures.bytes (sym c.is_pcapng.ensures.is ∙ c.if-is_pcapng.false))
+pub returns-clause-ends : goal.returns-clause-ends
+returns-clause-ends g c =
+    subst (λ given. OnOk given (IsAtEnd (g.R.Read.remaining c.copy_blocks.new.copier.input))) (sym c.of_blocks.ensures)
+    (at_end_of block_error c.copy_blocks.result _ c.copy_blocks.ensures.enough c.copy_blocks.ensures.ends)

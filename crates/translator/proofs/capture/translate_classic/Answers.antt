@@ -4,7 +4,7 @@ use Rattle.capture_copy.proofs.VisitLemmas.{passes_from}
 use Rattle.capture_copy.specs.Captures.{BeginsCapture}
 use Rattle.translator.proofs.CaptureLemmas.{translates_records}
 use Rattle.translator.proofs.TranslationLemmas.{at_end_of}
-use Rattle.translator.specs.Translation.{translation_of}
+use Rattle.translator.specs.Translation.{record_error, translation_of}
 use Rattle.translator.proofs.capture.translate_classic.Goals as goal
 
 -- the header is refused
@@ -47,4 +47,4 @@ returns-clause-translates g c =
 pub returns-clause-ends : goal.returns-clause-ends
 returns-clause-ends g c =
     subst (λ given. OnOk given (IsAtEnd (g.R.Read.remaining c.copy_records.new.copier.input))) (sym c.of_records.ensures)
-    (at_end_of c.copy_records.result _ c.copy_records.ensures.enough c.copy_records.ensures.ends)
+    (at_end_of record_error c.copy_records.result _ c.copy_records.ensures.enough c.copy_records.ensures.ends)
