@@ -9,11 +9,11 @@ from ..program import run_checks
 from .others import check_against_tcprewrite, check_against_tshark
 from .run import PROGRAM
 from .streams import check_arguments, check_progress, check_streams
-from .translations import check_captures, check_cuts, check_faults, check_long, check_memory, check_reasons
+from .translations import check_captures, check_cuts, check_faults, check_long, check_long_blocks, check_memory, check_reasons
 
 CHECKS = (
-    check_captures, check_cuts, check_faults, check_reasons, check_long, check_arguments, check_streams, check_progress, check_memory,
-    check_against_tshark, check_against_tcprewrite)
+    check_captures, check_cuts, check_faults, check_reasons, check_long, check_long_blocks, check_arguments, check_streams, check_progress,
+    check_memory, check_against_tshark, check_against_tcprewrite)
 
 
 def main():

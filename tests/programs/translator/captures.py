@@ -7,8 +7,13 @@ from ..program import TOP
 from .model import CHECKSUM_AT, ICMPV4, TCP, UDP, Packet, Refused, Table, number_at, translated
 
 
+# The size of the buffer of the program. A packet does not fit in it if more bytes of it were captured, or if its block is longer.
+BUFFER_LEN = 524_288
+
+
 class Capture:
-    """A capture in either format: its parts in their order. A part is bytes that stay, or a frame with its link type."""
+    """A capture in either format: its parts in their order. A part is bytes that stay, or a frame with its link type. The link type is None
+    if the packet does not fit in the buffer."""
 
     def __init__(self, data):
         self.parts = []
@@ -29,7 +34,8 @@ class Capture:
             captured = struct.unpack(order + "I", data[at + 8:at + 12])[0]
             if at + 16 + captured > len(data):
                 break
-            self.parts += [data[at:at + 16], (link, order, data[at + 16:at + 16 + captured])]
+            fits = captured <= BUFFER_LEN
+            self.parts += [data[at:at + 16], (link if fits else None, order, data[at + 16:at + 16 + captured])]
             at += 16 + captured
         self.parts.append(data[at:])
 
@@ -52,6 +58,9 @@ class Capture:
         if kind not in (2, 3, 6):
             self.parts.append(block)
             return
+        if len(block) > BUFFER_LEN:
+            self.parts.append((None, order, block))
+            return
         if kind == 3:
             start, interface = 12, 0
             captured = struct.unpack(order + "I", block[8:12])[0]
@@ -68,6 +77,8 @@ def short_at(data, place):
 
 def packet_place(link, frame):
     """Where the IP packet of a frame begins, and the end of the bytes that may belong to it, for the frames that are built here."""
+    if link is None:
+        raise Refused("the packet is too long")
     cut = Refused("the link header is cut off")
     if link in (build.RAW, build.LOOPBACK, build.OPENBSD, build.PPP, build.PPP_HDLC, build.FRAME_RELAY, build.PPP_OVER_ETHERNET,
                 build.PFLOG, build.IPNET, build.NFLOG):

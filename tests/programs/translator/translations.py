@@ -124,50 +124,90 @@ def check_faults(tally):
     tally.expect("a link type", (done.returncode, done.stdout), (0, data))
 
 
+def expect_model(tally, name, data, status=0):
+    """Runs the program. Its output and its counts are those of the model. Returns the lines on standard error."""
+    table = TABLES["both sides"]
+    done = run(data, *table.arguments)
+    wanted, counts = model(data, table)
+    said = done.stderr.decode()
+    tally.expect(name, (done.returncode, first_difference(done.stdout, wanted), counts_of(said)), (status, None, counts))
+    return said.splitlines()
+
+
 def check_long(tally):
-    """Records and blocks without room in the buffer, before a packet: they are copied."""
-    table, frame = TABLES["both sides"], kinds.every_kind(build.ETHERNET)[0][0]
+    """Records and blocks without room in the buffer, before a packet: they are copied. A packet in one that is cut off is not counted."""
+    frame = kinds.every_kind(build.ETHERNET)[0][0]
     for length in (524_288, 524_289, 1_200_000):
         long = frame + bytes(length - len(frame))
         data = build.capture(build.ETHERNET, [long, frame])
-        done = run(data, *table.arguments)
-        new = model(build.capture(build.ETHERNET, [frame, frame]), table)[0][40:40 + len(frame)]
-        wanted = data.replace(frame, new) if length == 524_288 else data[:-len(frame)] + new
-        tally.expect(f"a record of {length} bytes", (done.returncode, first_difference(done.stdout, wanted)), (0, None))
+        expect_model(tally, f"a record of {length} bytes", data)
         cut = data[:40 + min(length - 1, 600_000)]
-        done = run(cut, *table.arguments)
-        tally.expect("a record that is cut off", (done.returncode, first_difference(done.stdout, cut), "too long" in done.stderr.decode()), (1, None, False))
+        said = expect_model(tally, "a record that is cut off", cut, 1)
         wanted = f"translator: At byte 24 of the file: {cut_text(build.capture_parts, cut[24:], len(cut) - 24)}"
-        tally.expect("a record that is cut off: the error", done.stderr.decode().splitlines()[0], wanted)
+        tally.expect("a record that is cut off: the error", said[0], wanted)
         begin = build.section_header() + build.interface_description(build.ETHERNET)
         packets = [build.block(6, struct.pack("<IIIII", 0, 1, 2, len(data), len(data)) + data) for data in (long, frame)]
         other = build.block(0x0BAD, long)
-        data = begin + other + b"".join(packets)
-        done = run(data, *table.arguments)
-        wanted = begin + other + packets[0] + packets[1].replace(frame, new)
-        tally.expect(f"blocks of {length} bytes", (done.returncode, first_difference(done.stdout, wanted), "too long" in done.stderr.decode()),
-                     (0, None, True))
-        done = run(data[:len(begin) + 600_000], *table.arguments)
-        tally.expect("a block that is cut off", (done.returncode, first_difference(done.stdout, data[:len(begin) + 600_000])),
-                     (1, None) if length > 524_289 else (done.returncode, None))
-        if length > 524_289:
-            wanted = f"translator: At byte {len(begin)} of the file: {cut_text(build.pcapng_parts, other, 600_000)}"
-            tally.expect("a block that is cut off: the error", done.stderr.decode().splitlines()[0], wanted)
-        check_last_length(tally, table, begin, other, packets[1])
+        expect_model(tally, f"blocks of {length} bytes", begin + other + b"".join(packets))
+        for name, before, block in (("another block", begin, other), ("a packet block", begin + other, packets[0])):
+            said = expect_model(tally, f"{name} that is cut off", before + block[:524_289], 1)
+            wanted = f"translator: At byte {len(before)} of the file: {cut_text(build.pcapng_parts, block, 524_289)}"
+            tally.expect(f"{name} that is cut off: the error", said[0], wanted)
+            check_last_length(tally, before, block, packets[1])
 
 
-def check_last_length(tally, table, begin, long, packet):
-    """The last total length of a block without room in the buffer: it is cut off, or it is another number."""
+def check_last_length(tally, begin, long, packet):
+    """The last total length of a block without room in the buffer: it is cut off, or it is another number. The block is not counted."""
     for left in (1, 2, 3, 4, 5):
-        cut = begin + long[:-left]
-        done = run(cut, *table.arguments)
+        said = expect_model(tally, f"a long block without its last bytes, {left}", begin + long[:-left], 1)
         wanted = f"translator: At byte {len(begin)} of the file: {cut_text(build.pcapng_parts, long, len(long) - left)}"
-        tally.expect(f"a long block without its last bytes, {left}", (done.returncode, first_difference(done.stdout, cut), done.stderr.decode().splitlines()[0]),
-                     (1, None, wanted))
-    wrong = begin + long[:-4] + struct.pack("<I", 12)
-    done = run(wrong + packet, *table.arguments)
-    tally.expect("a long block with another last length", (done.returncode, first_difference(done.stdout, wrong), "and 12 in its last four bytes" in done.stderr.decode()),
-                 (1, None, True))
+        tally.expect(f"a long block without its last bytes, {left}: the error", said[0], wanted)
+    wrong = long[:-4] + struct.pack("<I", 12)
+    expect_refused(tally, "a long block with another last length", begin, wrong, packet, "and 12 in its last four bytes.")
+
+
+def expect_refused(tally, name, before, block, after, text):
+    """A block is refused. It is written as it was read, and neither it nor the block after it is counted."""
+    table = TABLES["both sides"]
+    done = run(before + block + after, *table.arguments)
+    wanted, counts = model(before, table)
+    said = done.stderr.decode()
+    tally.expect(name, (done.returncode, first_difference(done.stdout, wanted + block), counts_of(said)), (1, None, counts))
+    line, place = said.splitlines()[0], f"translator: At byte {len(before)} of the file: "
+    tally.expect(f"{name}: the error", (line.startswith(place), line.endswith(text)), (True, True))
+
+
+def check_long_blocks(tally):
+    """Blocks that are long only by their options or other bytes after their packet. If such a block has no room in the buffer, its packet
+    is too long. A section header or interface description without room is refused, since later packets can't be read without it."""
+    frame = kinds.every_kind(build.ETHERNET)[0][0]
+    counted = struct.pack("<II", len(frame), len(frame))
+    begin = build.section_header() + build.interface_description(build.ETHERNET)
+    bodies = {6: struct.pack("<III", 0, 1, 2) + counted, 3: counted[4:], 2: struct.pack("<HHII", 0, 0, 1, 2) + counted}
+    packet = build.block(6, bodies[6] + frame)
+    for kind, body in bodies.items():
+        for length in (524_284, 524_288, 524_292):
+            block = lengthened(kind, body + frame, length)
+            expect_model(tally, f"a block of type {kind} and {length} bytes", begin + packet + block + packet)
+    for kind, body in ((0x0A0D0D0A, build.section_header()[8:-4]), (1, build.interface_description(build.ETHERNET)[8:-4])):
+        # After a section header no interface is described.
+        after = packet if kind == 1 else b""
+        expect_model(tally, f"a block of type {kind:#x} and 524288 bytes", begin + packet + lengthened(kind, body, 524_288) + after)
+        text = f"The block has type {kind:#x} and 524292 bytes, for which the buffer has no room."
+        expect_refused(tally, f"a block of type {kind:#x} and 524292 bytes", begin + packet, lengthened(kind, body, 524_292), packet, text)
+    done = run(lengthened(0x0A0D0D0A, build.section_header()[8:-4], 524_292) + packet, *TABLES["both sides"].arguments)
+    wanted = "translator: At byte 0 of the file: The block has type 0xa0d0d0a and 524292 bytes, for which the buffer has no room."
+    tally.expect("a first block of 524292 bytes", (done.returncode, done.stdout, done.stderr.decode().splitlines()[0]), (1, b"", wanted))
+
+
+def lengthened(kind, body, length):
+    """A block of this length, with options after this body: comments of up to 65,532 bytes."""
+    body += bytes(-len(body) % 4)
+    room = length - 12 - len(body)
+    while room:
+        option = build.option(1, b"x" * (min(room, 65_536) - 4))
+        body, room = body + option, room - len(option)
+    return build.block(kind, body)
 
 
 def check_memory(tally):
