@@ -98,8 +98,10 @@ fn refused(place: Place, error: PacketError) -> PartError
     }
 }
 
-/// Copies the blocks of a pcapng file that begins with these bytes, and visits the packet of each block that contains one. Returns how far
-/// the file was copied.
+/// Copies the blocks of a pcapng file, and visits the packet of each block that contains one. Returns how far the file was copied.
+///
+/// `begin` contains the first 12 bytes of the file, or fewer if the file ends before, which the caller has already read. It is not empty.
+/// `visitor.is_enough(counts)` is `false` before the call.
 ///
 /// # Errors
 ///
