@@ -83,14 +83,17 @@ pub record VisitsBlock {Outcome Counts : Type 0} (visits : Visits Outcome Counts
   pub visited : VisitsTaken visits taken part.read copy part.outcome
   pub is_written : part.written ≡ written_if (is_written_with visits part.outcome) copy
 
+-- this error refuses a block with this header, which does not fit in the buffer, because later packets can't be read without it
+abbrev pub IsTooLong : BlockHeader → PacketError → Type 0
+IsTooLong header error = (is_description header.block_type ≡ true) × (error ≡ errors.TooLong header.block_type header.total_len)
+
 -- The outcome of a block that does not fit in the buffer. A block of another type than a packet block contains no packet. If later packets
 -- can't be read without the block, the block is refused.
 abbrev pub HasLongOutcome : {Outcome Counts : Type 0} → Visits Outcome Counts → BlockHeader → Result (Option Outcome) PacketError → Type 0
 HasLongOutcome visits header (Ok (Some outcome)) =
     (is_description header.block_type ≡ false) × (is_packet header.block_type ≡ true) × visits.visits_long header.total_len outcome
 HasLongOutcome visits header (Ok None) = (is_description header.block_type ≡ false) × (is_packet header.block_type ≡ false)
-HasLongOutcome visits header (Err error) =
-    (is_description header.block_type ≡ true) × (error ≡ errors.TooLong header.block_type header.total_len)
+HasLongOutcome visits header (Err error) = IsTooLong header error
 
 -- a block that does not fit in the buffer was written as it was read, unless its packet is left out
 pub record VisitsLongBlock {Outcome Counts : Type 0} (visits : Visits Outcome Counts) (before : Section) (part : Part Outcome)
@@ -129,14 +132,10 @@ pub record IsFileStart (blocks : Blocks) : Type 0 where
 abbrev pub IsCutBlock : ByteOrder → List ℕ → ℕ → ℕ → Type 0
 IsCutBlock section bytes required len = (bytes ≢ []) × (block_refusal section bytes ≡ Some (block_errors.CutOff required len))
 
--- for this reason the bytes are not a block; they are not cut off
+-- For this reason the bytes are no block. They are not cut off.
 abbrev pub IsMalformed : ByteOrder → List ℕ → BlockError → Type 0
 IsMalformed section bytes (block_errors.CutOff required len) = ⊥
 IsMalformed section bytes reason = (bytes ≢ []) × (block_refusal section bytes ≡ Some reason)
-
--- this error refuses a block with this header, which does not fit in the buffer, because later packets can't be read without it
-abbrev pub IsTooLong : BlockHeader → PacketError → Type 0
-IsTooLong header error = (is_description header.block_type ≡ true) × (error ≡ errors.TooLong header.block_type header.total_len)
 
 -- the bytes are a block that is refused: by the section, or because it does not fit in the buffer
 abbrev pub RefusesBlock : Section → List ℕ → PacketError → Type 0
