@@ -1,5 +1,5 @@
 -- Octets of addresses that are compared as numbers.
-use Rattle.std.proofs.Common.{◌≡◌, ℕ, zero, suc, ◌==◌, Bool, true, false, List, ◌∷◌, ◌++◌, length, drop, take, nat_eq, length-drop, length-take, refl, sym, ap, ap₂, subst, slice_index, ◌∙◌, arith}
+use Rattle.std.proofs.Common.{◌≡◌, ◌<◌, ◌%◌, ℕ, zero, suc, ◌==◌, Bool, true, false, List, [], ◌∷◌, ◌++◌, length, drop, take, nat_eq, length-drop, length-take, refl, sym, ap, ap₂, subst, slice_index, ◌∙◌, arith}
 use Rattle.std.specs.Cmp.Lexicographic.{bytes_decides, pointwise}
 use Rattle.std.specs.Int.{from_be_bytes, w32, w64}
 use Rattle.std.specs.Prelude.{replicate}
@@ -66,6 +66,25 @@ compared_as_numbers octets others front other_front rest other_rest len len_too 
     (λ same.
     let is : octets ≡ others = (bytes_decides octets others).0 same in
     same_number (is_rest ∙ ap (λ octets. from_be_bytes w32 (0 ∷ drop 8 octets)) is ∙ sym is_rest_too))
+
+bytes_append : (front back : List ℕ) → IsBytes front → IsBytes back → IsBytes (front ++ back)
+bytes_append [] back fits fits_too place = fits_too place
+bytes_append (byte ∷ front) back fits fits_too zero = fits 0
+bytes_append (byte ∷ front) back fits fits_too (suc place) = bytes_append front back (λ place. fits (suc place)) fits_too place
+
+-- the number of four octets, without the first one
+pub last_three : (first i j k : ℕ) → i < 256 → j < 256 → k < 256
+    → from_be_bytes w32 (first ∷ (i ∷ (j ∷ (k ∷ [])))) % 16777216 ≡ from_be_bytes w32 (0 ∷ (i ∷ (j ∷ (k ∷ []))))
+last_three first i j k fits fits_too fits_three = omega (arith, fits, fits_too, fits_three)
+
+-- the octets of an address without the reserved octet
+pub eleven_without_reserved : (address : List ℕ) → length address ≡ 16 → length (take 11 (without_reserved address)) ≡ 11
+eleven_without_reserved address sixteen =
+    subst (λ address. length (take 11 (without_reserved address)) ≡ 11) (whole address 16 sixteen) refl
+
+pub bytes_without_reserved : (address : List ℕ) → length address ≡ 16 → IsBytes address → IsBytes (take 11 (without_reserved address))
+bytes_without_reserved address sixteen fits =
+    bytes_take 11 (without_reserved address) (bytes_append (take 8 address) (drop 9 address) (bytes_take 8 address fits) (bytes_drop 9 address fits))
 
 -- An address is the address of the prefix of 96 bits at its front if all its other octets are 0.
 pub front_is_address : (address : List ℕ) → length address ≡ 16 → slice_index address 8 ≡ 0 → drop 12 address ≡ replicate 4 0

@@ -61,6 +61,25 @@ impl<'a> AddressTable<'a> {
         }
     }
 
+    /// Writes the IPv6 address that `to_ipv6` returns. An address in a `Result` would be put together octet by octet.
+    #[inline(always)]
+    pub(crate) fn write_ipv6(
+        &self,
+        ipv4: [u8; 4],
+        address: &mut [u8; 16],
+    ) -> Result<(), AddressError>
+        ensures refused { RefusesExactly result (tables.to_ipv6_refusal self.now ipv4) }
+        ensures written { IfOk result (λ _. address.new ≡ tables.embedded self.now ipv4) }
+    {
+        match self.mapping_of_ipv4(ipv4) {
+            Some(mapping) => {
+                *address = mapping.to_ipv6(u32::from_be_bytes(ipv4)).to_be_bytes();
+                Ok(())
+            }
+            None => self.prefix.write_ipv6(ipv4, address),
+        }
+    }
+
     /// Translates an address of an IPv6 packet to IPv4.
     ///
     /// # Errors

@@ -1,8 +1,8 @@
-ghost use Rattle.std.specs.Prelude.{◌≡◌, ◌≤◌, ◌<◌, ◌+◌, [], ◌∷◌, ℕ, IfOk, length, slice_index, slice_range};
+ghost use Rattle.std.specs.Prelude.{◌≡◌, ◌≤◌, ◌<◌, ◌+◌, ◌↔◌, [], ◌∷◌, ℕ, IfOk, IsTrue, length, slice_index, slice_range};
 ghost use Rattle.net_base.specs.IpHeaders.{ipv4_header_len};
 ghost use Rattle.net_base.specs.PseudoHeader.{max_len_over_ipv4};
 ghost use Rattle.net_base.specs.Refusals.{RefusesExactly};
-ghost use Rattle.word_sum.specs.Checksum.{total};
+ghost use Rattle.word_sum.specs.Checksum.{Verifies, total};
 ghost use Rattle.word_sum.specs.ChecksumChange.{TurnsInto, added_value, removed_value};
 ghost use Rattle.ip_translation.specs.AddressTables.{embedded};
 ghost use Rattle.ip_translation.specs.HeadersToIpv6 as specs;
@@ -15,6 +15,7 @@ use crate::{Prefixes, TranslationError};
 use arrayvec::ArrayVec;
 use ip_part::has_unexpired_source_route;
 use net_base::{IpNumber, Ipv4HeaderSlice, Ipv6Header, ip_number};
+use word_sum::checksum::Sum16BitWords;
 use word_sum::checksum_change::ChecksumChange;
 
 /// Translates the header of an unfragmented IPv4 packet to an IPv6 header (RFC 7915, section 4.1).
@@ -64,7 +65,9 @@ pub(crate) fn checked_ipv6_header(
     ensures addresses { IfOk result (λ translated. HasIpv6Addresses prefixes.now header.now translated.items) }
 {
     let payload_len = check_header(header)?;
-    let (source, destination) = embedded_addresses(header, prefixes)?;
+    let mut source = [0; 16];
+    let mut destination = [0; 16];
+    write_addresses(header, prefixes, &mut source, &mut destination)?;
     let hop_limit = header.ttl().saturating_sub(1);
     Ok(header_between(header, source, destination, payload_len, hop_limit))
 }
@@ -125,6 +128,9 @@ const DESTINATION_AT: usize = 24;
 /// The length of an IPv6 header, in bytes (RFC 8200, section 3).
 pub(crate) const IPV6_LEN: usize = Ipv6Header::LEN;
 
+/// The length of an IPv4 header without options, in bytes (RFC 791, section 3.1).
+const LEN_WITHOUT_OPTIONS: usize = 20;
+
 /// The place of the type of service, in bytes from the start of an IPv4 header (RFC 791, section 3.1).
 pub(crate) const TYPE_OF_SERVICE_AT: usize = 1;
 
@@ -152,6 +158,7 @@ fn check_header(header: &Ipv4HeaderSlice<'_>) -> Result<u16, TranslationError>
 }
 
 /// Checks the fields of a header, which may be the header of a fragment, and returns the length of the payload.
+#[inline(always)]
 pub(crate) fn check_any_fields(header: &Ipv4HeaderSlice<'_>) -> Result<u16, TranslationError>
     ensures refused { RefusesExactly result (specs.any_field_refusal header.now) }
     ensures payload_len { IfOk result (λ len. len ≡ specs.payload_len header.now) }
@@ -166,7 +173,7 @@ pub(crate) fn check_any_fields(header: &Ipv4HeaderSlice<'_>) -> Result<u16, Tran
             header_len,
         });
     }
-    if !header.is_checksum_valid() {
+    if !is_checksum_valid(header) {
         return Err(TranslationError::HeaderChecksum);
     }
     if has_unexpired_source_route(header.options()) {
@@ -177,6 +184,26 @@ pub(crate) fn check_any_fields(header: &Ipv4HeaderSlice<'_>) -> Result<u16, Tran
     }
     check_addresses(header)?;
     Ok(total_len - header_len)
+}
+
+/// Whether the checksum of a header is right.
+#[inline(always)]
+fn is_checksum_valid(header: &Ipv4HeaderSlice<'_>) -> bool
+    ensures { IsTrue result ↔ Verifies [] header.now }
+{
+    let bytes = header.slice();
+    if bytes.len() != LEN_WITHOUT_OPTIONS {
+        return header.is_checksum_valid();
+    }
+    // perf: five numbers are added faster than a slice of any length.
+    Sum16BitWords::new()
+        .add_4bytes([bytes[0], bytes[1], bytes[2], bytes[3]])
+        .add_4bytes([bytes[4], bytes[5], bytes[6], bytes[7]])
+        .add_4bytes([bytes[8], bytes[9], bytes[10], bytes[11]])
+        .add_4bytes([bytes[12], bytes[13], bytes[14], bytes[15]])
+        .add_4bytes([bytes[16], bytes[17], bytes[18], bytes[19]])
+        .ones_complement()
+        == 0
 }
 
 /// Checks the header of a packet that an ICMP error quotes, which may be a fragment. Returns the length of the payload.
@@ -220,29 +247,32 @@ pub(crate) fn check_embedding(
 ) -> Result<(), TranslationError>
     ensures refused { RefusesExactly result (specs.embedding_refusal prefixes.now header.now) }
 {
-    let _ = embedded_addresses(header, prefixes)?;
-    Ok(())
+    write_addresses(header, prefixes, &mut [0; 16], &mut [0; 16])
 }
 
-/// The IPv6 addresses for the source and the destination.
+/// Writes the IPv6 addresses for the source and the destination.
 #[inline(always)]
-fn embedded_addresses(
+fn write_addresses(
     header: &Ipv4HeaderSlice<'_>,
     prefixes: &Prefixes,
-) -> Result<([u8; 16], [u8; 16]), TranslationError>
+    source: &mut [u8; 16],
+    destination: &mut [u8; 16],
+) -> Result<(), TranslationError>
     ensures refused { RefusesExactly result (specs.embedding_refusal prefixes.now header.now) }
-    ensures source { IfOk result (λ found. found.0 ≡ embedded prefixes.now.source (specs.source header.now)) }
-    ensures destination { IfOk result (λ found. found.1 ≡ embedded prefixes.now.destination (specs.destination header.now)) }
+    ensures source { IfOk result (λ _. source.new ≡ embedded prefixes.now.source (specs.source header.now)) }
+    ensures destination { IfOk result (λ _. destination.new ≡ embedded prefixes.now.destination (specs.destination header.now)) }
 {
-    let source = match prefixes.source.to_ipv6(header.source()) {
-        Ok(source) => source,
+    match prefixes.source.write_ipv6(header.source(), source) {
+        Ok(()) => {}
         Err(error) => return Err(TranslationError::Source(error)),
-    };
-    let destination = match prefixes.destination.to_ipv6(header.destination()) {
-        Ok(destination) => destination,
-        Err(error) => return Err(TranslationError::Destination(error)),
-    };
-    Ok((source, destination))
+    }
+    match prefixes
+        .destination
+        .write_ipv6(header.destination(), destination)
+    {
+        Ok(()) => Ok(()),
+        Err(error) => Err(TranslationError::Destination(error)),
+    }
 }
 
 /// The IPv6 header for this IPv4 header, with this payload length and this hop limit. The prefixes embed the addresses.

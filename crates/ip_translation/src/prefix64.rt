@@ -5,6 +5,7 @@ ghost use Rattle.net_base.specs.Refusals.{RefusesExactly};
 ghost use Rattle.ip_translation.specs.Prefixes as specs;
 ghost use Rattle.ip_translation.specs.declared.prefix64.Prefix64.TheVariants.{Bits96};
 
+use crate::address_change::address_at;
 use crate::{AddressError, Prefix64Error};
 
 /// A prefix of IPv6 addresses that contain an IPv4 address (RFC 6052, section 2.2).
@@ -178,6 +179,34 @@ impl Prefix64 {
         Ok(self.embed(ipv4))
     }
 
+    /// Writes the IPv6 address that `to_ipv6` returns.
+    #[inline(always)]
+    pub(crate) fn write_ipv6(
+        &self,
+        ipv4: [u8; 4],
+        address: &mut [u8; 16],
+    ) -> Result<(), AddressError>
+        ensures refused { RefusesExactly result (specs.to_ipv6_refusal self.now ipv4) }
+        ensures written { IfOk result (λ _. address.new ≡ specs.embedded self.now ipv4) }
+    {
+        if self.is_excluded(ipv4) {
+            return Err(AddressError::NotGlobal);
+        }
+        self.write(ipv4, address);
+        Ok(())
+    }
+
+    /// Writes the IPv6 address that `embed` returns.
+    #[inline(always)]
+    pub(crate) fn write(&self, ipv4: [u8; 4], address: &mut [u8; 16])
+        ensures written { address.new ≡ specs.embedded self.now ipv4 }
+    {
+        match self {
+            Prefix64::Bits96(start) => write_96(start, ipv4, address),
+            _ => *address = self.join_any(ipv4),
+        }
+    }
+
     /// Translates an address of an IPv6 packet to IPv4, as `extract` does.
     ///
     /// # Errors
@@ -272,8 +301,11 @@ const RESERVED_AT: usize = 8;
 fn front_96(address: &[u8; 16]) -> [u8; 11]
     ensures { result ≡ take 11 (specs.without_reserved address.now) }
 {
-    let [a, b, c, d, e, f, g, h, _, i, j, k, _, _, _, _] = *address;
-    [a, b, c, d, e, f, g, h, i, j, k]
+    // Slices are copied, as in `write_96`.
+    let mut octets = [0; 11];
+    octets[..8].copy_from_slice(&address[..8]);
+    octets[8..].copy_from_slice(&address[9..12]);
+    octets
 }
 
 /// The last four octets of an address.
@@ -290,12 +322,22 @@ fn join_96(start: &[u8; 11], ipv4: [u8; 4]) -> [u8; 16]
     ensures joined { result ≡ specs.embedded (Bits96 start.now) ipv4 }
     ensures len { length start.now ≡ 11 }
 {
-    // Slices are copied, since an array of single octets is put together octet by octet.
     let mut address = [0; 16];
+    write_96(start, ipv4, &mut address);
+    address
+}
+
+/// Writes this IPv6 address.
+#[inline(always)]
+fn write_96(start: &[u8; 11], ipv4: [u8; 4], address: &mut [u8; 16])
+    ensures written { address.new ≡ specs.embedded (Bits96 start.now) ipv4 }
+    ensures len { length start.now ≡ 11 }
+{
+    // Slices are copied, since an array of single octets is put together octet by octet.
+    *address = [0; 16];
     address[..8].copy_from_slice(&start[..8]);
     address[9..12].copy_from_slice(&start[8..]);
     address[12..].copy_from_slice(&ipv4);
-    address
 }
 
 /// Whether an address begins with these octets of a prefix of 96 bits. The reserved octet of the address is skipped.
@@ -303,7 +345,9 @@ fn join_96(start: &[u8; 11], ipv4: [u8; 4]) -> [u8; 16]
 fn is_front_96(start: &[u8; 11], address: &[u8; 16]) -> bool
     ensures { result ≡ pointwise nat_eq (take 11 (specs.without_reserved address.now)) start.now }
 {
-    are_equal(&front_96(address), start)
+    let (front, rest) = numbers_before_ipv4(address);
+    let (start_front, start_rest) = numbers_of(start);
+    front == start_front && rest == start_rest
 }
 
 /// Whether these octets are equal. They are compared as two numbers, which is faster than octet by octet.
@@ -322,10 +366,25 @@ fn numbers_of(octets: &[u8; 11]) -> (u64, u32)
     ensures front { result.0 ≡ from_be_bytes w64 (take 8 octets.now) }
     ensures rest { result.1 ≡ from_be_bytes w32 (0 ∷ drop 8 octets.now) }
 {
-    let [a, b, c, d, e, f, g, h, i, j, k] = *octets;
+    // perf: four octets are read at once, three are not.
     (
-        u64::from_be_bytes([a, b, c, d, e, f, g, h]),
-        u32::from_be_bytes([0, i, j, k]),
+        u64::from_be_bytes(address_at::<8>(octets, 0)),
+        u32::from_be_bytes(address_at::<4>(octets, 7)) % THREE_OCTETS,
+    )
+}
+
+/// The number of different values of three octets.
+const THREE_OCTETS: u32 = 0x100_0000;
+
+/// The same two numbers of the octets that precede the IPv4 address if the prefix has 96 bits, without the reserved octet.
+#[inline(always)]
+fn numbers_before_ipv4(address: &[u8; 16]) -> (u64, u32)
+    ensures front { result.0 ≡ from_be_bytes w64 (take 8 (take 11 (specs.without_reserved address.now))) }
+    ensures rest { result.1 ≡ from_be_bytes w32 (0 ∷ drop 8 (take 11 (specs.without_reserved address.now))) }
+{
+    (
+        u64::from_be_bytes(address_at::<8>(address, 0)),
+        u32::from_be_bytes(address_at::<4>(address, RESERVED_AT)) % THREE_OCTETS,
     )
 }
 

@@ -4,10 +4,10 @@ use borrow.Rule.Slice.PartMut.{put_mid}
 use Rattle.ip_translation.specs.Prefixes.{embedded}
 use Rattle.ip_translation.specs.declared.prefix64.Prefix64.TheVariants.{Bits96}
 use Rattle.ip_translation.proofs.ListedLemmas.{whole}
-use Rattle.ip_translation.proofs.prefix64.join_96.Goals as goal
+use Rattle.ip_translation.proofs.prefix64.write_96.Goals as goal
 
-pub returns-clause-joined : goal.returns-clause-joined
-returns-clause-joined c =
+pub returns-clause-written : goal.returns-clause-written
+returns-clause-written c =
     let start : List ℕ = c.args.start.now in
     let front : c.copy_from_slice.new.self ≡ take 8 start = search rules in
     let rest : c.copy_from_slice-2.new.self ≡ take 3 (drop 8 start) = search rules in

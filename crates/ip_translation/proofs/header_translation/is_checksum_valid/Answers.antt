@@ -1,0 +1,16 @@
+use Rattle.std.proofs.Common.{◌≡◌, ◌+◌, ℕ, List, ap, ◌∙◌, arith, rules}
+use Rattle.word_sum.specs.Checksum.{checksum_of, total}
+use Rattle.word_sum.proofs.ChecksumLemmas.{folded_twice}
+use Rattle.net_base.proofs.DetectionLemmas.{complement_tested}
+use Rattle.ip_translation.proofs.ListedLemmas.{listed, whole}
+use Rattle.ip_translation.proofs.header_translation.is_checksum_valid.Goals as goal
+
+pub returns : goal.returns
+returns c =
+    let bytes : List ℕ = c.slice-bytes.result.now in
+    let is_whole : listed bytes 0 20 ≡ bytes = whole bytes 20 (search rules) in
+    let sum : c.ones_complement.result ≡ checksum_of (0 + total bytes) =
+    rw (c.ones_complement.ensures, c.add_4bytes-5.ensures, c.add_4bytes-4.ensures, c.add_4bytes-3.ensures, c.add_4bytes-2.ensures, c.add_4bytes.ensures, c.new.ensures)
+    (simp folded_twice (ap checksum_of (omega arith)))
+    ∙ ap (λ bytes. checksum_of (0 + total bytes)) is_whole in
+    complement_tested (0 + total c.args.header.now) _ (sum ∙ ap (λ bytes. checksum_of (0 + total bytes)) c.slice-bytes.ensures)
