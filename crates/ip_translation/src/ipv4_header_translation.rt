@@ -233,7 +233,7 @@ fn header_between(
 }
 
 /// Whether this is the number of hop-by-hop options, or of a routing, fragment or destination options header.
-fn is_extension(number: IpNumber) -> bool
+pub(crate) fn is_extension(number: IpNumber) -> bool
     ensures { result ≡ specs.is_extension number.0 }
 {
     number.0 == ip_number::IPV6_HEADER_HOP_BY_HOP.0
@@ -292,6 +292,7 @@ fn protocol_of(number: IpNumber) -> u8
 }
 
 /// An IPv4 header with these first ten bytes and these addresses, and with its checksum.
+#[inline(always)]
 fn ipv4_header(start: [u8; 10], source: [u8; 4], destination: [u8; 4]) -> ArrayVec<u8, 20>
     ensures bytes { result.items ≡ specs.ipv4_header start source destination }
     ensures verifies { Verifies [] result.items }
@@ -299,11 +300,12 @@ fn ipv4_header(start: [u8; 10], source: [u8; 4], destination: [u8; 4]) -> ArrayV
     ensures source { slice_range result.items 12 16 ≡ source }
     ensures destination { slice_range result.items 16 20 ≡ destination }
 {
-    let checksum = checksum_of(with_checksum(start, 0, source, destination).as_slice());
+    let checksum = header_checksum(start, source, destination);
     with_checksum(start, checksum, source, destination)
 }
 
 /// An IPv4 header with these first ten bytes, this checksum and these addresses.
+#[inline(always)]
 fn with_checksum(
     start: [u8; 10],
     checksum: u16,
@@ -323,9 +325,18 @@ fn with_checksum(
     header
 }
 
-/// The checksum over these bytes.
-fn checksum_of(bytes: &[u8]) -> u16
-    ensures { result ≡ checksum_of (total bytes.now) }
+/// The checksum of an IPv4 header with these first ten bytes and these addresses. The parts are added one by one, so that no header is built
+/// for its checksum.
+#[inline(always)]
+fn header_checksum(start: [u8; 10], source: [u8; 4], destination: [u8; 4]) -> u16
+    ensures { result ≡ checksum_of (total (specs.with_header_checksum start 0 source destination)) }
 {
-    Sum16BitWords::new().add_slice(bytes).ones_complement()
+    let [a, b, c, d, e, f, g, h, i, j] = start;
+    Sum16BitWords::new()
+        .add_4bytes([a, b, c, d])
+        .add_4bytes([e, f, g, h])
+        .add_2bytes([i, j])
+        .add_4bytes(source)
+        .add_4bytes(destination)
+        .ones_complement()
 }

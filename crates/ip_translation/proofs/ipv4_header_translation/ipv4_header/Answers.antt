@@ -8,17 +8,17 @@ use Rattle.ip_translation.proofs.ipv4_header_translation.ipv4_header.Goals as go
 
 pub returns-clause-verifies : goal.returns-clause-verifies
 returns-clause-verifies c =
-    let right : c.checksum_of-checksum.result ≡ checksum_of (total (with_header_checksum c.args.start 0 c.args.source c.args.destination)) =
+    let right : c.header_checksum-checksum.result ≡ checksum_of (total (with_header_checksum c.args.start 0 c.args.source c.args.destination)) =
     search rules in
-    subst (λ header. Verifies [] header) (sym c.with_checksum-2.ensures.bytes)
-    (header_verifies c.args.start c.args.source c.args.destination c.checksum_of-checksum.result (search rules) (search rules) right)
+    subst (λ header. Verifies [] header) (sym c.with_checksum.ensures.bytes)
+    (header_verifies c.args.start c.args.source c.args.destination c.header_checksum-checksum.result (search rules) (search rules) right)
 
 pub returns-clause-source : goal.returns-clause-source
 returns-clause-source c =
-    ap (λ bytes. slice_range bytes 12 16) c.with_checksum-2.ensures.bytes
-    ∙ ipv4_source c.args.start c.checksum_of-checksum.result c.args.source c.args.destination (search rules) (search rules)
+    ap (λ bytes. slice_range bytes 12 16) c.with_checksum.ensures.bytes
+    ∙ ipv4_source c.args.start c.header_checksum-checksum.result c.args.source c.args.destination (search rules) (search rules)
 
 pub returns-clause-destination : goal.returns-clause-destination
 returns-clause-destination c =
-    ap (λ bytes. slice_range bytes 16 20) c.with_checksum-2.ensures.bytes
-    ∙ ipv4_destination c.args.start c.checksum_of-checksum.result c.args.source c.args.destination (search rules) (search rules) (search rules)
+    ap (λ bytes. slice_range bytes 16 20) c.with_checksum.ensures.bytes
+    ∙ ipv4_destination c.args.start c.header_checksum-checksum.result c.args.source c.args.destination (search rules) (search rules) (search rules)
