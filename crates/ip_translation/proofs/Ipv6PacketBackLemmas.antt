@@ -446,7 +446,7 @@ module _ (prefixes : Prefixes) (class len number hop : ℕ) (source destination 
 -- ---- the header
 
 -- the first eight bytes of a header, and its addresses
-eight : (header : List ℕ) → length header ≡ 40
+pub eight : (header : List ℕ) → length header ≡ 40
     → slice_index header 0 ∷ slice_index header 1 ∷ slice_index header 2 ∷ slice_index header 3 ∷ slice_index header 4
     ∷ slice_index header 5 ∷ slice_index header 6 ∷ slice_index header 7 ∷ drop 8 header ≡ header
 eight header len =

@@ -13,6 +13,7 @@ pub mod Ipv4HeaderLemmas
 pub mod Ipv4PacketBackLemmas
 pub mod Ipv4PacketExamples
 pub mod Ipv6PacketBackLemmas
+pub mod LabelLemmas
 pub mod ListedLemmas
 pub mod LongestLemmas
 pub mod MappedBackLemmas

@@ -189,7 +189,7 @@ no_extension false false true d none = absurd (true≢false none)
 no_extension false false false true none = absurd (true≢false none)
 
 -- no header is skipped before a message of this protocol
-skips_none : (number : ℕ) (message : List ℕ) → back.is_extension number ≡ false
+pub skips_none : (number : ℕ) (message : List ℕ) → back.is_extension number ≡ false
     → with_fragment_header (skipped_headers number message) message ≡ Ok (none_skipped number)
 skips_none number message other =
     let tests = no_extension (number == 0) (number == 43) (number == 44) (number == 60) other in

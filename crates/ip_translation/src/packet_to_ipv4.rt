@@ -1,4 +1,4 @@
-ghost use Rattle.std.specs.Prelude.{◌≡◌, ◌≤◌, ◌<◌, ◌+◌, ◌==◌, ◌++◌, ◌↔◌, [], IfErr, IfOk, MatchOption, drop, false, length, slice_index, take, true};
+ghost use Rattle.std.specs.Prelude.{◌≡◌, ◌≢◌, ◌≤◌, ◌<◌, ◌+◌, ◌==◌, ◌++◌, ◌↔◌, [], IfErr, IfOk, IfSome, MatchOption, drop, false, length, slice_index, take, true};
 ghost use Rattle.std.specs.Option.{option_map, unwrap_or};
 ghost use Rattle.ip_part.specs.Ip as ip;
 ghost use Rattle.net_base.specs.IpNumbers.{icmpv6_number, tcp_number, udp_number};
@@ -10,6 +10,7 @@ ghost use Rattle.ip_translation.specs.Fragments.{is_later, whole};
 ghost use Rattle.ip_translation.specs.HeadersToIpv4 as headers;
 ghost use Rattle.ip_translation.specs.Ipv6Packets.{header_counting};
 ghost use Rattle.ip_translation.specs.PacketsToIpv4 as specs;
+ghost use Rattle.ip_translation.specs.PacketsToIpv6.{VerifiesAlike, udp_checksum};
 ghost use Rattle.ip_translation.specs.Payloads.{IsIpv6PayloadKept};
 ghost use Rattle.ip_translation.specs.TranslatedAddresses.{HasIpv4Addresses};
 ghost use Rattle.ip_translation.specs.declared.packet_translation_error.PacketTranslationError.TheVariants.{Header, IcmpFragment};
@@ -19,7 +20,9 @@ use crate::echo_translation::{icmpv6_pseudo_header, type_over_ipv4, write_echo};
 use crate::error_to_ipv4::error_to_ipv4;
 use crate::fragment_fields::FragmentFields;
 use crate::header_translation::{IPV6_LEN, ipv6_header};
-use crate::ipv4_header_translation::{change_by_ipv4_header, header_with, part_header_to_ipv4};
+use crate::ipv4_header_translation::{
+    change_by_ipv4_header, header_with, is_extension, part_header_to_ipv4,
+};
 use crate::message_translation::{
     ICMP_LEN, TCP_LEN, UDP_CHECKSUM_AT, UDP_LEN, check_header_len, check_space, number,
 };
@@ -106,12 +109,48 @@ pub fn ipv6_to_ipv4(
 pub(crate) fn front_header<'a>(packet: &'a [u8]) -> Option<Ipv6HeaderSlice<'a>>
     ensures found { MatchOption result (specs.begins_with_header packet.now ≡ false)
         (λ header. (specs.begins_with_header packet.now ≡ true) × (header ≡ ip.ipv6_header packet.now)) }
+    ensures long { IfSome result (λ header. length header ≡ 40) }
 {
     Ipv6HeaderSlice::from_slice(packet)
 }
 
-/// Translates a packet with this header and this payload. Skips its extension headers.
+/// Translates a packet with this header and this payload.
+#[inline(always)]
 fn translate_payload(
+    header: &Ipv6HeaderSlice<'_>,
+    payload: &[u8],
+    prefixes: &Prefixes,
+    identification: u16,
+    buffer: &mut [u8],
+) -> Result<usize, PacketTranslationError>
+    requires counted { length payload.now ≤ max_len_over_ipv4 }
+    requires long { length header.now ≡ 40 }
+    requires whole { length payload.now ≡ headers.payload_len header.now }
+    ensures refused { RefusesExactly result (specs.payload_refusal header.now prefixes.now payload.now (length buffer.old)) }
+    ensures len { IfOk result (λ len. len ≡ specs.direct_len (specs.direct_in header.now payload.now) prefixes.now
+        (specs.fields_in identification header.now payload.now).flags_and_offset (specs.message_in header.now payload.now)) }
+    ensures written { IfOk result (λ len. buffer.new ≡ specs.direct_translation (specs.direct_in header.now payload.now) prefixes.now
+        (specs.fields_in identification header.now payload.now) (specs.message_in header.now payload.now) ++ drop len buffer.old) }
+    ensures unchanged { IfErr result (λ _. buffer.new ≡ buffer.old) }
+    ensures alike { IfOk result (λ _. specs.IsPacketAlike prefixes.now (specs.direct_in header.now payload.now)
+        (specs.fields_in identification header.now payload.now).flags_and_offset (specs.message_in header.now payload.now)) }
+{
+    if is_extension(header.next_header()) {
+        return translate_after_skipped(header, payload, prefixes, identification, buffer);
+    }
+    // Most packets have no extension headers. Their header is not copied.
+    translate_whole(
+        header,
+        payload,
+        prefixes,
+        FragmentFields::whole(identification),
+        buffer,
+    )
+}
+
+/// Translates a packet with this header and this payload. Skips its extension headers.
+#[inline(never)]
+fn translate_after_skipped(
     header: &Ipv6HeaderSlice<'_>,
     payload: &[u8],
     prefixes: &Prefixes,
@@ -269,6 +308,7 @@ fn copy_message(
 }
 
 /// Translates a whole packet that consists of this header and this message.
+#[inline(always)]
 fn translate_whole(
     header: &Ipv6HeaderSlice<'_>,
     message: &[u8],
@@ -423,6 +463,7 @@ fn payload_after<'a>(
     ensures refused { RefusesExactly result (specs.cut_off_refusal header.now (length packet.now)) }
     ensures payload { IfOk result (λ payload. payload.now ≡ specs.payload_after header.now packet.now) }
     ensures counted { IfOk result (λ payload. length payload.now ≤ max_len_over_ipv4) }
+    ensures whole { IfOk result (λ payload. length payload.now ≡ headers.payload_len header.now) }
 {
     let total_len = IPV6_LEN + usize::from(header.payload_length());
     if packet.len() < total_len {
@@ -435,6 +476,7 @@ fn payload_after<'a>(
 }
 
 /// Refuses a message of this protocol if the message has no translation. The message is no ICMPv6 error.
+#[inline(always)]
 fn check_message(protocol: IpNumber, message: &[u8]) -> Result<(), PacketTranslationError>
     ensures refused { RefusesExactly result (specs.message_refusal protocol.0 message.now) }
     ensures udp { IfOk result (λ _. protocol.0 ≡ udp_number → 8 ≤ length message.now) }
@@ -454,6 +496,7 @@ fn check_message(protocol: IpNumber, message: &[u8]) -> Result<(), PacketTransla
 }
 
 /// Refuses a UDP packet that is shorter than its header or has no checksum.
+#[inline(always)]
 fn check_udp(packet: &[u8]) -> Result<(), PacketTranslationError>
     ensures refused { RefusesExactly result (specs.udp_refusal packet.now) }
     ensures there { IfOk result (λ _. 8 ≤ length packet.now) }
@@ -516,16 +559,58 @@ fn write_message(
         return;
     }
     if header.next_header().0 == ip_number::UDP.0 {
-        let change = change_by_ipv4_header(header, prefixes, front);
-        write_updated_udp(translated, message, change);
+        write_udp(translated, message, header, prefixes, front);
         return;
     }
     if header.next_header().0 == ip_number::TCP.0 {
-        let change = change_by_ipv4_header(header, prefixes, front);
-        write_updated_tcp(translated, message, change);
+        write_tcp(translated, message, header, prefixes, front);
         return;
     }
     translated.copy_from_slice(message);
+}
+
+/// Writes a UDP packet with its checksum updated for the new addresses. The translated packet begins with the header `front`.
+// perf: in a function of its own, the compiler inlines the sums of the addresses, and adds nothing for zeros.
+#[inline(never)]
+fn write_udp(
+    translated: &mut [u8],
+    packet: &[u8],
+    header: &Ipv6HeaderSlice<'_>,
+    prefixes: &Prefixes,
+    front: &[u8],
+)
+    requires room { length translated.old ≡ length packet.now }
+    requires there { 8 ≤ length packet.now }
+    requires front { 20 ≤ length front.now }
+    requires addresses { HasIpv4Addresses prefixes.now header.now front.now }
+    ensures written { translated.new ≡ specs.translated_udp prefixes.now header.now packet.now }
+    ensures alike { udp_checksum packet.now ≢ 0 → VerifiesAlike 8 (headers.old_pseudo_header header.now udp_number)
+        (headers.new_pseudo_header prefixes.now header.now udp_number) packet.now translated.new }
+{
+    let change = change_by_ipv4_header(header, prefixes, front);
+    write_updated_udp(translated, packet, change);
+}
+
+/// Writes a TCP segment with its checksum updated for the new addresses. The translated packet begins with the header `front`.
+// perf: a function of its own for the same reason.
+#[inline(never)]
+fn write_tcp(
+    translated: &mut [u8],
+    segment: &[u8],
+    header: &Ipv6HeaderSlice<'_>,
+    prefixes: &Prefixes,
+    front: &[u8],
+)
+    requires room { length translated.old ≡ length segment.now }
+    requires there { 20 ≤ length segment.now }
+    requires front { 20 ≤ length front.now }
+    requires addresses { HasIpv4Addresses prefixes.now header.now front.now }
+    ensures written { translated.new ≡ specs.translated_tcp prefixes.now header.now segment.now }
+    ensures alike { VerifiesAlike 18 (headers.old_pseudo_header header.now tcp_number)
+        (headers.new_pseudo_header prefixes.now header.now tcp_number) segment.now translated.new }
+{
+    let change = change_by_ipv4_header(header, prefixes, front);
+    write_updated_tcp(translated, segment, change);
 }
 
 /// Writes an ICMPv6 echo message as an ICMP echo message, whose checksum covers no pseudo header.

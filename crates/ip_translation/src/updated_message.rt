@@ -9,6 +9,7 @@ use crate::message_translation::{TCP_CHECKSUM_AT, UDP_CHECKSUM_AT, number, store
 use word_sum::checksum_change::ChecksumChange;
 
 /// Writes a UDP packet with its checksum updated for this change of the pseudo header.
+#[inline(always)]
 pub(crate) fn write_updated_udp(translated: &mut [u8], packet: &[u8], change: ChecksumChange)
     requires room { length translated.old ≡ length packet.now }
     requires there { 8 ≤ length packet.now }
@@ -25,6 +26,7 @@ pub(crate) fn write_updated_udp(translated: &mut [u8], packet: &[u8], change: Ch
 }
 
 /// Writes a TCP segment with its checksum updated for this change of the pseudo header.
+#[inline(always)]
 pub(crate) fn write_updated_tcp(translated: &mut [u8], segment: &[u8], change: ChecksumChange)
     requires room { length translated.old ≡ length segment.now }
     requires there { 18 ≤ length segment.now }
