@@ -19,7 +19,8 @@ use Rattle.ip_translation.proofs.Ipv6PacketBackLemmas.{eight}
 pub record IsSameWhole (header other : List ℕ) : Type 0 where
   pub refusal : (prefixes : Prefixes) (message : List ℕ) (room : ℕ)
       → specs.whole_refusal other prefixes message room ≡ specs.whole_refusal header prefixes message room
-  pub len : (prefixes : Prefixes) (message : List ℕ) → specs.translated_len other prefixes message ≡ specs.translated_len header prefixes message
+  pub len : (prefixes : Prefixes) (message : List ℕ)
+      → specs.translated_len other prefixes message ≡ specs.translated_len header prefixes message
   pub translation : (prefixes : Prefixes) (fields : FragmentFields) (message : List ℕ)
       → specs.translation_of other prefixes fields message ≡ specs.translation_of header prefixes fields message
   pub alike : (prefixes : Prefixes) (message : List ℕ) → specs.AreAcceptedAlike prefixes header message
@@ -55,7 +56,8 @@ module _ (b0 b1 b2 b3 b4 b5 b6 b7 c0 c1 c2 c3 c4 c5 : ℕ) (addresses : List ℕ
     len = λ prefixes message. refl;
     translation = λ prefixes fields message. ap₂ (λ class len.
         if specs.is_icmp_error b6 message
-        then ipv4_header prefixes fields class (length (error_without_checksum prefixes message) + 20) ++ translated_error prefixes header message
+        then ipv4_header prefixes fields class (length (error_without_checksum prefixes message) + 20)
+        ++ translated_error prefixes header message
         else ipv4_header prefixes fields class (len + 20) ++ specs.updated_message prefixes header message) class_same len_same;
     alike = λ prefixes message alike. record {
       error = alike.error;
@@ -63,7 +65,8 @@ module _ (b0 b1 b2 b3 b4 b5 b6 b7 c0 c1 c2 c3 c4 c5 : ℕ) (addresses : List ℕ
     };
   }
 
-same_by_bytes : (b0 b1 b2 b3 b4 b5 b6 b7 : ℕ) (addresses message : List ℕ) → length addresses ≡ 32 → length message ≡ headers.payload_len (b0 ∷ b1 ∷ b2 ∷ b3 ∷ b4 ∷ b5 ∷ b6 ∷ b7 ∷ addresses)
+same_by_bytes : (b0 b1 b2 b3 b4 b5 b6 b7 : ℕ) (addresses message : List ℕ) → length addresses ≡ 32
+    → length message ≡ headers.payload_len (b0 ∷ b1 ∷ b2 ∷ b3 ∷ b4 ∷ b5 ∷ b6 ∷ b7 ∷ addresses)
     → length message < 65536
     → IsSameWhole (b0 ∷ b1 ∷ b2 ∷ b3 ∷ b4 ∷ b5 ∷ b6 ∷ b7 ∷ addresses)
     (specs.header_before (b0 ∷ b1 ∷ b2 ∷ b3 ∷ b4 ∷ b5 ∷ b6 ∷ b7 ∷ addresses) b6 message)
@@ -77,8 +80,8 @@ same_by_bytes b0 b1 b2 b3 b4 b5 b6 b7 addresses message sizes counted small =
     subst (IsSameWhole header)
     (sym (ap (λ addresses. (0x60 + class / 16) ∷ (class % 16 * 16) ∷ 0 ∷ 0 ∷ (length message / 256 % 256) ∷ (length message % 256) ∷ b6 ∷ b7
     ∷ addresses) both_addresses))
-    (by_fields b0 b1 b2 b3 b4 b5 b6 b7 (0x60 + class / 16) (class % 16 * 16) 0 0 (length message / 256 % 256) (length message % 256) addresses
-    (omega arith) (omega (arith, counted, small)))
+    (by_fields b0 b1 b2 b3 b4 b5 b6 b7 (0x60 + class / 16) (class % 16 * 16) 0 0 (length message / 256 % 256) (length message % 256)
+    addresses (omega arith) (omega (arith, counted, small)))
 
 -- the header before this message, without the flow label
 pub same_without_label : (header message : List ℕ) → length header ≡ 40 → length message ≡ headers.payload_len header

@@ -84,7 +84,8 @@ eleven_without_reserved address sixteen =
 
 pub bytes_without_reserved : (address : List ℕ) → length address ≡ 16 → IsBytes address → IsBytes (take 11 (without_reserved address))
 bytes_without_reserved address sixteen fits =
-    bytes_take 11 (without_reserved address) (bytes_append (take 8 address) (drop 9 address) (bytes_take 8 address fits) (bytes_drop 9 address fits))
+    bytes_take 11 (without_reserved address)
+    (bytes_append (take 8 address) (drop 9 address) (bytes_take 8 address fits) (bytes_drop 9 address fits))
 
 -- An address is the address of the prefix of 96 bits at its front if all its other octets are 0.
 pub front_is_address : (address : List ℕ) → length address ≡ 16 → slice_index address 8 ≡ 0 → drop 12 address ≡ replicate 4 0

@@ -197,11 +197,11 @@ fn is_checksum_valid(header: &Ipv4HeaderSlice<'_>) -> bool
     }
     // perf: five numbers are added faster than a slice of any length.
     Sum16BitWords::new()
-        .add_4bytes([bytes[0], bytes[1], bytes[2], bytes[3]])
-        .add_4bytes([bytes[4], bytes[5], bytes[6], bytes[7]])
-        .add_4bytes([bytes[8], bytes[9], bytes[10], bytes[11]])
-        .add_4bytes([bytes[12], bytes[13], bytes[14], bytes[15]])
-        .add_4bytes([bytes[16], bytes[17], bytes[18], bytes[19]])
+        .add_4bytes(address_at::<4>(bytes, 0))
+        .add_4bytes(address_at::<4>(bytes, 4))
+        .add_4bytes(address_at::<4>(bytes, 8))
+        .add_4bytes(address_at::<4>(bytes, 12))
+        .add_4bytes(address_at::<4>(bytes, 16))
         .ones_complement()
         == 0
 }

@@ -11,6 +11,14 @@ returns c =
     let even_too : length c.args.destination ≡ 4 = search rules in
     let addresses = total-append c.args.source c.args.destination (omega arith) in
     let is_whole : listed c.args.start 0 10 ≡ c.args.start = whole c.args.start 10 (search rules) in
-    rw (c.ones_complement.ensures, c.add_4bytes-4.ensures, c.add_4bytes-3.ensures, c.add_2bytes.ensures, c.add_4bytes-2.ensures, c.add_4bytes.ensures, c.new.ensures)
+    rw (
+      c.ones_complement.ensures,
+      c.add_4bytes-4.ensures,
+      c.add_4bytes-3.ensures,
+      c.add_2bytes.ensures,
+      c.add_4bytes-2.ensures,
+      c.add_4bytes.ensures,
+      c.new.ensures,
+    )
     (simp folded_twice (ap checksum_of (omega arith)))
     ∙ ap (λ start. checksum_of (total (with_header_checksum start 0 c.args.source c.args.destination))) is_whole

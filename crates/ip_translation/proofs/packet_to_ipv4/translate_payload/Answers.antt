@@ -15,7 +15,8 @@ use Rattle.ip_translation.proofs.packet_to_ipv4.translate_payload.Goals as goal
 
 -- a header without extension headers is translated like the header that the specification describes
 record IsDirectAlike (identification : ℕ) (header payload : List ℕ) : Type 0 where
-  pub direct : IsDirect identification header payload (specs.header_before header (headers.next_header header) payload) payload (whole identification)
+  pub direct : IsDirect identification header payload (specs.header_before header (headers.next_header header) payload) payload
+      (whole identification)
   pub same : IsSameWhole header (specs.header_before header (headers.next_header header) payload)
 
 is_alike : (identification : ℕ) (header payload : List ℕ) → headers.is_extension (headers.next_header header) ≡ false → length header ≡ 40
@@ -40,7 +41,8 @@ returns-clause-refused c =
     (sym (
     last_of_two (error_of (specs.skipped_in header payload))
     (refusal (specs.direct_in header payload) (specs.flags_in header payload) (specs.message_in header payload)) alike.direct.accepted
-    ∙ ap (λ header. refusal header (specs.flags_in c.args.header.now payload) (specs.message_in c.args.header.now payload)) alike.direct.header_is
+    ∙ ap (λ header. refusal header (specs.flags_in c.args.header.now payload) (specs.message_in c.args.header.now payload))
+    alike.direct.header_is
     ∙ ap₂ (refusal (specs.header_before header (headers.next_header header) payload)) alike.direct.flags_are alike.direct.message_is
     ∙ alike.same.refusal c.args.prefixes.now payload room))
     c.translate_whole.ensures.refused
