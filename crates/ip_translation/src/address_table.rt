@@ -96,6 +96,25 @@ impl<'a> AddressTable<'a> {
         }
     }
 
+    /// Writes the IPv4 address that `to_ipv4` returns.
+    #[inline(always)]
+    pub(crate) fn write_ipv4(
+        &self,
+        address: &[u8; 16],
+        ipv4: &mut [u8; 4],
+    ) -> Result<(), AddressError>
+        ensures refused { RefusesExactly result (tables.to_ipv4_refusal self.now address.now) }
+        ensures written { IfOk result (λ _. ipv4.new ≡ tables.extracted self.now address.now) }
+    {
+        match self.mapping_of_ipv6(address) {
+            Some(mapping) => {
+                *ipv4 = mapping.to_ipv4(u128::from_be_bytes(*address)).to_be_bytes();
+                Ok(())
+            }
+            None => self.prefix.write_ipv4(address, ipv4),
+        }
+    }
+
     /// The mapping of an IPv4 address.
     #[inline(always)]
     fn mapping_of_ipv4(&self, ipv4: [u8; 4]) -> Option<AddressMapping>

@@ -73,7 +73,10 @@ pub(crate) fn part_header_to_ipv4(
     ensures addresses { IfOk result (λ translated. HasIpv4Addresses prefixes.now header.now translated.items) }
 {
     let total_len = check_fields(header)?;
-    let addresses = extracted_addresses(header, prefixes)?;
+    let mut source = [0; 4];
+    let mut destination = [0; 4];
+    write_addresses(header, prefixes, &mut source, &mut destination)?;
+    let addresses = (source, destination);
     let time_to_live = header.hop_limit().saturating_sub(1);
     Ok(header_between(header, addresses, fields, total_len, time_to_live))
 }
@@ -249,35 +252,39 @@ fn check_addresses(
 ) -> Result<(), TranslationError>
     ensures refused { RefusesExactly result (specs.addresses_refusal prefixes.now header.now) }
 {
-    let _ = extracted_addresses(header, prefixes)?;
-    Ok(())
+    write_addresses(header, prefixes, &mut [0; 4], &mut [0; 4])
 }
 
-/// The IPv4 addresses for the source and the destination.
+/// Writes the IPv4 addresses for the source and the destination.
 #[inline(always)]
-fn extracted_addresses(
+fn write_addresses(
     header: &Ipv6HeaderSlice<'_>,
     prefixes: &Prefixes,
-) -> Result<([u8; 4], [u8; 4]), TranslationError>
+    source: &mut [u8; 4],
+    destination: &mut [u8; 4],
+) -> Result<(), TranslationError>
     ensures refused { RefusesExactly result (specs.addresses_refusal prefixes.now header.now) }
-    ensures source { IfOk result (λ found. found.0 ≡ extracted prefixes.now.source (specs.source header.now)) }
-    ensures destination { IfOk result (λ found. found.1 ≡ extracted prefixes.now.destination (specs.destination header.now)) }
+    ensures source { IfOk result (λ _. source.new ≡ extracted prefixes.now.source (specs.source header.now)) }
+    ensures destination { IfOk result (λ _. destination.new ≡ extracted prefixes.now.destination (specs.destination header.now)) }
 {
-    let source = match prefixes.source.to_ipv4(&header.source()) {
-        Ok(source) => source,
+    match prefixes.source.write_ipv4(&header.source(), source) {
+        Ok(()) => {}
         Err(error) => return Err(TranslationError::Source(error)),
-    };
-    let destination = match prefixes.destination.to_ipv4(&header.destination()) {
-        Ok(destination) => destination,
+    }
+    match prefixes
+        .destination
+        .write_ipv4(&header.destination(), destination)
+    {
+        Ok(()) => {}
         Err(error) => return Err(TranslationError::Destination(error)),
-    };
-    if is_illegal(source) {
+    }
+    if is_illegal(*source) {
         return Err(TranslationError::IllegalSource);
     }
-    if is_illegal(destination) {
+    if is_illegal(*destination) {
         return Err(TranslationError::IllegalDestination);
     }
-    Ok((source, destination))
+    Ok(())
 }
 
 /// The protocol of the translated packet, if this is the next header of the IPv6 packet.

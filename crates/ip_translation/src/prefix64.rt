@@ -219,13 +219,30 @@ impl Prefix64 {
         ensures refused { RefusesExactly result (specs.to_ipv4_refusal self.now address.now) }
         ensures extracted { IfOk result (λ ipv4. ipv4 ≡ specs.extracted self.now address.now) }
     {
-        let Some(ipv4) = self.extract(address) else {
+        let mut ipv4 = [0; 4];
+        self.write_ipv4(address, &mut ipv4)?;
+        Ok(ipv4)
+    }
+
+    /// Writes the IPv4 address that `to_ipv4` returns.
+    #[inline(always)]
+    pub(crate) fn write_ipv4(
+        &self,
+        address: &[u8; 16],
+        ipv4: &mut [u8; 4],
+    ) -> Result<(), AddressError>
+        ensures refused { RefusesExactly result (specs.to_ipv4_refusal self.now address.now) }
+        ensures written { IfOk result (λ _. ipv4.new ≡ specs.extracted self.now address.now) }
+    {
+        let is_prefix = self.is_front_of(address);
+        if address[RESERVED_AT] != 0 || !is_prefix {
             return Err(AddressError::NotEmbedded);
-        };
-        if self.is_excluded(ipv4) {
+        }
+        *ipv4 = self.ipv4_after(address);
+        if self.is_excluded(*ipv4) {
             return Err(AddressError::NotGlobal);
         }
-        Ok(ipv4)
+        Ok(())
     }
 
     /// Whether the prefix must not embed this address, since the prefix is the well-known prefix and the address is not global.
