@@ -55,10 +55,9 @@ impl<'a> AddressTable<'a> {
         ensures refused { RefusesExactly result (tables.to_ipv6_refusal self.now ipv4) }
         ensures embedded { IfOk result (λ address. address ≡ tables.embedded self.now ipv4) }
     {
-        match self.mapping_of_ipv4(ipv4) {
-            Some(mapping) => Ok(mapping.to_ipv6(u32::from_be_bytes(ipv4)).to_be_bytes()),
-            None => self.prefix.to_ipv6(ipv4),
-        }
+        let mut address = [0; 16];
+        self.write_ipv6(ipv4, &mut address)?;
+        Ok(address)
     }
 
     /// Writes the IPv6 address that `to_ipv6` returns. An address in a `Result` would be put together octet by octet.
@@ -90,10 +89,9 @@ impl<'a> AddressTable<'a> {
         ensures refused { RefusesExactly result (tables.to_ipv4_refusal self.now address.now) }
         ensures extracted { IfOk result (λ ipv4. ipv4 ≡ tables.extracted self.now address.now) }
     {
-        match self.mapping_of_ipv6(address) {
-            Some(mapping) => Ok(mapping.to_ipv4(u128::from_be_bytes(*address)).to_be_bytes()),
-            None => self.prefix.to_ipv4(address),
-        }
+        let mut ipv4 = [0; 4];
+        self.write_ipv4(address, &mut ipv4)?;
+        Ok(ipv4)
     }
 
     /// Writes the IPv4 address that `to_ipv4` returns.

@@ -173,10 +173,9 @@ impl Prefix64 {
         ensures refused { RefusesExactly result (specs.to_ipv6_refusal self.now ipv4) }
         ensures embedded { IfOk result (λ address. address ≡ specs.embedded self.now ipv4) }
     {
-        if self.is_excluded(ipv4) {
-            return Err(AddressError::NotGlobal);
-        }
-        Ok(self.embed(ipv4))
+        let mut address = [0; 16];
+        self.write_ipv6(ipv4, &mut address)?;
+        Ok(address)
     }
 
     /// Writes the IPv6 address that `to_ipv6` returns.
