@@ -1,1 +1,5 @@
+pub mod ChartLemmas
+pub mod CountingLemmas
 pub mod ReadingLemmas
+pub mod RowLemmas
+pub mod SpanLemmas

@@ -1,9 +1,12 @@
+pub mod Charts
 pub mod Choices
+pub mod Events
 pub mod Facts
 pub mod Heads
 pub mod Lines
 pub mod Pieces
 pub mod Reading
 pub mod Rows
+pub mod Spans
 pub mod Text
 pub mod Times

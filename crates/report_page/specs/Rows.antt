@@ -1,18 +1,20 @@
 -- The row of a packet: what the page keeps of it as numbers.
-use Rattle.std.specs.Prelude.{◌≡◌, ℕ, ◌<◌, List, [], ◌∷◌, ◌++◌, replicate, pos, Option, Some, None}
+use Rattle.std.specs.Prelude.{◌≡◌, ℕ, List, [], ◌∷◌, ◌++◌, replicate, Option, Some, None}
 use Rattle.std.specs.Net.Socket.{socket_port}
 use Rattle.ip_part.specs.Addresses.{Addresses, Ipv4, Ipv6, by_value}
 use Rattle.capture_packet.specs.declared.content.Content.{Content}
 use Rattle.capture_packet.specs.declared.content.Content.TheVariants as contents
 use Rattle.capture_packet.specs.declared.packet.Packet.{Packet}
 use Rattle.capture_packet.specs.declared.tunnel.Tunnel.{Tunnel}
+use Rattle.capture_summary.specs.Events.{event_of}
 use Rattle.capture_summary.specs.FlowOf.{IsFlowOf}
 use Rattle.capture_summary.specs.Kinds.{verdict_kind, verdict_place}
 use Rattle.capture_summary.specs.Protocols.{content_protocol, protocol_place}
 use Rattle.capture_summary.specs.declared.capture_info.CaptureInfo.{CaptureInfo}
-use Rattle.capture_summary.specs.declared.capture_info.FrameLen.{FrameLen}
 use Rattle.capture_summary.specs.declared.flow.Flow.{Flow}
+use Rattle.report_page.specs.Events.{event_in, no_event}
 use Rattle.report_page.specs.Times.{page_time, unknown}
+use Rattle.report_page.specs.declared.event.PageEvent.{PageEvent}
 use Rattle.report_page.specs.declared.row.PageRow.{PageRow}
 
 -- a row before anything is known about the packet
@@ -20,9 +22,7 @@ abbrev pub empty_row : PageRow
 empty_row = record {
   end = 0;
   time = unknown;
-  original_len = 0;
-  captured_len = 0;
-  has_len = 0;
+  event = no_event;
   verdict = 0;
   protocol = 0;
   version = 0;
@@ -34,11 +34,6 @@ empty_row = record {
   destination = replicate 16 0;
   in_tunnel = 0;
 }
-
--- a row with these lengths of a frame, if they are known
-abbrev pub with_len : Option FrameLen → PageRow
-with_len None = empty_row
-with_len (Some len) = record empty_row { original_len = len.original; captured_len = len.captured; has_len = 1 }
 
 -- an IPv4 address in 16 bytes
 abbrev pub ipv4_address : List ℕ → List ℕ
@@ -74,14 +69,20 @@ abbrev pub in_tunnel : List Tunnel → ℕ
 in_tunnel [] = 0
 in_tunnel (tunnel ∷ tunnels) = 1
 
--- This is the row of a packet. Its record or block ends at `end`, and `info` is what the capture states about it.
-abbrev pub IsRowOf : ℕ → CaptureInfo → Packet → PageRow → Type 0
-IsRowOf end info packet row =
-    let counted = record (with_len info.len) {
-      end = end;
-      time = page_time info.time;
-      verdict = verdict_place (verdict_kind packet.verdict);
-      protocol = protocol_place (content_protocol packet.content);
-      in_tunnel = in_tunnel packet.tunnels.items;
-    } in
-    AddsFlow (with_ends counted packet.content) packet.content row
+-- a row before the addresses and ports of the packet are added
+abbrev pub counted_row : ℕ → CaptureInfo → Packet → PageEvent → PageRow
+counted_row end info packet event = record empty_row {
+  end = end;
+  time = page_time info.time;
+  event = event;
+  verdict = verdict_place (verdict_kind packet.verdict);
+  protocol = protocol_place (content_protocol packet.content);
+  in_tunnel = in_tunnel packet.tunnels.items;
+}
+
+-- This is the row of a packet. Its record or block ends at `end`, and `info` is what the capture states about it. The numbers of the event
+-- state the packet as the timeline of the summary counts it.
+pub record IsRowOf (end : ℕ) (info : CaptureInfo) (packet : Packet) (row : PageRow) : Type 0 where
+  pub event : PageEvent
+  pub is_event : event_in event ≡ event_of (content_protocol packet.content) (verdict_kind packet.verdict) info
+  pub is_row : AddsFlow (with_ends (counted_row end info packet event) packet.content) packet.content row

@@ -10,14 +10,18 @@
 //! export has a precondition. A function that writes a text returns the length of the text, and writes nothing if the text does not fit.
 #![tactic(auto)]
 
+mod bins;
+mod chart;
 mod choice;
 mod end_text;
+mod event;
 mod facts;
 mod head;
 mod line;
 mod piece;
 mod row;
 mod rows;
+mod span;
 mod text;
 mod time;
 mod words;

@@ -3,9 +3,10 @@ ghost use Rattle.ip_part.specs.Addresses.{by_value};
 ghost use Rattle.report_page.specs.Rows.{IsRowOf, in_tunnel, ipv4_address, with_ends};
 ghost use Rattle.report_page.specs.Rows as specs;
 
+use crate::event::{NO_EVENT, PageEvent, page_event};
 use crate::time::{PageTime, UNKNOWN, page_time};
 use capture_packet::{Content, Packet, Tunnel};
-use capture_summary::{CaptureInfo, FrameLen, Protocol, VerdictKind, flow_of};
+use capture_summary::{CaptureInfo, Protocol, VerdictKind, flow_of};
 use ip_part::IpAddresses;
 
 /// A packet of a capture, as numbers.
@@ -16,12 +17,8 @@ pub struct PageRow {
     pub end: u64,
     /// The capture time.
     pub time: PageTime,
-    /// The original length of the frame in bytes, or 0 if it is not known.
-    pub original_len: u64,
-    /// The captured length of the frame in bytes, or 0 if it is not known.
-    pub captured_len: u64,
-    /// 1 if the lengths of the frame are known, otherwise 0.
-    pub has_len: u8,
+    /// The packet as the timeline counts it.
+    pub event: PageEvent,
     /// The place of the row in the table of checksums that the packet is counted in.
     pub verdict: u8,
     /// The place of the row in the table of protocols that the packet is counted in.
@@ -48,9 +45,7 @@ pub struct PageRow {
 const EMPTY: PageRow = PageRow {
     end: 0,
     time: UNKNOWN,
-    original_len: 0,
-    captured_len: 0,
-    has_len: 0,
+    event: NO_EVENT,
     verdict: 0,
     protocol: 0,
     version: 0,
@@ -74,10 +69,11 @@ pub(crate) fn row_of(end: u64, info: &CaptureInfo, packet: &Packet<'_>) -> PageR
     let row = PageRow {
         end,
         time: page_time(info.time),
+        event: page_event(protocol, verdict, info),
         verdict: verdict.place() as u8,
         protocol: protocol.place() as u8,
         in_tunnel: in_tunnel(packet.tunnels.as_slice()),
-        ..with_len(info.len)
+        ..EMPTY
     };
     with_flow(with_ends(row, &packet.content), packet)
 }
@@ -89,21 +85,6 @@ fn in_tunnel(tunnels: &[Tunnel<'_>]) -> u8
     match tunnels {
         [] => 0,
         _ => 1,
-    }
-}
-
-/// Returns a row with these lengths of a frame.
-fn with_len(len: Option<FrameLen>) -> PageRow
-    ensures { result ≡ specs.with_len len }
-{
-    match len {
-        Some(len) => PageRow {
-            original_len: len.original,
-            captured_len: len.captured,
-            has_len: 1,
-            ..EMPTY
-        },
-        None => EMPTY,
     }
 }
 
