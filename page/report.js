@@ -225,32 +225,44 @@ function svg(tag, attributes) {
     return made;
 }
 
+/** The parts that the heights are split into, from below. Packets without a fault are neither wrong nor refused. */
+const SERIES = { verdicts: ["faultless", "wrong", "refused"], protocols: ["udp", "tcp", "icmp", "other"] };
+const FAULTLESS_COLOUR = 3;
+const SECOND = 1e9;
+
+/** The number of packets or bytes of one part, for some counts of the reader. */
+function measured(counts, name, measure) {
+    return name === "faultless" ? counts.total[measure] - counts.wrong[measure] - counts.refused[measure] : counts[name][measure];
+}
+
 function showTimeline() {
-    const { timeline } = state.shown;
+    const { intervals } = state.shown.timeline;
     const [measure, split] = [find("measure").value, find("split").value];
-    const names = split === "verdicts" ? state.capture.verdicts : state.capture.protocols;
-    const series = timeline[split].filter((one) => one.packets.some((packets) => packets > 0));
-    const sums = Array.from({ length: timeline.intervals }, (_, at) => series.reduce((sum, one) => sum + one[measure][at], 0));
-    const greatest = Math.max(1, ...sums);
-    const step = CHART.width / timeline.intervals;
-    const below = new Array(timeline.intervals).fill(0);
-    const paths = series.map((one, order) => {
+    const words = { ...state.capture.series, faultless: state.capture.series.other };
+    const series = SERIES[split].filter((name) => intervals.some((counts) => measured(counts, name, "packets") > 0));
+    // A fault has the colour of its tile.
+    const colourOf = (name) => colour(split === "verdicts" ? groupsNamed(state.capture.verdicts, [words[name]])[0] ?? FAULTLESS_COLOUR : series.indexOf(name));
+    const greatest = Math.max(1, ...intervals.map((counts) => counts.total[measure]));
+    const step = CHART.width / Math.max(1, intervals.length);
+    const below = intervals.map(() => 0);
+    const paths = series.map((name) => {
         let path = "";
-        one[measure].forEach((value, at) => {
+        intervals.forEach((counts, at) => {
+            const value = measured(counts, name, measure);
             if (value === 0) return;
             const height = Math.max(0.5, value / greatest * (CHART.height - 6));
             path += `M${(at * step).toFixed(2)} ${(CHART.height - below[at]).toFixed(2)}h${Math.max(0.6, step - 0.4).toFixed(2)}v${(-height).toFixed(2)}h${(-Math.max(0.6, step - 0.4)).toFixed(2)}z`;
             below[at] += height;
         });
         const drawn = svg("path", { d: path });
-        drawn.style.fill = colour(split === "verdicts" ? one.group : order);
+        drawn.style.fill = colourOf(name);
         return drawn;
     });
     find("timeline").replaceChildren(...paths, svg("rect", { class: "range", y: 0, height: CHART.height }), handle("from"), handle("to"));
-    find("legend").replaceChildren(...series.map((one, order) => {
+    find("legend").replaceChildren(...series.map((name) => {
         const key = element("span", { className: "key" });
-        key.style.background = colour(split === "verdicts" ? one.group : order);
-        return element("span", {}, key, names[one.group]);
+        key.style.background = colourOf(name);
+        return element("span", {}, key, words[name]);
     }));
     placeRange(state.filter.from, state.filter.to);
 }
@@ -262,9 +274,21 @@ function handle(side) {
     return made;
 }
 
-const startOfTime = () => state.shown.timeline.start;
-const endOfTime = () => state.shown.timeline.start + state.shown.timeline.width * state.shown.timeline.intervals;
-const roundedTime = (seconds) => Number((Math.round(seconds / state.shown.timeline.width) * state.shown.timeline.width).toFixed(9));
+/** The time in seconds so many widths after the start of the chart, and back. */
+const timeAfter = (widths) => (state.shown.timeline.start + widths * state.shown.timeline.width) / SECOND;
+const widthsTo = (seconds) => (seconds * SECOND - state.shown.timeline.start) / state.shown.timeline.width;
+const startOfTime = () => timeAfter(0);
+/** Without packets the chart is one interval wide. */
+const endOfTime = () => timeAfter(Math.max(1, state.shown.timeline.intervals.length));
+const roundedTime = (seconds) => timeAfter(Math.round(widthsTo(seconds)));
+const widthInSeconds = () => state.shown.timeline.width / SECOND;
+
+/** What the chart does not show. */
+function apartText() {
+    const { older, untimed } = state.shown.timeline;
+    const parts = [[older, "older packets"], [untimed, "packets without a time"]].filter(([counts]) => counts.total.packets > 0);
+    return parts.map(([counts, words]) => `, ${thousands.format(counts.total.packets)} ${words}`).join("");
+}
 
 function placeRange(from = startOfTime(), to = endOfTime()) {
     const placeOf = (seconds) => (seconds - startOfTime()) / (endOfTime() - startOfTime()) * CHART.width;
@@ -282,13 +306,13 @@ function placeRange(from = startOfTime(), to = endOfTime()) {
         slider.setAttribute("aria-valuenow", value);
         slider.setAttribute("aria-valuetext", secondsText(value));
     }
-    find("range-text").textContent = `${secondsText(from)} to ${secondsText(to)} after the first packet, intervals of ${secondsText(state.shown.timeline.width)}`;
+    find("range-text").textContent = `${secondsText(from)} to ${secondsText(to)} after the first packet, intervals of ${secondsText(widthInSeconds())}${apartText()}`;
 }
 
 async function moveHandle(event, side) {
     const steps = { ArrowLeft: -1, ArrowDown: -1, ArrowRight: 1, ArrowUp: 1, PageDown: -10, PageUp: 10 };
     const [from, to] = [state.filter.from ?? startOfTime(), state.filter.to ?? endOfTime()];
-    const { width } = state.shown.timeline;
+    const width = widthInSeconds();
     let value = side === "from" ? from : to;
     if (event.key in steps) value += steps[event.key] * width;
     else if (event.key === "Home") value = startOfTime();
@@ -321,11 +345,9 @@ find("timeline").addEventListener("pointermove", (event) => {
 });
 find("timeline").addEventListener("pointerup", (event) => {
     if (drawn === undefined) return;
-    const { width } = state.shown.timeline;
-    const [low, high] = [Math.min(drawn, timeAt(event)), Math.max(drawn, timeAt(event))];
+    const [low, high] = [Math.min(drawn, timeAt(event)), Math.max(drawn, timeAt(event))].map(widthsTo);
     drawn = undefined;
-    const from = Number((Math.floor(low / width) * width).toFixed(9));
-    choose({ from, to: Math.max(roundedTime(from + width), Number((Math.ceil(high / width) * width).toFixed(9))) });
+    choose({ from: timeAfter(Math.floor(low)), to: timeAfter(Math.max(Math.floor(low) + 1, Math.ceil(high))) });
 });
 find("timeline").addEventListener("pointercancel", () => { drawn = undefined; });
 find("whole-range").addEventListener("click", wholeRange);

@@ -17,12 +17,17 @@ const ROWS = 4096;
 const MAX_PACKETS = 16_000_000;
 /** The rows and fields of the tables that the page shows. */
 const SHOWN = 100;
-const INTERVALS = 200;
+/** The most intervals of a timeline. */
+const MAX_INTERVALS = 256;
 
 // The structs of the reader: where their fields are, in bytes.
-const ROW = { size: 104, end: 0, time: 8, originalLen: 40, hasLen: 56, verdict: 57, protocol: 58, version: 59, hasDestination: 60,
-    hasFlow: 61, sourcePort: 62, destinationPort: 64, source: 66, destination: 82, inTunnel: 98 };
-const TIME = { size: 32, seconds: 0, fraction: 8, offset: 16, exponent: 24, isPowerOfTwo: 25, isKnown: 26 };
+const ROW = { size: 112, end: 0, time: 8, event: 40, verdict: 64, protocol: 65, version: 66, hasDestination: 67, hasFlow: 68,
+    sourcePort: 70, destinationPort: 72, source: 74, destination: 90, inTunnel: 106 };
+const TIME = { size: 32 };
+const EVENT = { size: 24, time: 0, hasTime: 12, len: 16 };
+/** Each count has its number of packets, and then its number of bytes. */
+const COUNTS = { size: 112, total: 0, udp: 16, tcp: 32, icmp: 48, other: 64, wrong: 80, refused: 96 };
+const TIMELINE = { size: 272, start: 0, width: 16, count: 32, older: 40, untimed: 152, hasStart: 264 };
 const END = { size: 40, count: 0, offset: 8, requiredLen: 16, len: 24, status: 32, isPcapng: 36 };
 const LINE = { size: 48, number: 0, first: 8, isAbsolute: 40, isVerbose: 41, opensUdpTunnels: 42 };
 const CHOICE = { size: 22, host: 0, version: 16, hasPort: 17, port: 18, opensUdpTunnels: 20 };
@@ -34,12 +39,13 @@ const CLASSIC_HEAD_LEN = 24;
 
 // ---- the module
 
-let calls, memory, bytes, view;
+let calls, memory, bytes, words, view;
 /** Places in the memory. The piece is the last, since it grows. */
 const place = {};
 
 function setViews() {
     bytes = new Uint8Array(memory.buffer);
+    words = new Uint32Array(memory.buffer);
     view = new DataView(memory.buffer);
 }
 
@@ -61,7 +67,8 @@ async function load(module) {
     calls = instance.exports;
     memory = calls.memory;
     let next = Math.ceil(memory.buffer.byteLength / 65536) * 65536;
-    const sizes = { rows: ROWS * ROW.size, end: 64, line: 64, cut: 64, choice: 64, text: TEXT_LEN, buffer: PACKET_LEN, head: HEAD_LEN, piece: 0 };
+    const sizes = { rows: ROWS * ROW.size, end: 64, line: 64, cut: 64, choice: 64, timeline: TIMELINE.size,
+        intervals: MAX_INTERVALS * COUNTS.size, text: TEXT_LEN, buffer: PACKET_LEN, head: HEAD_LEN, piece: 0 };
     for (const [name, size] of Object.entries(sizes)) {
         place[name] = next;
         next += Math.ceil(size / 64) * 64;
@@ -71,7 +78,10 @@ async function load(module) {
 }
 
 const number64 = (at) => view.getUint32(at + 4, true) * 0x100000000 + view.getUint32(at, true);
-const signed64 = (at) => view.getInt32(at + 4, true) * 0x100000000 + view.getUint32(at, true);
+/** A time has 96 bits: three words, the lowest first. */
+const timeAt = (at) => [0, 1, 2].map((word) => words[at / 4 + word]);
+/** The number of nanoseconds from one time to another. It is exact below 2^53. */
+const nanosecondsBetween = (first, time) => (time[2] - first[2]) * 2 ** 64 + (time[1] - first[1]) * 2 ** 32 + (time[0] - first[0]);
 
 /** The text that a call wrote: it returned this length. */
 function takeText(len) {
@@ -81,10 +91,11 @@ function takeText(len) {
 
 // ---- what is kept of a capture
 
-/** The numbers that are kept of each packet. */
+/** The numbers that are kept of each packet. The event, as the timeline counts it, has several words. */
 const COLUMNS = { start: Float64Array, size: Uint32Array, head: Uint32Array, time: Float64Array, len: Uint32Array, verdict: Uint8Array,
     protocol: Uint8Array, source: Uint32Array, destination: Uint32Array, sourcePort: Uint16Array, destinationPort: Uint16Array,
-    conversation: Uint32Array, inTunnel: Uint8Array };
+    conversation: Uint32Array, inTunnel: Uint8Array, event: Uint32Array };
+const EVENT_WORDS = EVENT.size / 4;
 
 let capture;
 
@@ -144,17 +155,15 @@ class Capture {
         return id;
     }
 
-    /** Seconds since the first packet with a time, for the chart and for ranges. NaN if the time is not known. */
-    secondsAt(at) {
-        if (bytes[at + TIME.isKnown] === 0) return NaN;
-        const seconds = number64(at + TIME.seconds) + signed64(at + TIME.offset);
-        const units = (bytes[at + TIME.isPowerOfTwo] ? 2 : 10) ** bytes[at + TIME.exponent];
-        const fraction = number64(at + TIME.fraction) / units;
+    /** Nanoseconds from the first packet with a time to the packet of the row at this place, for ranges. NaN if its time is not known. */
+    nanosecondsTo(at) {
+        if (bytes[at + ROW.event + EVENT.hasTime] === 0) return NaN;
+        const time = timeAt(at + ROW.event + EVENT.time);
         if (this.first === undefined) {
-            this.first = { raw: bytes.slice(at, at + TIME.size), seconds, fraction };
+            this.first = { raw: bytes.slice(at + ROW.time, at + ROW.time + TIME.size), time };
             this.firstAt = this.count;
         }
-        return seconds - this.first.seconds + (fraction - this.first.fraction);
+        return nanosecondsBetween(this.first.time, time);
     }
 
     /** Keeps the row at this place. Its packet begins after `start` bytes of the file, and has `size` bytes there. */
@@ -171,8 +180,9 @@ class Capture {
         values.start[row] = start;
         values.size[row] = size;
         values.head[row] = this.head;
-        values.time[row] = this.secondsAt(at + ROW.time);
-        values.len[row] = bytes[at + ROW.hasLen] ? Math.min(number64(at + ROW.originalLen), 0xffffffff) : 0;
+        values.time[row] = this.nanosecondsTo(at);
+        values.len[row] = number64(at + ROW.event + EVENT.len);
+        for (let word = 0; word < EVENT_WORDS; word += 1) values.event[row * EVENT_WORDS + word] = words[(at + ROW.event) / 4 + word];
         values.verdict[row] = bytes[at + ROW.verdict];
         values.protocol[row] = protocol;
         values.source[row] = source;
@@ -187,7 +197,7 @@ class Capture {
     grow() {
         this.room = Math.min(MAX_PACKETS, Math.max(65536, this.room * 2));
         for (const [field, Type] of Object.entries(COLUMNS)) {
-            const grown = new Type(this.room);
+            const grown = new Type(this.room * (field === "event" ? EVENT_WORDS : 1));
             if (this.values[field]) grown.set(this.values[field]);
             this.values[field] = grown;
         }
@@ -428,7 +438,7 @@ async function open({ file, options }) {
     const named = (names) => Object.fromEntries(names);
     return {
         name: file.name, size: file.size, count: capture.count, facts: capture.facts, error: capture.error, memory: capture.memory(),
-        verdicts: named(capture.verdicts), protocols: named(capture.protocols), hasTimes: capture.first !== undefined,
+        verdicts: named(capture.verdicts), protocols: named(capture.protocols), series: seriesWords(), hasTimes: capture.first !== undefined,
         decompressor, options, isShort: capture.isShort,
     };
 }
@@ -518,10 +528,10 @@ function putPiece(row, record) {
     return [putHead(place.piece + HEAD_LEN, head), head.length + record.length];
 }
 
-/** The condition that the range of times of a filter sets: a function of a row. */
+/** The condition that the range of times of a filter sets, in seconds: a function of a row. */
 function timeCondition(filter) {
     const { time } = capture.values;
-    const [from, to] = [filter.from ?? -Infinity, filter.to ?? Infinity];
+    const [from, to] = [filter.from ?? -Infinity, filter.to ?? Infinity].map((seconds) => Math.round(seconds * 1e9));
     const hasRange = filter.from !== undefined || filter.to !== undefined;
     return (row) => !hasRange || (time[row] >= from && time[row] < to);
 }
@@ -534,22 +544,34 @@ async function count({ filter }) {
     return total;
 }
 
-/** The first and the last time of a packet, in seconds since the first packet. */
-function timeRange() {
-    const { time } = capture.values;
-    let [least, greatest] = [0, 0];
-    for (let row = 0; row < capture.count; row += 1) {
-        if (time[row] < least) least = time[row];
-        if (time[row] > greatest) greatest = time[row];
-    }
-    return [least, greatest];
+/** The counts at this place, each by its name. */
+function countsAt(at) {
+    const { size, ...places } = COUNTS;
+    return Object.fromEntries(Object.entries(places).map(([name, place]) => [name, { packets: number64(at + place), bytes: number64(at + place + 8) }]));
 }
 
-/** The least width of 1, 2 or 5 times a power of ten for which at most INTERVALS intervals are enough. */
-function intervalWidth(duration) {
-    let width = 1e-9;
-    for (let step = 0; width * INTERVALS <= duration; step += 1) width = [1, 2, 5][(step + 1) % 3] * 10 ** (Math.floor((step + 1) / 3) - 9);
-    return width;
+/** The timeline of these packets, as the reader counts it. Its start is in nanoseconds since the first packet with a time. */
+function timelineOf(rows) {
+    const { event } = capture.values;
+    growTo(place.piece + rows.length * EVENT.size);
+    rows.forEach((row, at) => {
+        for (let word = 0; word < EVENT_WORDS; word += 1) words[place.piece / 4 + at * EVENT_WORDS + word] = event[row * EVENT_WORDS + word];
+    });
+    calls.report_page_timeline(BigInt(place.piece), BigInt(rows.length), BigInt(place.timeline), BigInt(place.intervals));
+    const hasStart = number64(place.timeline + TIMELINE.hasStart) === 1;
+    return {
+        start: hasStart ? nanosecondsBetween(capture.first.time, timeAt(place.timeline + TIMELINE.start)) : 0,
+        width: nanosecondsBetween([0, 0, 0], timeAt(place.timeline + TIMELINE.width)),
+        intervals: Array.from({ length: number64(place.timeline + TIMELINE.count) }, (_, at) => countsAt(place.intervals + at * COUNTS.size)),
+        older: countsAt(place.timeline + TIMELINE.older),
+        untimed: countsAt(place.timeline + TIMELINE.untimed),
+    };
+}
+
+/** The words for the counts of a timeline. */
+function seriesWords() {
+    const [udp, tcp, icmp, other, wrong, refused] = takeText(calls.report_page_series(BigInt(place.text), BigInt(TEXT_LEN))).split("\n");
+    return { udp, tcp, icmp, other, wrong, refused };
 }
 
 class Counts {
@@ -574,24 +596,16 @@ const GROUPS = 256;
 
 async function show({ filter, sorts }) {
     const { count } = capture;
-    const { time, len, verdict, protocol, source, destination, conversation } = capture.values;
+    const { len, verdict, protocol, source, destination, conversation } = capture.values;
     const [isMet, isInRange] = [await conditionOf(filter), timeCondition(filter)];
-    const [least, greatest] = timeRange();
-    const width = intervalWidth(greatest - least);
-    const origin = Math.floor(least / width);
-    const intervals = Math.floor(greatest / width) - origin + 1;
-    const [byVerdict, byProtocol] = [new Counts(GROUPS * intervals), new Counts(GROUPS * intervals)];
     const [verdicts, protocols, conversations] = [new Counts(GROUPS), new Counts(GROUPS), new Counts(capture.conversations.length)];
     const endpoints = new Counts(capture.addresses.length);
-    const chosen = new Uint32Array(count);
-    let [total, totalBytes] = [0, 0];
+    const [met, chosen] = [new Uint32Array(count), new Uint32Array(count)];
+    let [metCount, total, totalBytes] = [0, 0, 0];
     for (let row = 0; row < count; row += 1) {
         if (!isMet(row)) continue;
-        const interval = Math.floor(time[row] / width) - origin;
-        if (interval >= 0) {
-            byVerdict.add(verdict[row] * intervals + interval, len[row]);
-            byProtocol.add(protocol[row] * intervals + interval, len[row]);
-        }
+        met[metCount] = row;
+        metCount += 1;
         if (!isInRange(row)) continue;
         chosen[total] = row;
         total += 1;
@@ -606,9 +620,6 @@ async function show({ filter, sorts }) {
     const tableOf = (counts, field, from, rowOf) =>
         counts.ranked(field, from, SHOWN).map((at) => ({ ...rowOf(at), packets: counts.packets[at], bytes: counts.bytes[at] }));
     const end = (address, port) => (capture.addresses[address].includes(":") ? `[${capture.addresses[address]}]:${port}` : `${capture.addresses[address]}:${port}`);
-    const seriesOf = (counts, names) => [...names.keys()].sort((one, other) => one - other).map((group) => ({
-        group, packets: counts.packets.slice(group * intervals, (group + 1) * intervals), bytes: counts.bytes.slice(group * intervals, (group + 1) * intervals),
-    }));
     return {
         total, totalBytes, all: count,
         verdicts: tableOf(verdicts, "packets", 0, (at) => ({ group: at })),
@@ -621,7 +632,7 @@ async function show({ filter, sorts }) {
         endpoints: tableOf(endpoints, sorts.endpoints, 1, (at) => ({ host: capture.addresses[at], name: capture.addresses[at] })),
         conversationCount: conversations.packets.reduce((sum, packets) => sum + (packets > 0), 0),
         endpointCount: endpoints.packets.reduce((sum, packets) => sum + (packets > 0), 0),
-        timeline: { width, start: origin * width, intervals, verdicts: seriesOf(byVerdict, capture.verdicts), protocols: seriesOf(byProtocol, capture.protocols) },
+        timeline: timelineOf(met.subarray(0, metCount)),
     };
 }
 

@@ -5,11 +5,12 @@
 
 PAGE is the file capture_report.html. Screenshots go to FOLDER. A browser that is missing is left out, which a line says. What the page
 shows has to be what the program writes: the stored run of crates/capture_report, and a run of the program on each further capture if `rt ci`
-left the program. The page is opened as a file, and from a plain web server. The last line is 'N passed, N failed'.
+left the program. The chart has to have the numbers of the timeline that the program writes as JSON. The page is opened as a file, and from a plain web server. The last line is 'N passed, N failed'.
 """
 import base64
 import contextlib
 import gzip
+import json
 import os
 import pathlib
 import random
@@ -123,11 +124,51 @@ def stored_lines(name):
     return next(part.split("\n", 1)[1] + "\n" for part in parts if part.startswith(f"==> {name} <=="))
 
 
+def program_timeline(data, *options):
+    """The member `timeline` of the summary that the program writes. None if there is no program, or it writes no summary."""
+    if PROGRAM.is_stale():
+        return None
+    lines = PROGRAM.run(data, "--json", "--summary", *options).stdout.splitlines()
+    return json.loads(lines[-1])["timeline"] if lines else None
+
+
+def nanoseconds_of(timeline, name):
+    return timeline[f"{name}_seconds"] * 10**9 + timeline[f"{name}_nanoseconds"]
+
+
+def check_timeline(page, what, data, *options):
+    """The chart has the numbers of the program's timeline with these options."""
+    whole, stated = program_timeline(data), program_timeline(data, *options)
+    if stated is None:
+        return
+    shown = json.loads(page.value("JSON.stringify(state.shown.timeline)"))
+    start = 0 if stated["start"] is None else nanoseconds_of(stated, "start") - nanoseconds_of(whole, "start")
+    page.expect(f"{what}: start of the timeline", shown["start"], start)
+    page.expect(f"{what}: width of the intervals", shown["width"], nanoseconds_of(stated, "interval"))
+    found = [{**counts.pop("total"), **counts} for counts in (*shown["intervals"], shown["older"], shown["untimed"])]
+    page.expect(f"{what}: counts of the timeline", found, [*stated["intervals"], stated["older"], stated["untimed"]])
+
+
+def check_chart(page):
+    """What the chart draws: a path and a word for each part that has packets, with the heights of its numbers."""
+    for split, names in (("protocols", ["UDP", "TCP", "ICMP", "other"]), ("verdicts", ["other", "wrong", "refused"])):
+        for measure in ("packets", "bytes"):
+            for field, value in (("split", split), ("measure", measure)):
+                page.browser.run(f"{PAGE}find(arguments[0]).value = arguments[1]; find(arguments[0]).dispatchEvent(new Event('change'));", field, value)
+            page.expect(f"{split}: words", page.value("[...find('legend').children].map((part) => part.textContent)"), names)
+            tops = page.value("[...find('timeline').querySelectorAll('path')].map((path) => path.getBBox()).map(({ y }) => y)")
+            page.expect(f"{split}, {measure}: paths", len(tops), len(names))
+            # The highest interval fills the chart, except for a margin of 6.
+            page.expect(f"{split}, {measure}: height", abs(min(tops) - 6) < 1, True)
+
+
 def check_stored(page, folder):
     data = {"-": (STORED / "stdin").read_bytes(), "every_row.pcapng": (STORED / "data" / "every_row.pcapng").read_bytes()}
     for name, capture in data.items():
         page.expect(f"{name}: error", page.open(capture, name), "")
         page.expect(f"{name}: lines", page.lines(), stored_lines(name))
+        check_timeline(page, name, capture)
+        check_chart(page)
     page.screenshot(folder, "every_row")
     page.expect("the compressed capture", (page.open(gzip.compress(data["-"])), page.lines()), ("", stored_lines("-")))
     page.check_faults("after the stored captures")
@@ -154,6 +195,7 @@ def check_captures(page):
         stated = program_lines(data)
         if stated:
             page.expect(f"{name}: lines", page.lines(), stated[0])
+        check_timeline(page, name, data)
     page.check_faults("after the built captures")
     return captures
 
@@ -171,6 +213,8 @@ def check_mutants(page, captures):
         stated = program_lines(data)
         if stated:
             page.expect(f"mutant {number}: error", error, stated[1])
+        if not page.value("find('report').hidden"):
+            check_timeline(page, f"mutant {number}", data)
     page.check_faults("after mutants")
 
 
@@ -225,6 +269,8 @@ def check_commands(page, folder):
             found = stated.splitlines(keepends=True)
             page.expect(f"{fields}: lines", "".join(line for line in found if others == 0 or int(line.split()[0]) in numbers), lines)
             page.expect(f"{fields}: number of lines", len(found), len(numbers) + others)
+        if options and "--wrong" not in options and "from" not in fields:
+            check_timeline(page, fields, data, *options)
     page.screenshot(folder, "command")
 
 
