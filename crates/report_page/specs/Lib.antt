@@ -1,5 +1,6 @@
 pub mod Charts
 pub mod Choices
+pub mod EndTexts
 pub mod Events
 pub mod Facts
 pub mod Heads

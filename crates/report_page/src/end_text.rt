@@ -1,3 +1,8 @@
+ghost use Rattle.std.specs.Prelude.{◌≡◌, IfSome, length};
+ghost use Rattle.report_page.specs.EndTexts as specs;
+ghost use Rattle.report_page.specs.EndTexts.{IsRefused, cut_off_text, moved};
+ghost use Rattle.report_page.specs.Text.{WritesText};
+
 use crate::piece::first_item;
 use crate::text::{Text, put};
 use capture_file::reader::{CaptureReader, NextPacket, PlacedPacketError};
@@ -37,7 +42,9 @@ pub extern "C" fn report_page_refusal(
     buffer: &mut [u8],
     place: &PagePlace,
     text: &mut [u8],
-) -> usize {
+) -> usize
+    ensures { WritesText (λ words. IsRefused piece.now (length buffer.old)) text.old text.new result }
+{
     let mut input = piece;
     match CaptureReader::read_header(&mut input, buffer) {
         Ok(Ok(_)) => put_refused(piece, buffer, place, text),
@@ -49,7 +56,19 @@ pub extern "C" fn report_page_refusal(
 /// Writes the text of the error for a capture that ends within a record or block to `text`, and returns its length. It is the text that the
 /// program prints after the name of the capture. If the text is longer than `text`, nothing is written.
 #[unsafe(no_mangle)]
-pub extern "C" fn report_page_cut_off(cut: &PageCut, text: &mut [u8]) -> usize {
+pub extern "C" fn report_page_cut_off(cut: &PageCut, text: &mut [u8]) -> usize
+    ensures { WritesText (λ words. words ≡ cut_off_text cut.now) text.old text.new result }
+{
+    match cut_off_text(cut) {
+        Some(words) => put(words.as_slice(), text),
+        None => 0,
+    }
+}
+
+/// Returns the text for a capture that ends within a record or block, or `None` if the text has no room.
+fn cut_off_text(cut: &PageCut) -> Option<Text>
+    ensures { IfSome result (λ words. words.items ≡ cut_off_text cut.now) }
+{
     let PageCut {
         number,
         offset,
@@ -62,13 +81,15 @@ pub extern "C" fn report_page_cut_off(cut: &PageCut, text: &mut [u8]) -> usize {
         "At byte {offset} of the capture, in or before packet {number}: The record or block has at least {required_len} bytes, and {len} are left."
     );
     match written {
-        Ok(()) => put(words.as_slice(), text),
-        Err(_) => 0,
+        Ok(()) => Some(words),
+        Err(_) => None,
     }
 }
 
 /// Writes the text of an error to `text`, and returns its length.
-fn put_error<E: Display>(error: &E, text: &mut [u8]) -> usize {
+fn put_error<E: Display>(error: &E, text: &mut [u8]) -> usize
+    ensures { WritesText (λ words. Unit {0}) text.old text.new result }
+{
     let mut words = Text::new();
     match write!(words, "{error}") {
         Ok(()) => put(words.as_slice(), text),
@@ -77,7 +98,9 @@ fn put_error<E: Display>(error: &E, text: &mut [u8]) -> usize {
 }
 
 /// Writes the text of the error that refuses the first item of a piece to `text`, and returns its length. Returns 0 if it is not refused.
-fn put_refused(piece: &[u8], buffer: &mut [u8], place: &PagePlace, text: &mut [u8]) -> usize {
+fn put_refused(piece: &[u8], buffer: &mut [u8], place: &PagePlace, text: &mut [u8]) -> usize
+    ensures { WritesText (λ words. IsRefused piece.now (length buffer.old)) text.old text.new result }
+{
     match first_item(piece, buffer) {
         Some((_, NextPacket::Refused(refused))) => put_error(&moved(refused, place), text),
         _ => 0,
@@ -85,7 +108,9 @@ fn put_refused(piece: &[u8], buffer: &mut [u8], place: &PagePlace, text: &mut [u
 }
 
 /// Returns an error with its place in the file, for an error with its place in the piece.
-fn moved(refused: PlacedPacketError, place: &PagePlace) -> PlacedPacketError {
+fn moved(refused: PlacedPacketError, place: &PagePlace) -> PlacedPacketError
+    ensures { result ≡ moved place.now refused }
+{
     let behind_head = refused.offset.saturating_sub(place.head_len);
     PlacedPacketError {
         offset: place.offset.saturating_add(behind_head),
