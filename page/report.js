@@ -283,11 +283,12 @@ const endOfTime = () => timeAfter(Math.max(1, state.shown.timeline.intervals.len
 const roundedTime = (seconds) => timeAfter(Math.round(widthsTo(seconds)));
 const widthInSeconds = () => state.shown.timeline.width / SECOND;
 
-/** What the chart does not show. */
+/** How many packets are in no interval. */
 function apartText() {
     const { older, untimed } = state.shown.timeline;
-    const parts = [[older, "older packets"], [untimed, "packets without a time"]].filter(([counts]) => counts.total.packets > 0);
-    return parts.map(([counts, words]) => `, ${thousands.format(counts.total.packets)} ${words}`).join("");
+    const parts = [[older, "older"], [untimed, "without a time"]].filter(([counts]) => counts.total.packets > 0);
+    if (parts.length === 0) return "";
+    return `; not in the chart: ${parts.map(([counts, words]) => `${thousands.format(counts.total.packets)} ${words}`).join(", ")}`;
 }
 
 function placeRange(from = startOfTime(), to = endOfTime()) {

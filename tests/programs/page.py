@@ -41,6 +41,11 @@ open(new File([bytes], name)).then(() => done(document.getElementById("error").t
 LINES = """const done = arguments[1];
 ask("show", { filter: state.filter, sorts }).then(({ total }) => ask("lines", { from: 0, to: total, options: arguments[0] }))
     .then((lines) => done(lines.map(({ line }) => line).join("")), (reason) => done("fault: " + reason));"""
+# How many packets a range selects that is one interval of the chart, for each interval.
+RANGES = """const done = arguments[0];
+const { start, width, intervals } = state.shown.timeline;
+const ranges = Array.from({ length: intervals.length }, (_, at) => ({ from: (start + at * width) / 1e9, to: (start + (at + 1) * width) / 1e9 }));
+Promise.all(ranges.map((filter) => ask("count", { filter }))).then(done, (reason) => done("fault: " + reason));"""
 FILL = """for (const field of find("filter").querySelectorAll("input, select")) {
     const text = arguments[0][field.id];
     if (field.tagName === "SELECT") field.value = text === undefined ? "" : [...field.options].find((option) => option.textContent === text).value;
@@ -147,19 +152,22 @@ def check_timeline(page, what, data, *options):
     page.expect(f"{what}: width of the intervals", shown["width"], nanoseconds_of(stated, "interval"))
     found = [{**counts.pop("total"), **counts} for counts in (*shown["intervals"], shown["older"], shown["untimed"])]
     page.expect(f"{what}: counts of the timeline", found, [*stated["intervals"], stated["older"], stated["untimed"]])
+    apart = [f"{stated[name]['packets']} {words}" for name, words in (("older", "older"), ("untimed", "without a time")) if stated[name]["packets"]]
+    text = page.value("find('range-text').textContent.split('; not in the chart: ')[1] ?? ''")
+    page.expect(f"{what}: packets that are not in the chart", text, ", ".join(apart))
 
 
 def check_chart(page):
     """What the chart draws: a path and a word for each part that has packets, with the heights of its numbers."""
     for split, names in (("protocols", ["UDP", "TCP", "ICMP", "other"]), ("verdicts", ["other", "wrong", "refused"])):
-        for measure in ("packets", "bytes"):
+        for measure in ("bytes", "packets"):
             for field, value in (("split", split), ("measure", measure)):
                 page.browser.run(f"{PAGE}find(arguments[0]).value = arguments[1]; find(arguments[0]).dispatchEvent(new Event('change'));", field, value)
             page.expect(f"{split}: words", page.value("[...find('legend').children].map((part) => part.textContent)"), names)
             tops = page.value("[...find('timeline').querySelectorAll('path')].map((path) => path.getBBox()).map(({ y }) => y)")
             page.expect(f"{split}, {measure}: paths", len(tops), len(names))
             # The highest interval fills the chart, except for a margin of 6.
-            page.expect(f"{split}, {measure}: height", abs(min(tops) - 6) < 1, True)
+            page.expect(f"{split}, {measure}: height", abs(min(tops) - 6) < 2, True)
 
 
 def check_stored(page, folder):
@@ -169,6 +177,8 @@ def check_stored(page, folder):
         page.expect(f"{name}: lines", page.lines(), stored_lines(name))
         check_timeline(page, name, capture)
         check_chart(page)
+        totals = page.value("[...state.shown.timeline.intervals].map((counts) => counts.total.packets)")
+        page.expect(f"{name}: packets in the range of each interval", page.browser.run_async(PAGE + RANGES), totals)
     page.screenshot(folder, "every_row")
     page.expect("the compressed capture", (page.open(gzip.compress(data["-"])), page.lines()), ("", stored_lines("-")))
     page.check_faults("after the stored captures")
