@@ -1,5 +1,4 @@
 ghost use Rattle.std.specs.Prelude.{◌≡◌, IfSome, length};
-ghost use Rattle.report_page.specs.EndTexts as specs;
 ghost use Rattle.report_page.specs.EndTexts.{IsRefused, cut_off_text, moved};
 ghost use Rattle.report_page.specs.Text.{WritesText};
 

@@ -1,6 +1,6 @@
 //! The times that the bins of a timeline have to reach.
 
-ghost use Rattle.std.specs.Prelude.{◌≡◌, ◌<◌, ◌≤◌, ◌^◌, ◌∷◌, ◌++◌, [], List, IfSome, map};
+ghost use Rattle.std.specs.Prelude.{◌≡◌, ◌<◌, ◌^◌, ◌∷◌, ◌++◌, [], List, IfSome, map};
 ghost use Rattle.report_page.specs.Events.{event_in};
 ghost use Rattle.report_page.specs.Spans.{IsSpanOf, IsUnitFor};
 ghost use Rattle.timeline.specs.declared.event.Event.{Event as PacketEvent};
