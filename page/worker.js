@@ -432,6 +432,8 @@ async function open({ file, options }) {
     capture = new Capture(file.name, await sourceOf(file, decompressor), options);
     try {
         await readCapture();
+        // Room for the events of all packets, for the timeline.
+        growTo(place.piece + capture.count * EVENT.size);
     } catch (reason) {
         capture.error = String(reason.message ?? reason);
     }
