@@ -241,7 +241,10 @@ function showTimeline() {
     const words = { ...state.capture.series, faultless: state.capture.series.other };
     const series = SERIES[split].filter((name) => intervals.some((counts) => measured(counts, name, "packets") > 0));
     // A fault has the colour of its tile.
-    const colourOf = (name) => colour(split === "verdicts" ? groupsNamed(state.capture.verdicts, [words[name]])[0] ?? FAULTLESS_COLOUR : series.indexOf(name));
+    const colourOf = (name) => {
+        if (split === "protocols") return colour(series.indexOf(name));
+        return colour(groupsNamed(state.capture.verdicts, [words[name]])[0] ?? FAULTLESS_COLOUR);
+    };
     const greatest = Math.max(1, ...intervals.map((counts) => counts.total[measure]));
     const step = CHART.width / Math.max(1, intervals.length);
     const below = intervals.map(() => 0);
@@ -307,7 +310,8 @@ function placeRange(from = startOfTime(), to = endOfTime()) {
         slider.setAttribute("aria-valuenow", value);
         slider.setAttribute("aria-valuetext", secondsText(value));
     }
-    find("range-text").textContent = `${secondsText(from)} to ${secondsText(to)} after the first packet, intervals of ${secondsText(widthInSeconds())}${apartText()}`;
+    find("range-text").textContent =
+        `${secondsText(from)} to ${secondsText(to)} after the first packet, intervals of ${secondsText(widthInSeconds())}${apartText()}`;
 }
 
 async function moveHandle(event, side) {

@@ -440,8 +440,8 @@ async function open({ file, options }) {
     const named = (names) => Object.fromEntries(names);
     return {
         name: file.name, size: file.size, count: capture.count, facts: capture.facts, error: capture.error, memory: capture.memory(),
-        verdicts: named(capture.verdicts), protocols: named(capture.protocols), series: seriesWords(), hasTimes: capture.first !== undefined,
-        decompressor, options, isShort: capture.isShort,
+        verdicts: named(capture.verdicts), protocols: named(capture.protocols), series: seriesWords(),
+        hasTimes: capture.first !== undefined, decompressor, options, isShort: capture.isShort,
     };
 }
 
@@ -549,22 +549,26 @@ async function count({ filter }) {
 /** The counts at this place, each by its name. */
 function countsAt(at) {
     const { size, ...places } = COUNTS;
-    return Object.fromEntries(Object.entries(places).map(([name, place]) => [name, { packets: number64(at + place), bytes: number64(at + place + 8) }]));
+    const countAt = (place) => ({ packets: number64(place), bytes: number64(place + 8) });
+    return Object.fromEntries(Object.entries(places).map(([name, start]) => [name, countAt(at + start)]));
 }
 
 /** The timeline of these packets, as the reader counts it. Its start is in nanoseconds since the first packet with a time. */
 function timelineOf(rows) {
     const { event } = capture.values;
     growTo(place.piece + rows.length * EVENT.size);
-    rows.forEach((row, at) => {
-        for (let word = 0; word < EVENT_WORDS; word += 1) words[place.piece / 4 + at * EVENT_WORDS + word] = event[row * EVENT_WORDS + word];
-    });
+    let to = place.piece / 4;
+    for (const row of rows) {
+        for (let word = 0; word < EVENT_WORDS; word += 1) words[to + word] = event[row * EVENT_WORDS + word];
+        to += EVENT_WORDS;
+    }
     calls.report_page_timeline(BigInt(place.piece), BigInt(rows.length), BigInt(place.timeline), BigInt(place.intervals));
     const hasStart = number64(place.timeline + TIMELINE.hasStart) === 1;
+    const count = number64(place.timeline + TIMELINE.count);
     return {
         start: hasStart ? nanosecondsBetween(capture.first.time, timeAt(place.timeline + TIMELINE.start)) : 0,
         width: nanosecondsBetween([0, 0, 0], timeAt(place.timeline + TIMELINE.width)),
-        intervals: Array.from({ length: number64(place.timeline + TIMELINE.count) }, (_, at) => countsAt(place.intervals + at * COUNTS.size)),
+        intervals: Array.from({ length: count }, (_, at) => countsAt(place.intervals + at * COUNTS.size)),
         older: countsAt(place.timeline + TIMELINE.older),
         untimed: countsAt(place.timeline + TIMELINE.untimed),
     };

@@ -5,7 +5,8 @@
 
 PAGE is the file capture_report.html. Screenshots go to FOLDER. A browser that is missing is left out, which a line says. What the page
 shows has to be what the program writes: the stored run of crates/capture_report, and a run of the program on each further capture if `rt ci`
-left the program. The chart has to have the numbers of the timeline that the program writes as JSON. The page is opened as a file, and from a plain web server. The last line is 'N passed, N failed'.
+left the program. The chart has to have the numbers of the timeline that the program writes as JSON. The page is opened as a file, and from
+a plain web server. The last line is 'N passed, N failed'.
 """
 import base64
 import contextlib
@@ -44,8 +45,10 @@ ask("show", { filter: state.filter, sorts }).then(({ total }) => ask("lines", { 
 # How many packets a range selects that is one interval of the chart, for each interval.
 RANGES = """const done = arguments[0];
 const { start, width, intervals } = state.shown.timeline;
-const ranges = Array.from({ length: intervals.length }, (_, at) => ({ from: (start + at * width) / 1e9, to: (start + (at + 1) * width) / 1e9 }));
+const secondsTo = (at) => (start + at * width) / 1e9;
+const ranges = Array.from({ length: intervals.length }, (_, at) => ({ from: secondsTo(at), to: secondsTo(at + 1) }));
 Promise.all(ranges.map((filter) => ask("count", { filter }))).then(done, (reason) => done("fault: " + reason));"""
+SET = "find(arguments[0]).value = arguments[1]; find(arguments[0]).dispatchEvent(new Event('change'));"
 FILL = """for (const field of find("filter").querySelectorAll("input, select")) {
     const text = arguments[0][field.id];
     if (field.tagName === "SELECT") field.value = text === undefined ? "" : [...field.options].find((option) => option.textContent === text).value;
@@ -153,7 +156,8 @@ def check_timeline(page, what, data, *options):
     page.expect(f"{what}: width of the intervals", shown["width"], nanoseconds_of(stated, "interval"))
     found = [{**counts.pop("total"), **counts} for counts in (*shown["intervals"], shown["older"], shown["untimed"])]
     page.expect(f"{what}: counts of the timeline", found, [*stated["intervals"], stated["older"], stated["untimed"]])
-    apart = [f"{stated[name]['packets']} {words}" for name, words in (("older", "older"), ("untimed", "without a time")) if stated[name]["packets"]]
+    names = (("older", "older"), ("untimed", "without a time"))
+    apart = [f"{stated[name]['packets']} {words}" for name, words in names if stated[name]["packets"]]
     text = page.value("find('range-text').textContent.split('; not in the chart: ')[1] ?? ''")
     page.expect(f"{what}: packets that are not in the chart", text, ", ".join(apart))
 
@@ -163,7 +167,7 @@ def check_chart(page):
     for split, names in (("protocols", ["UDP", "TCP", "ICMP", "other"]), ("verdicts", ["other", "wrong", "refused"])):
         for measure in ("bytes", "packets"):
             for field, value in (("split", split), ("measure", measure)):
-                page.browser.run(f"{PAGE}find(arguments[0]).value = arguments[1]; find(arguments[0]).dispatchEvent(new Event('change'));", field, value)
+                page.browser.run(PAGE + SET, field, value)
             page.expect(f"{split}: words", page.value("[...find('legend').children].map((part) => part.textContent)"), names)
             tops = page.value("[...find('timeline').querySelectorAll('path')].map((path) => path.getBBox()).map(({ y }) => y)")
             page.expect(f"{split}, {measure}: paths", len(tops), len(names))

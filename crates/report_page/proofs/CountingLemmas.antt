@@ -118,7 +118,11 @@ module _ (start : ℕ) (bins : Bins) (packets : List Event) (packet : Event) (on
 
     module _ (place : ℕ) (positive : 0 < bins.unit) (from_start : start ≤ time) (is_place : place ≡ (time - start) / bins.unit) where
       low : begin place ≤ time
-      low = omega (arith, from_start, subst (λ each. each * bins.unit ≤ time - start) (sym is_place) (div-mul-le_self (time - start) bins.unit))
+      low = omega (
+        arith,
+        from_start,
+        subst (λ each. each * bins.unit ≤ time - start) (sym is_place) (div-mul-le_self (time - start) bins.unit),
+      )
 
       high : time < begin (place + 1)
       high =

@@ -87,7 +87,8 @@ fn no_bins(unit: u128) -> Bins
 fn count(bins: &mut Bins, start: u128, event: &Event)
     requires unit { 0 < bins.old.unit }
     requires reaches { IsBefore (start + max_bins * bins.old.unit) event.now.time }
-    ensures counted { (packets : List PacketEvent) → AreCounted start bins.old packets → AreCounted start bins.new (packets ++ event.now ∷ []) }
+    ensures counted { (packets : List PacketEvent) → AreCounted start bins.old packets
+        → AreCounted start bins.new (packets ++ event.now ∷ []) }
     ensures same { (bins.new.start ≡ bins.old.start) × (bins.new.unit ≡ bins.old.unit) × (bins.new.len ≡ bins.old.len) }
 {
     let one = counts_of_one(event);

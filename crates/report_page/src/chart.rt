@@ -80,8 +80,8 @@ pub extern "C" fn report_page_timeline(
     show_intervals(&bins, intervals);
 }
 
-/// Writes the words for the counts of a timeline to `text`, each with a line feed, and returns their length: those of the four protocols, and
-/// then those of the two faults. If the words are longer than `text`, nothing is written.
+/// Writes the words for the counts of a timeline to `text`, each with a line feed, and returns their length. They are the words of the four
+/// protocols, and then of the two faults. If the words are longer than `text`, nothing is written.
 #[unsafe(no_mangle)]
 pub extern "C" fn report_page_series(text: &mut [u8]) -> usize
     ensures len { result ≡ length series_words }
