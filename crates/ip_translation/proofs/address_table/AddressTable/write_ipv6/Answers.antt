@@ -1,6 +1,4 @@
-use Rattle.std.proofs.Common.{◌≡◌, None, Some, ap, refl, subst, sym, ◌∙◌}
-use Rattle.std.specs.Int.{to_be_bytes, w128}
-use Rattle.ip_translation.specs.AddressMappings.{mapped_to_ipv6}
+use Rattle.std.proofs.Common.{◌≡◌, None, Some, refl, subst, sym, ◌∙◌}
 use Rattle.ip_translation.proofs.AddressTableLemmas.{embedded_is, to_ipv6_refusal_is}
 use Rattle.ip_translation.proofs.address_table.AddressTable.write_ipv6.Goals as goal
 use Rattle.std.specs.Prelude.{IfOk}
@@ -21,9 +19,7 @@ pub returns-in-Some-clause-written : goal.returns-in-Some-clause-written
 returns-in-Some-clause-written c =
     let is = embedded_is c.args.self.now c.args.ipv4 _ (Some c.in-Some.mapping) refl
     (sym c.mapping_of_ipv4.ensures ∙ c.in-Some.is) in
-    c.to_be_bytes.ensures
-    ∙ ap (to_be_bytes w128) (c.to_ipv6.ensures ∙ ap (mapped_to_ipv6 c.in-Some.mapping) c.from_be_bytes.ensures)
-    ∙ sym is
+    c.write_mapped.ensures ∙ sym is
 
 pub returns-in-None-clause-written : goal.returns-in-None-clause-written
 returns-in-None-clause-written c =
