@@ -49,7 +49,7 @@ copy_of false block =
 
 -- ---- whole blocks
 
--- The packet in a block was visited. `copy` is the block with the bytes that the visitor left in place of the captured bytes.
+-- The packet in a block was visited. In `copy`, the bytes `after` are in the place of the captured bytes.
 pub record VisitsPacket {Outcome Counts : Type 0} (visits : Visits Outcome Counts) (packet : CapturedPacket) (block copy : List ℕ)
     (outcome : Option Outcome) : Type 0 where
   pub within : IsWithin (length block) packet
@@ -150,8 +150,7 @@ IsRefusedBlock section bytes error =
     ((reason : BlockError) × IsMalformed section.byte_order bytes reason × (error ≡ errors.Block reason))
     ⊎ RefusesBlock section bytes error
 
--- The first bytes of a block at this place are written if the copy ends within the block. Those of the first block of a file are not
--- written.
+-- If the copy ends within a block at this place: whether its first bytes are written. Nothing is written of the first block of a file.
 abbrev pub writes_front : {Outcome Counts : Type 0} → Visits Outcome Counts → Place → Bool
 writes_front visits place = if place.offset == 0 then false else visits.writes_all
 

@@ -55,8 +55,7 @@ impl Blocks {
         }
     }
 
-    /// Whether the first bytes of the next block are written if the copy ends within it. Those of the first block of a file are not
-    /// written, so that nothing is written for a file that is refused at once.
+    /// If the copy ends within the next block: whether its first bytes are written. Nothing is written of the first block of a file.
     fn writes_front<V: Visitor>(&self, visitor: &V) -> bool
         ensures { result ≡ writes_front (V.visits visitor.now) self.now.place }
     {

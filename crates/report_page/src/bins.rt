@@ -1,4 +1,4 @@
-//! The bins of a timeline: intervals of one width, of which a shown interval is the sum of one, two or five.
+//! The bins of a timeline: intervals of one width. A shown interval is the sum of one, two or five bins.
 //!
 //! A `Timeline` has its bins on the heap, and is made one packet at a time. WebAssembly with 64-bit memories has no heap here. But the page
 //! has all packets, so that their times are known before the first packet is counted. The contracts cite the definitions of `timeline`.
