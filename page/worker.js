@@ -3,6 +3,8 @@
 
 /** How much of a file is read at once, in bytes. A longer record is read whole. */
 const CHUNK_LEN = 4 << 20;
+/** How many parts of a file are read ahead. */
+const CHUNKS_AHEAD = 2;
 /** The longest record that is read whole, in bytes. */
 const MAX_CHUNK_LEN = 512 << 20;
 /** The room of a packet, as in the program (MAX_PACKET_LEN). A longer packet is not read. */
@@ -80,8 +82,9 @@ async function load(module) {
 const number64 = (at) => view.getUint32(at + 4, true) * 0x100000000 + view.getUint32(at, true);
 /** A time has 96 bits: three words, the lowest first. */
 const timeAt = (at) => [0, 1, 2].map((word) => words[at / 4 + word]);
-/** The number of nanoseconds from one time to another. It is exact below 2^53. */
-const nanosecondsBetween = (first, time) => (time[2] - first[2]) * 2 ** 64 + (time[1] - first[1]) * 2 ** 32 + (time[0] - first[0]);
+/** The number of nanoseconds from a time to the time at this place. It is exact below 2^53. */
+const nanosecondsTo = (first, at) =>
+    (words[at / 4 + 2] - first[2]) * 2 ** 64 + (words[at / 4 + 1] - first[1]) * 2 ** 32 + (words[at / 4] - first[0]);
 
 /** The text that a call wrote: it returned this length. */
 function takeText(len) {
@@ -96,6 +99,77 @@ const COLUMNS = { start: Float64Array, size: Uint32Array, head: Uint32Array, tim
     protocol: Uint8Array, source: Uint32Array, destination: Uint32Array, sourcePort: Uint16Array, destinationPort: Uint16Array,
     conversation: Uint32Array, inTunnel: Uint8Array, event: Uint32Array };
 const EVENT_WORDS = EVENT.size / 4;
+
+/** Numbers keys in the order in which they first come, from 1 on. A key has a fixed number of words. */
+class KeyNumbers {
+    constructor(width) {
+        this.width = width;
+        this.count = 0;
+        /** The key that is looked for. */
+        this.key = new Uint32Array(width);
+        this.keys = new Uint32Array(width * 512);
+        /** Each slot has the number of a key, or 0. They are a power of two, and half of them stay free. */
+        this.slots = new Uint32Array(1024);
+        // They are random, so that no capture can be prepared whose keys share their slots.
+        this.factors = crypto.getRandomValues(new Uint32Array(width)).map((factor) => factor | 1);
+    }
+
+    /** The number of `key`, which is numbered if it is new. */
+    numberOfKey() {
+        for (let slot = this.slotOf(this.key, 0); ; slot = (slot + 1) & (this.slots.length - 1)) {
+            const number = this.slots[slot];
+            if (number === 0) return this.add(slot);
+            if (this.isKey(number)) return number;
+        }
+    }
+
+    /** The slot at which the search for the key at this place begins. */
+    slotOf(keys, at) {
+        const { factors, width } = this;
+        let hash = 0;
+        for (let word = 0; word < width; word += 1) {
+            const mixed = Math.imul(keys[at + word] ^ hash, factors[word]);
+            hash = mixed ^ mixed >>> 15;
+        }
+        return hash & (this.slots.length - 1);
+    }
+
+    /** Whether the key with this number is `key`. */
+    isKey(number) {
+        const { key, keys, width } = this;
+        const at = (number - 1) * width;
+        for (let word = 0; word < width; word += 1) if (keys[at + word] !== key[word]) return false;
+        return true;
+    }
+
+    /** Numbers `key`, which is new and whose search ended at this slot. */
+    add(slot) {
+        if (2 * this.count >= this.slots.length) {
+            this.grow();
+            return this.numberOfKey();
+        }
+        this.keys.set(this.key, this.count * this.width);
+        this.count += 1;
+        this.slots[slot] = this.count;
+        return this.count;
+    }
+
+    grow() {
+        const { keys, slots, width } = this;
+        this.keys = new Uint32Array(2 * keys.length);
+        this.keys.set(keys);
+        this.slots = new Uint32Array(2 * slots.length);
+        for (let number = 1; number <= this.count; number += 1) {
+            let slot = this.slotOf(keys, (number - 1) * width);
+            while (this.slots[slot] !== 0) slot = (slot + 1) & (this.slots.length - 1);
+            this.slots[slot] = number;
+        }
+    }
+
+    memory() {
+        return this.keys.byteLength + this.slots.byteLength;
+    }
+}
 
 let capture;
 
@@ -114,9 +188,9 @@ class Capture {
         this.first = undefined;
         this.firstAt = -1;
         this.addresses = [""];
-        this.addressIds = new Map();
+        this.addressKeys = new KeyNumbers(5);
         this.conversations = [null];
-        this.conversationIds = new Map();
+        this.conversationKeys = new KeyNumbers(4);
         this.verdicts = new Map();
         this.protocols = new Map();
         this.status = Status.FULL;
@@ -128,29 +202,31 @@ class Capture {
 
     memory() {
         const columns = Object.values(this.values).reduce((sum, column) => sum + column.byteLength, 0);
-        return columns + memory.buffer.byteLength + (this.addresses.length + this.conversations.length) * 120;
+        const keys = this.addressKeys.memory() + this.conversationKeys.memory();
+        return columns + keys + memory.buffer.byteLength + (this.addresses.length + this.conversations.length) * 120;
     }
 
+    /** The number of the address at this place. The bytes after an IPv4 address are 0. */
     addressAt(version, at) {
-        const key = version === 4 ? view.getUint32(at) : String.fromCharCode(...bytes.subarray(at, at + 16));
-        let id = this.addressIds.get(key);
-        if (id === undefined) {
-            id = this.addresses.length;
-            this.addressIds.set(key, id);
-            this.addresses.push(addressText(version, bytes.subarray(at, at + 16)));
-        }
+        const { key } = this.addressKeys;
+        key[0] = version;
+        for (let word = 0; word < 4; word += 1) key[word + 1] = view.getUint32(at + 4 * word);
+        const id = this.addressKeys.numberOfKey();
+        if (id === this.addresses.length) this.addresses.push(addressText(version, bytes.subarray(at, at + 16)));
         return id;
     }
 
+    /** The number of the conversation between two ends, whichever of them is the source. */
     conversationOf(protocol, source, sourcePort, destination, destinationPort) {
         const isForward = source < destination || (source === destination && sourcePort <= destinationPort);
-        const ends = isForward ? [source, sourcePort, destination, destinationPort] : [destination, destinationPort, source, sourcePort];
-        const key = `${protocol},${ends}`;
-        let id = this.conversationIds.get(key);
-        if (id === undefined) {
-            id = this.conversations.length;
-            this.conversationIds.set(key, id);
-            this.conversations.push({ protocol, ends });
+        const { key } = this.conversationKeys;
+        key[0] = protocol;
+        key[1] = isForward ? source : destination;
+        key[2] = isForward ? destination : source;
+        key[3] = isForward ? sourcePort << 16 | destinationPort : destinationPort << 16 | sourcePort;
+        const id = this.conversationKeys.numberOfKey();
+        if (id === this.conversations.length) {
+            this.conversations.push({ protocol, ends: [key[1], key[3] >>> 16, key[2], key[3] & 0xffff] });
         }
         return id;
     }
@@ -158,12 +234,12 @@ class Capture {
     /** Nanoseconds from the first packet with a time to the packet of the row at this place, for ranges. NaN if its time is not known. */
     nanosecondsTo(at) {
         if (bytes[at + ROW.event + EVENT.hasTime] === 0) return NaN;
-        const time = timeAt(at + ROW.event + EVENT.time);
+        const timePlace = at + ROW.event + EVENT.time;
         if (this.first === undefined) {
-            this.first = { raw: bytes.slice(at + ROW.time, at + ROW.time + TIME.size), time };
+            this.first = { raw: bytes.slice(at + ROW.time, at + ROW.time + TIME.size), time: timeAt(timePlace) };
             this.firstAt = this.count;
         }
-        return nanosecondsBetween(this.first.time, time);
+        return nanosecondsTo(this.first.time, timePlace);
     }
 
     /** Keeps the row at this place. Its packet begins after `start` bytes of the file, and has `size` bytes there. */
@@ -237,12 +313,53 @@ function address({ text }) {
 
 let isStopped = false;
 
-/** Reads bytes of the file to the place of the piece, behind the room for a head, and returns how many there are. */
-async function readChunk(offset, len) {
-    const chunk = new Uint8Array(await capture.source.slice(offset, offset + len).arrayBuffer());
-    growTo(place.piece + HEAD_LEN + chunk.length);
-    bytes.set(chunk, place.piece + HEAD_LEN);
-    return chunk.length;
+/** The parts of a file, one after the other. The next parts are read while the page works on one. */
+class Chunks {
+    constructor(source) {
+        this.source = source;
+        this.end = 0;
+        this.ahead = [];
+        for (let chunk = 0; chunk < CHUNKS_AHEAD; chunk += 1) this.readAhead();
+    }
+
+    readAhead() {
+        if (this.end >= this.source.size) return;
+        const start = this.end;
+        this.end = Math.min(start + CHUNK_LEN, this.source.size);
+        const chunk = this.source.slice(start, this.end).arrayBuffer();
+        // Only the part that is taken fails.
+        chunk.catch(() => {});
+        this.ahead.push(chunk);
+    }
+
+    /** The next part, or `undefined` at the end of the file. */
+    async next() {
+        const chunk = await this.ahead.shift();
+        this.readAhead();
+        return chunk && new Uint8Array(chunk);
+    }
+}
+
+/**
+ * Puts these unused bytes, and those that follow them in the file, to the place of the piece, behind the room for a head. They are at least
+ * `len` bytes, unless the file ends. Returns how many they are.
+ */
+async function readChunk(chunks, unused, len) {
+    const parts = [unused];
+    let chunkLen = unused.length;
+    while (chunkLen < len) {
+        const part = await chunks.next();
+        if (part === undefined) break;
+        parts.push(part);
+        chunkLen += part.length;
+    }
+    growTo(place.piece + HEAD_LEN + chunkLen);
+    let at = place.piece + HEAD_LEN;
+    for (const part of parts) {
+        bytes.set(part, at);
+        at += part.length;
+    }
+    return chunkLen;
 }
 
 /** Puts a head before the bytes at this place, and returns where the piece begins. */
@@ -383,11 +500,16 @@ function takeFacts() {
 }
 
 async function readCapture() {
+    const chunks = new Chunks(capture.source);
+    let unused = new Uint8Array(0);
     let told = 0;
     let len = CHUNK_LEN;
     while (len > 0 && !isStopped) {
-        const chunkLen = await readChunk(capture.offset, len);
-        len = readPieces(chunkLen, capture.offset + chunkLen >= capture.source.size);
+        const start = capture.offset;
+        const chunkLen = await readChunk(chunks, unused, len);
+        len = readPieces(chunkLen, start + chunkLen >= capture.source.size);
+        const at = place.piece + HEAD_LEN;
+        unused = bytes.slice(at + capture.offset - start, at + chunkLen);
         if (performance.now() - told > 100) {
             told = performance.now();
             postMessage({ kind: "progress", read: capture.offset, size: capture.source.size, count: capture.count, memory: capture.memory() });
@@ -566,8 +688,8 @@ function timelineOf(rows) {
     const hasStart = number64(place.timeline + TIMELINE.hasStart) === 1;
     const count = number64(place.timeline + TIMELINE.count);
     return {
-        start: hasStart ? nanosecondsBetween(capture.first.time, timeAt(place.timeline + TIMELINE.start)) : 0,
-        width: nanosecondsBetween([0, 0, 0], timeAt(place.timeline + TIMELINE.width)),
+        start: hasStart ? nanosecondsTo(capture.first.time, place.timeline + TIMELINE.start) : 0,
+        width: nanosecondsTo([0, 0, 0], place.timeline + TIMELINE.width),
         intervals: Array.from({ length: count }, (_, at) => countsAt(place.intervals + at * COUNTS.size)),
         older: countsAt(place.timeline + TIMELINE.older),
         untimed: countsAt(place.timeline + TIMELINE.untimed),

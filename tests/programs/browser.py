@@ -37,6 +37,11 @@ def until(attempt):
 class Browser:
     """What both have: a process that ends with the block, and commands of WebDriver."""
 
+    @classmethod
+    def missing(cls):
+        """The tools of this browser that are not installed."""
+        return [names[0] for names in cls.tools if not any(map(shutil.which, names))]
+
     def __init__(self, *command):
         self.profile = tempfile.TemporaryDirectory(ignore_cleanup_errors=True)
         self.downloads = pathlib.Path(self.profile.name, "downloads")

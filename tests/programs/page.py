@@ -25,7 +25,7 @@ import tempfile
 
 sys.path.insert(0, str(pathlib.Path(__file__).resolve().parent.parent))
 from programs.browser import ARROW_RIGHT, CONTROL, END, ENTER, Chromium, Firefox, free_port, until
-from programs.build import ETHERNET, IPV4, START, block, capture_parts, frame, ipv4, section_header, udp
+from programs.build import ETHERNET, IPV4, START, block, capture, capture_parts, frame, ipv4, ipv6, section_header, udp
 from programs.kinds import every_kind
 from programs.program import TOP, Program, Tally
 
@@ -89,6 +89,20 @@ def two_sections():
                 fields = struct.pack(order + "IIIII", number, ticks >> 32, ticks & 0xFFFFFFFF, len(packet), len(packet))
                 parts.append(block(6, fields + packet, order))
     return b"".join(parts)
+
+
+def many_ends():
+    """A capture of 1,400 conversations, each with an address of its own. The first 40 have several packets, each another number of them."""
+    frames = []
+    for number in range(1400):
+        if number % 2:
+            packet, client, server = ipv4, bytes([10, 0, number >> 8, number & 0xFF]), bytes([10, 1, 0, 1])
+        else:
+            packet, client, server = ipv6, bytes.fromhex("20010DB8") + struct.pack(">QI", 0, number), bytes.fromhex("20010DB8") + bytes(11) + b"\xff"
+        request = packet(17, udp((client, server), b"", source=1024 + number), addresses=(client, server))
+        reply = packet(17, udp((server, client), bytes(number), source=53, destination=1024 + number), addresses=(server, client))
+        frames += [frame(ETHERNET, request)] + [frame(ETHERNET, reply)] * max(0, 40 - number)
+    return capture(ETHERNET, frames)
 
 
 class Page:
@@ -213,6 +227,24 @@ def check_captures(page):
         check_timeline(page, name, data)
     page.check_faults("after the built captures")
     return captures
+
+
+def check_many_ends(page):
+    """The tables of a capture with more addresses and conversations than the page has room for at first."""
+    data = many_ends()
+    page.expect("many ends: error", page.open(data, "many ends"), "")
+    shown = json.loads(page.value("JSON.stringify(state.shown)"))
+    page.expect("many ends: conversations", shown["conversationCount"], 1400)
+    page.expect("many ends: endpoints", shown["endpointCount"], 1402)
+    if PROGRAM.is_stale():
+        return
+    stated = json.loads(PROGRAM.run(data, "--json", "--summary", "--top", "40").stdout)
+    found = [(set(zip(row["hosts"], row["ports"])), row["packets"], row["bytes"]) for row in shown["conversations"][:40]]
+    page.expect("many ends: busiest conversations", found, [
+        ({(row["source"], row["source_port"]), (row["destination"], row["destination_port"])}, row["packets"], row["bytes"])
+        for row in stated["busiest_conversations"]])
+    found = [(row["host"], row["packets"], row["bytes"]) for row in shown["endpoints"][:40]]
+    page.expect("many ends: endpoints with the most packets", found, [(row["address"], row["packets"], row["bytes"]) for row in stated["endpoints"]])
 
 
 def check_mutants(page, captures):
@@ -408,7 +440,7 @@ def check_view(page, folder):
 
 
 def check_browser(kind, path, folder, tally):
-    missing = [tools[0] for tools in kind.tools if not any(map(shutil.which, tools))]
+    missing = kind.missing()
     if missing:
         print(f"{' and '.join(missing)} is missing, and the tests in {kind.name} are left out")
         return
@@ -417,6 +449,7 @@ def check_browser(kind, path, folder, tally):
         page.start(path.resolve().as_uri())
         check_stored(page, folder)
         check_mutants(page, check_captures(page))
+        check_many_ends(page)
         check_view(page, folder)
         check_commands(page, folder)
         check_command_forms(page)
