@@ -25,6 +25,7 @@ pub mod PacketBackLemmas
 pub mod PacketExamples
 pub mod PayloadLemmas
 pub mod PseudoHeaderLemmas
+pub mod ReplacedAddressLemmas
 pub mod RuleLemmas
 pub mod SkippedLemmas
 pub mod TranslatedAddressLemmas

@@ -28,6 +28,20 @@ pub ipv6_destination : (class len number hop : ℕ) (source destination rest : L
 ipv6_destination class len number hop source destination rest sixteen sixteen_too =
     second_of_three 16 16 source destination rest sixteen sixteen_too
 
+-- ---- the three parts of an IPv6 header, as they are written
+
+pub source_written : (start source destination : List ℕ) → length start ≡ 8 → length source ≡ 16
+    → slice_range (start ++ (source ++ destination)) 8 24 ≡ source
+source_written start source destination eight sixteen =
+    ap (take 16) (drop_at start (source ++ destination) 8 eight) ∙ take_at source destination 16 sixteen
+
+pub destination_written : (start source destination : List ℕ) → length start ≡ 8 → length source ≡ 16 → length destination ≡ 16
+    → slice_range (start ++ (source ++ destination)) 24 40 ≡ destination
+destination_written start source destination eight sixteen sixteen_too =
+    ap (λ bytes. take 16 (drop 24 bytes)) (sym (append_assoc start source destination))
+    ∙ ap (take 16) (drop_at (start ++ source) destination 24 (omega (arith, eight, sixteen, length-append start source)))
+    ∙ take_all 16 destination (omega (arith, sixteen_too))
+
 -- ---- an IPv4 header
 
 -- the bytes before the addresses

@@ -130,6 +130,14 @@ payload_len header = total_len header - ipv4_header_len header
 abbrev pub translated_header : Prefixes → List ℕ → List ℕ
 translated_header prefixes header = header_with prefixes (payload_len header) (time_to_live header - 1) header
 
+-- the bytes before the addresses in the IPv6 header for this IPv4 header
+abbrev pub start_of_ipv6 : List ℕ → List ℕ
+start_of_ipv6 header = ipv6_header
+    (type_of_service header)
+    (payload_len header)
+    (next_header (protocol header) ∷ (time_to_live header - 1) ∷ [])
+    [] []
+
 -- the IPv6 header for the header of a quoted packet, which keeps its time to live
 abbrev pub quoted_header : Prefixes → List ℕ → List ℕ
 quoted_header prefixes header = header_with prefixes (payload_len header) (time_to_live header) header

@@ -1,4 +1,5 @@
-ghost use Rattle.std.specs.Prelude.{◌≡◌, IfOk, None, Some};
+ghost use Rattle.std.specs.Prelude.{◌≡◌, [], IfOk, IfSome, None, Some, length};
+ghost use Rattle.ip_translation.specs.declared.prefix64.Prefix64.TheVariants.{Bits96};
 ghost use Rattle.std.specs.Int.{from_be_bytes, to_be_bytes, w128, w32};
 ghost use Rattle.net_base.specs.Refusals.{RefusesExactly};
 ghost use Rattle.ip_translation.specs.AddressMappings as specs;
@@ -79,6 +80,20 @@ impl<'a> AddressTable<'a> {
         }
     }
 
+    /// Writes the IPv6 address that `embed` returns.
+    #[inline(always)]
+    pub(crate) fn write_embedded(&self, ipv4: [u8; 4], place: &mut [u8])
+        requires { length place.old ≡ 16 }
+        ensures { place.new ≡ tables.embedded self.now ipv4 }
+    {
+        if let Some(address) = place.first_chunk_mut::<16>() {
+            match self.mapping_of_ipv4(ipv4) {
+                Some(mapping) => write_mapped(mapping, ipv4, address),
+                None => self.prefix.write(ipv4, address),
+            }
+        }
+    }
+
     /// Translates an address of an IPv6 packet to IPv4.
     ///
     /// # Errors
@@ -111,6 +126,23 @@ impl<'a> AddressTable<'a> {
             }
             None => self.prefix.write_ipv4(address, ipv4),
         }
+    }
+
+    /// Whether addresses are translated by a prefix of 96 bits that is not the well-known prefix.
+    #[inline(always)]
+    pub(crate) fn is_plain(&self) -> bool {
+        self.mappings.is_empty() && self.prefix.is_plain()
+    }
+
+    /// The octets of the prefix, if addresses are translated by a prefix of 96 bits.
+    #[inline(always)]
+    pub(crate) fn octets_of_96(&self) -> Option<&[u8; 11]>
+        ensures { IfSome result (λ start. (self.now.mappings.now ≡ []) × (self.now.prefix ≡ Bits96 start.now)) }
+    {
+        if !self.mappings.is_empty() {
+            return None;
+        }
+        self.prefix.octets_of_96()
     }
 
     /// The mapping of an IPv4 address.

@@ -1,17 +1,21 @@
-ghost use Rattle.std.specs.Prelude.{◌≡◌, ◌≤◌, ◌<◌, ◌+◌, ◌↔◌, [], ◌∷◌, ℕ, IfOk, IsTrue, length, slice_index, slice_range};
+ghost use Rattle.std.specs.List.{find};
+ghost use Rattle.std.specs.Prelude.{◌≡◌, ◌≤◌, ◌<◌, ◌+◌, ◌↔◌, [], ◌∷◌, ℕ, IfOk, IsTrue, is_some, length, slice_index, slice_range};
+ghost use Rattle.ip_part.specs.Options.{ipv4_option, is_unexpired_route, options_of};
 ghost use Rattle.net_base.specs.IpHeaders.{ipv4_header_len};
 ghost use Rattle.net_base.specs.PseudoHeader.{max_len_over_ipv4};
 ghost use Rattle.net_base.specs.Refusals.{RefusesExactly};
-ghost use Rattle.word_sum.specs.Checksum.{Verifies, total};
-ghost use Rattle.word_sum.specs.ChecksumChange.{TurnsInto, added_value, removed_value};
+ghost use Rattle.word_sum.specs.Checksum.{Verifies, folded, total};
+ghost use Rattle.word_sum.specs.ChecksumChange.{IsExtendedBy, TurnsInto, added_value, removed_value};
 ghost use Rattle.ip_translation.specs.AddressTables.{embedded};
 ghost use Rattle.ip_translation.specs.HeadersToIpv6 as specs;
+ghost use Rattle.ip_translation.specs.Prefixes as prefixes;
+ghost use Rattle.ip_translation.specs.declared.prefix64.Prefix64.TheVariants.{Bits96};
 ghost use Rattle.ip_translation.specs.PacketsToIpv6.{added_addresses, removed_addresses};
 ghost use Rattle.ip_translation.specs.PseudoHeaders.{AreTurned};
 ghost use Rattle.ip_translation.specs.TranslatedAddresses.{HasIpv6Addresses};
 
 use crate::address_change::{address_at, address_change};
-use crate::{Prefixes, TranslationError};
+use crate::{AddressTable, Prefixes, TranslationError};
 use arrayvec::ArrayVec;
 use ip_part::has_unexpired_source_route;
 use net_base::{IpNumber, Ipv4HeaderSlice, Ipv6Header, ip_number};
@@ -109,14 +113,66 @@ pub(crate) fn change_by_headers(
     ensures turned { (protocol : ℕ) → 0 < protocol →
         AreTurned result (specs.old_pseudo_header header.now protocol) (specs.new_pseudo_header prefixes.now header.now protocol) }
 {
-    // The prefixes are not used, since the headers contain the translated addresses.
-    let _ = prefixes;
-    address_change(
+    let change = ChecksumChange::new();
+    let change = replace_address(
+        change,
+        &prefixes.source,
         header.source(),
+        &front[SOURCE_AT..DESTINATION_AT],
+    );
+    replace_address(
+        change,
+        &prefixes.destination,
         header.destination(),
-        address_at::<16>(front, SOURCE_AT),
-        address_at::<16>(front, DESTINATION_AT),
+        &front[DESTINATION_AT..IPV6_LEN],
     )
+}
+
+/// The change that also replaces this IPv4 address by its translation, `translated`.
+#[inline(always)]
+fn replace_address(
+    change: ChecksumChange,
+    table: &AddressTable,
+    ipv4: [u8; 4],
+    translated: &[u8],
+) -> ChecksumChange
+    requires there { length translated.now ≡ 16 }
+    requires translated { translated.now ≡ embedded table.now ipv4 }
+    ensures removed { removed_value result ≡ folded (removed_value change + total ipv4) }
+    ensures added { added_value result ≡ folded (added_value change + total (embedded table.now ipv4)) }
+    ensures extends { IsExtendedBy change ipv4 (embedded table.now ipv4) result }
+{
+    match table.octets_of_96() {
+        Some(start) => replace_by_96(change, start, ipv4),
+        None => replace_by_any(change, ipv4, translated),
+    }
+}
+
+/// The change that also replaces this IPv4 address by the address that consists of these octets of a prefix of 96 bits and of the IPv4
+/// address.
+// perf: the octets of a prefix are in memory, so four are read at once. Those of a translated address are put together one by one.
+#[inline(always)]
+fn replace_by_96(change: ChecksumChange, start: &[u8; 11], ipv4: [u8; 4]) -> ChecksumChange
+    ensures removed { removed_value result ≡ folded (removed_value change + total ipv4) }
+    ensures added { added_value result ≡ folded (added_value change + total (prefixes.embedded (Bits96 start.now) ipv4)) }
+    ensures extends { IsExtendedBy change ipv4 (prefixes.embedded (Bits96 start.now) ipv4) result }
+{
+    change
+        .replace_4bytes(ipv4, ipv4)
+        .replace_4bytes([0; 4], address_at::<4>(start, 0))
+        .replace_4bytes([0; 4], address_at::<4>(start, 4))
+        .replace_4bytes([0; 4], [0, start[8], start[9], start[10]])
+}
+
+/// The change that also replaces this IPv4 address by this IPv6 address.
+#[inline(never)]
+fn replace_by_any(change: ChecksumChange, ipv4: [u8; 4], translated: &[u8]) -> ChecksumChange
+    requires there { length translated.now ≡ 16 }
+    ensures removed { removed_value result ≡ folded (removed_value change + total ipv4) }
+    ensures added { added_value result ≡ folded (added_value change + total translated.now) }
+    ensures extends { IsExtendedBy change ipv4 translated.now result }
+{
+    change.replace_slice(ipv4.as_slice(), translated)
 }
 
 /// The place of the source in an IPv6 header, in bytes (RFC 8200, section 3).
@@ -135,6 +191,7 @@ const LEN_WITHOUT_OPTIONS: usize = 20;
 pub(crate) const TYPE_OF_SERVICE_AT: usize = 1;
 
 /// The byte at the offset `place`, or 0 if the bytes end before this offset.
+#[inline(always)]
 pub(crate) fn byte_at(bytes: &[u8], place: usize) -> u8
     ensures { result ≡ slice_index bytes.now place }
 {
@@ -146,6 +203,7 @@ pub(crate) fn byte_at(bytes: &[u8], place: usize) -> u8
 
 /// Checks the fields of the header of a whole packet, and returns the length of the payload. It does not check whether the prefixes may embed
 /// the addresses.
+#[inline(always)]
 fn check_header(header: &Ipv4HeaderSlice<'_>) -> Result<u16, TranslationError>
     ensures refused { RefusesExactly result (specs.field_refusal header.now) }
     ensures payload_len { IfOk result (λ len. len ≡ specs.payload_len header.now) }
@@ -176,7 +234,7 @@ pub(crate) fn check_any_fields(header: &Ipv4HeaderSlice<'_>) -> Result<u16, Tran
     if !is_checksum_valid(header) {
         return Err(TranslationError::HeaderChecksum);
     }
-    if has_unexpired_source_route(header.options()) {
+    if has_source_route(header.options()) {
         return Err(TranslationError::SourceRoute);
     }
     if header.ttl() <= 1 {
@@ -184,6 +242,70 @@ pub(crate) fn check_any_fields(header: &Ipv4HeaderSlice<'_>) -> Result<u16, Tran
     }
     check_addresses(header)?;
     Ok(total_len - header_len)
+}
+
+/// Whether options contain a source route that is not at its end. Most headers have no options.
+#[inline(always)]
+fn has_source_route(options: &[u8]) -> bool
+    ensures { result ≡ is_some (find is_unexpired_route (options_of ipv4_option options.now)) }
+{
+    if options.is_empty() {
+        return false;
+    }
+    has_unexpired_source_route(options)
+}
+
+/// Checks the header of a whole packet.
+#[inline(always)]
+pub(crate) fn check_whole_header(
+    header: &Ipv4HeaderSlice<'_>,
+    prefixes: &Prefixes,
+) -> Result<(), TranslationError>
+    ensures refused { RefusesExactly result (specs.header_refusal prefixes.now header.now) }
+    ensures total_len { IfOk result (λ _. ipv4_header_len header.now ≤ specs.total_len header.now) }
+{
+    check_header(header)?;
+    check_embedding(header, prefixes)
+}
+
+/// Writes the IPv6 header for this IPv4 header.
+// perf: each field is written to its place. A header that is returned is copied several times.
+#[inline(always)]
+pub(crate) fn write_header(front: &mut [u8], header: &Ipv4HeaderSlice<'_>, prefixes: &Prefixes)
+    requires len { length front.old ≡ 40 }
+    requires ordered { ipv4_header_len header.now ≤ specs.total_len header.now }
+    ensures written { front.new ≡ specs.translated_header prefixes.now header.now }
+    ensures addresses { HasIpv6Addresses prefixes.now header.now front.new }
+{
+    let (start, addresses) = front.split_at_mut(SOURCE_AT);
+    let (source, destination) = addresses.split_at_mut(16);
+    start.copy_from_slice(&start_of_ipv6(header));
+    prefixes.source.write_embedded(header.source(), source);
+    prefixes
+        .destination
+        .write_embedded(header.destination(), destination);
+}
+
+/// The first eight bytes of the IPv6 header for this IPv4 header.
+#[inline(always)]
+fn start_of_ipv6(header: &Ipv4HeaderSlice<'_>) -> [u8; 8]
+    requires ordered { ipv4_header_len header.now ≤ specs.total_len header.now }
+    ensures { result ≡ specs.start_of_ipv6 header.now }
+{
+    let service = byte_at(header.slice(), TYPE_OF_SERVICE_AT);
+    let payload_len = header.total_len() - u16::from(header.ihl()) * 4;
+    let [high, low] = payload_len.to_be_bytes();
+    let hop_limit = header.ttl().saturating_sub(1);
+    [
+        0x60 + service / 16,
+        service % 16 * 16,
+        0,
+        0,
+        high,
+        low,
+        next_header(header.protocol()).0,
+        hop_limit,
+    ]
 }
 
 /// Whether the checksum of a header is right.
@@ -317,6 +439,7 @@ fn header_between(
 }
 
 /// Refuses a header if one of its addresses is not the address of a host.
+#[inline(always)]
 fn check_addresses(header: &Ipv4HeaderSlice<'_>) -> Result<(), TranslationError>
     ensures refused { RefusesExactly result (specs.addresses_refusal header.now) }
 {
@@ -330,6 +453,7 @@ fn check_addresses(header: &Ipv4HeaderSlice<'_>) -> Result<(), TranslationError>
 }
 
 /// Whether this is not the address of a host, but an address of network 0 or 127, a multicast address, or a reserved address.
+#[inline(always)]
 pub(crate) fn is_illegal(address: [u8; 4]) -> bool
     ensures { result ≡ specs.is_illegal address }
 {
@@ -337,6 +461,7 @@ pub(crate) fn is_illegal(address: [u8; 4]) -> bool
 }
 
 /// The next header of the translated packet, if this is the protocol of the IPv4 packet.
+#[inline(always)]
 pub(crate) fn next_header(protocol: IpNumber) -> IpNumber
     ensures { result.0 ≡ specs.next_header protocol.0 }
 {
@@ -348,6 +473,7 @@ pub(crate) fn next_header(protocol: IpNumber) -> IpNumber
 }
 
 /// An IPv6 header with these fields. `next` contains the next header and the hop limit. The flow label is 0.
+#[inline(always)]
 pub(crate) fn ipv6_header(
     traffic_class: u8,
     payload_len: u16,

@@ -38,6 +38,7 @@ pub(crate) const ICMP_CHECKSUM_AT: usize = 2;
 pub(crate) const TCP_CHECKSUM_AT: usize = 16;
 
 /// Refuses a message of this protocol if the message has no translation. The message is no ICMP error.
+#[inline(always)]
 pub(crate) fn check_message(
     protocol: IpNumber,
     message: &[u8],
@@ -60,6 +61,7 @@ pub(crate) fn check_message(
 }
 
 /// Refuses a UDP packet that is shorter than its header, or whose checksum is missing and can't be computed.
+#[inline(always)]
 fn check_udp(packet: &[u8]) -> Result<(), PacketTranslationError>
     ensures refused { RefusesExactly result (specs.udp_refusal packet.now) }
     ensures whole { IfOk result (λ _. specs.IsWholeUdp packet.now) }
@@ -77,6 +79,7 @@ fn check_udp(packet: &[u8]) -> Result<(), PacketTranslationError>
 }
 
 /// Refuses a message that is shorter than its header.
+#[inline(always)]
 pub(crate) fn check_header_len(
     message: &[u8],
     required_len: usize,
@@ -94,6 +97,7 @@ pub(crate) fn check_header_len(
 }
 
 /// Refuses a buffer of `room` bytes if it is shorter than the translated packet of `len` bytes.
+#[inline(always)]
 pub(crate) fn check_space(len: usize, room: usize) -> Result<(), PacketTranslationError>
     ensures refused { RefusesExactly result (refused_if (nat_lt room len) (Space len room)) }
     ensures room { IfOk result (λ _. len ≤ room) }
@@ -166,7 +170,7 @@ fn write_icmp(
 
 /// Writes a UDP packet with its new checksum. The translated packet begins with the headers `front`.
 // perf: in a function of its own, the compiler inlines the sums of the addresses, and adds nothing for zeros.
-#[inline(never)]
+#[inline(always)]
 fn write_udp(
     translated: &mut [u8],
     packet: &[u8],
@@ -250,6 +254,7 @@ fn computed_udp_checksum(packet: &[u8], header: &Ipv4HeaderSlice<'_>, prefixes: 
 }
 
 /// The number in the two bytes that begin at the offset `place`.
+#[inline(always)]
 pub(crate) fn number(message: &[u8], place: usize) -> u16
     requires there { place + 2 ≤ length message.now }
     ensures { result ≡ be_number message.now place 2 }
@@ -258,6 +263,7 @@ pub(crate) fn number(message: &[u8], place: usize) -> u16
 }
 
 /// Writes a checksum to the two bytes that begin at the offset `place`.
+#[inline(always)]
 pub(crate) fn store_checksum(message: &mut [u8], place: usize, checksum: u16)
     requires there { place + 2 ≤ length message.old }
     ensures { message.new ≡ with_checksum place message.old checksum }

@@ -1,7 +1,7 @@
-ghost use Rattle.std.specs.Prelude.{◌≡◌, ◌≤◌, ◌<◌, ◌+◌, ◌-◌, ◌++◌, IfErr, IfOk, IfSome, MatchOption, drop, false, length, slice_index, take, true};
+ghost use Rattle.std.specs.Prelude.{◌≡◌, ◌≤◌, ◌<◌, ◌+◌, ◌-◌, ◌++◌, IfErr, IfOk, IfSome, IsTrue, MatchOption, drop, false, length, slice_index, take, true};
 ghost use Rattle.std.specs.Option.{option_map};
 ghost use Rattle.ip_part.specs.Ip.{ipv4_header};
-ghost use Rattle.net_base.specs.IpHeaders.{ipv4_header_len};
+ghost use Rattle.net_base.specs.IpHeaders.{ipv4_header_len, ipv4_is_fragment};
 ghost use Rattle.net_base.specs.IpNumbers.{icmpv4_number, tcp_number, udp_number};
 ghost use Rattle.net_base.specs.PseudoHeader.{max_len_over_ipv4};
 ghost use Rattle.net_base.specs.Refusals.{RefusesExactly};
@@ -18,8 +18,10 @@ use crate::changed_message::store_changed_checksum;
 use crate::echo_translation::{icmpv6_pseudo_header, type_over_ipv6};
 use crate::error_to_ipv6::error_to_ipv6;
 use crate::fragment_to_ipv6::translate_part;
-use crate::header_translation::{IPV6_LEN, checked_ipv6_header, header_with};
-use crate::message_translation::{ICMP_LEN, check_message, check_space, write_message};
+use crate::header_translation::{
+    IPV6_LEN, check_any_fields, check_whole_header, checked_ipv6_header, header_with, write_header,
+};
+use crate::message_translation::{ICMP_LEN, check_message, check_space, number, write_message};
 use crate::{PacketTranslationError, Prefixes};
 use arrayvec::ArrayVec;
 use net_base::{IpNumber, Ipv4HeaderSlice, ip_number};
@@ -63,6 +65,7 @@ use net_base::{IpNumber, Ipv4HeaderSlice, ip_number};
 /// - `FragmentChecksum` if the first fragment of a UDP packet has no checksum (section 4.5).
 /// - `UdpLength` if a UDP packet has no checksum, and its length field is below 8 or above the length of the message.
 /// - `Space` if the buffer is shorter than the translated packet.
+#[inline(always)]
 pub fn ipv4_to_ipv6(
     packet: &[u8],
     prefixes: &Prefixes,
@@ -78,6 +81,70 @@ pub fn ipv4_to_ipv6(
     // All bytes after the transport header are kept.
     ensures payload { IfOk result (λ len. IsIpv4PayloadKept packet.now (take len buffer.new)) }
 {
+    // perf: after these tests, the compiler leaves out the code for other packets, and the tests that it has made.
+    if let Some(header) = plain_header(packet) {
+        if is_plain(&header, packet, prefixes, buffer) {
+            return translate_plain(&header, packet, prefixes, buffer);
+        }
+    }
+    translate_any(packet, prefixes, buffer)
+}
+
+/// The header of a packet without options. `None` for any other packet.
+#[inline(always)]
+fn plain_header<'a>(packet: &'a [u8]) -> Option<Ipv4HeaderSlice<'a>>
+    ensures found { IfSome result (λ header. (specs.begins_with_header packet.now ≡ true) × (header ≡ ipv4_header packet.now)) }
+{
+    if packet.len() < 20 || packet[0] != 0x45 {
+        return None;
+    }
+    front_header(packet)
+}
+
+/// Whether this is a packet of UDP or TCP that two prefixes of 96 bits translate. The code for plain packets and the code for all
+/// packets are proved alike, so this test decides only which code runs.
+#[inline(always)]
+fn is_plain(
+    header: &Ipv4HeaderSlice<'_>,
+    packet: &[u8],
+    prefixes: &Prefixes,
+    buffer: &[u8],
+) -> bool
+    ensures whole { IsTrue result → ipv4_is_fragment header.now ≡ false }
+{
+    let total_len = usize::from(header.total_len());
+    !header.is_fragmenting_payload()
+        && prefixes.source.is_plain()
+        && prefixes.destination.is_plain()
+        && is_plain_message(header.protocol(), packet)
+        && check_any_fields(header).is_ok()
+        && total_len <= packet.len()
+        && total_len + 20 <= buffer.len()
+}
+
+/// Whether a packet without options contains the header of UDP with a checksum, or of TCP.
+#[inline(always)]
+fn is_plain_message(protocol: IpNumber, packet: &[u8]) -> bool {
+    if protocol.0 == ip_number::UDP.0 {
+        return 28 <= packet.len() && number(packet, 26) != 0;
+    }
+    protocol.0 == ip_number::TCP.0 && 40 <= packet.len()
+}
+
+/// Translates any packet, as `ipv4_to_ipv6` does.
+#[inline(never)]
+fn translate_any(
+    packet: &[u8],
+    prefixes: &Prefixes,
+    buffer: &mut [u8],
+) -> Result<usize, PacketTranslationError>
+    ensures refused { RefusesExactly result (parts.packet_refusal prefixes.now packet.now (length buffer.old)) }
+    ensures len { IfOk result (λ len. len ≡ parts.len_with (ipv4_header packet.now) prefixes.now (specs.message_of packet.now)) }
+    ensures written { IfOk result (λ len. buffer.new ≡ parts.translated_packet prefixes.now packet.now ++ drop len buffer.old) }
+    ensures unchanged { IfErr result (λ _. buffer.new ≡ buffer.old) }
+    ensures alike { IfOk result (λ _. parts.IsPacketAlike prefixes.now (ipv4_header packet.now) (specs.message_of packet.now)) }
+    ensures payload { IfOk result (λ len. IsIpv4PayloadKept packet.now (take len buffer.new)) }
+{
     let Some(header) = front_header(packet) else {
         return Err(PacketTranslationError::NoIpv4Header);
     };
@@ -85,6 +152,7 @@ pub fn ipv4_to_ipv6(
 }
 
 /// Translates a packet or a fragment with this header.
+#[inline(always)]
 fn translate_with(
     header: &Ipv4HeaderSlice<'_>,
     packet: &[u8],
@@ -106,6 +174,7 @@ fn translate_with(
 }
 
 /// The IPv4 header at the front of a packet.
+#[inline(always)]
 pub(crate) fn front_header<'a>(packet: &'a [u8]) -> Option<Ipv4HeaderSlice<'a>>
     ensures found { MatchOption result (specs.begins_with_header packet.now ≡ false)
         (λ header. (specs.begins_with_header packet.now ≡ true) × (header ≡ ipv4_header packet.now)) }
@@ -115,6 +184,7 @@ pub(crate) fn front_header<'a>(packet: &'a [u8]) -> Option<Ipv4HeaderSlice<'a>>
 }
 
 /// Translates a whole packet with this header.
+#[inline(always)]
 fn translate_after(
     header: &Ipv4HeaderSlice<'_>,
     packet: &[u8],
@@ -163,7 +233,114 @@ fn translate_message(
     Ok(len)
 }
 
+/// Translates a whole packet with this header, as `translate_with` does. It writes the header to its place.
+#[inline(always)]
+fn translate_plain(
+    header: &Ipv4HeaderSlice<'_>,
+    packet: &[u8],
+    prefixes: &Prefixes,
+    buffer: &mut [u8],
+) -> Result<usize, PacketTranslationError>
+    requires whole { ipv4_is_fragment header.now ≡ false }
+    ensures refused { RefusesExactly result (parts.refusal_with header.now prefixes.now packet.now (length buffer.old)) }
+    ensures len { IfOk result (λ len. len ≡ parts.len_with header.now prefixes.now (specs.message_after header.now packet.now)) }
+    ensures written { IfOk result (λ len. buffer.new
+        ≡ parts.translation_with header.now prefixes.now (specs.message_after header.now packet.now) ++ drop len buffer.old) }
+    ensures unchanged { IfErr result (λ _. buffer.new ≡ buffer.old) }
+    ensures alike { IfOk result (λ _. parts.IsPacketAlike prefixes.now header.now (specs.message_after header.now packet.now)) }
+{
+    translate_in_place(header, packet, prefixes, buffer)
+}
+
+/// Translates a whole packet with this header, as `translate_after` does.
+#[inline(always)]
+fn translate_in_place(
+    header: &Ipv4HeaderSlice<'_>,
+    packet: &[u8],
+    prefixes: &Prefixes,
+    buffer: &mut [u8],
+) -> Result<usize, PacketTranslationError>
+    ensures refused { RefusesExactly result (specs.refusal_after header.now prefixes.now packet.now (length buffer.old)) }
+    ensures len { IfOk result (λ len. len ≡ specs.translated_len header.now prefixes.now (specs.message_after header.now packet.now)) }
+    ensures written { IfOk result (λ len. buffer.new
+        ≡ specs.translation_of header.now prefixes.now (specs.message_after header.now packet.now) ++ drop len buffer.old) }
+    ensures unchanged { IfErr result (λ _. buffer.new ≡ buffer.old) }
+    ensures alike { IfOk result (λ _. specs.AreAcceptedAlike prefixes.now header.now (specs.message_after header.now packet.now)) }
+{
+    check_translation(header, prefixes)?;
+    let message = message_after(header, packet)?;
+    if is_icmp_error(header.protocol(), message) {
+        return translate_error(message, header, prefixes, buffer);
+    }
+    translate_message_in_place(message, header, prefixes, buffer)
+}
+
+/// Refuses a header that has no translation.
+#[inline(always)]
+fn check_translation(
+    header: &Ipv4HeaderSlice<'_>,
+    prefixes: &Prefixes,
+) -> Result<(), PacketTranslationError>
+    ensures refused { RefusesExactly result (option_map Header (headers.header_refusal prefixes.now header.now)) }
+    ensures total_len { IfOk result (λ _. ipv4_header_len header.now ≤ headers.total_len header.now) }
+{
+    match check_whole_header(header, prefixes) {
+        Ok(()) => Ok(()),
+        Err(error) => Err(PacketTranslationError::Header(error)),
+    }
+}
+
+/// Translates a packet with this header and this message, which is no ICMP error.
+#[inline(always)]
+fn translate_message_in_place(
+    message: &[u8],
+    header: &Ipv4HeaderSlice<'_>,
+    prefixes: &Prefixes,
+    buffer: &mut [u8],
+) -> Result<usize, PacketTranslationError>
+    requires ordered { ipv4_header_len header.now ≤ headers.total_len header.now }
+    requires counted { length message.now ≤ max_len_over_ipv4 }
+    ensures refused { RefusesExactly result (specs.other_refusal (headers.protocol header.now) message.now (length buffer.old)) }
+    ensures len { IfOk result (λ len. len ≡ 40 + length message.now) }
+    ensures written { IfOk result (λ len. buffer.new ≡ (headers.translated_header prefixes.now header.now
+        ++ specs.updated_message prefixes.now header.now message.now) ++ drop len buffer.old) }
+    ensures unchanged { IfErr result (λ _. buffer.new ≡ buffer.old) }
+    ensures alike { IfOk result (λ _. specs.IsAcceptedAlike prefixes.now header.now message.now
+        (specs.updated_message prefixes.now header.now message.now)) }
+{
+    check_message(header.protocol(), message)?;
+    let len = IPV6_LEN + message.len();
+    check_space(len, buffer.len())?;
+    write_in_place(buffer, message, header, prefixes);
+    Ok(len)
+}
+
+/// Writes the translated header and the translated message to the front of the buffer.
+#[inline(always)]
+fn write_in_place(
+    buffer: &mut [u8],
+    message: &[u8],
+    header: &Ipv4HeaderSlice<'_>,
+    prefixes: &Prefixes,
+)
+    requires room { 40 + length message.now ≤ length buffer.old }
+    requires ordered { ipv4_header_len header.now ≤ headers.total_len header.now }
+    requires udp { headers.protocol header.now ≡ udp_number → specs.IsWholeUdp message.now }
+    requires tcp { headers.protocol header.now ≡ tcp_number → 20 ≤ length message.now }
+    requires icmp { headers.protocol header.now ≡ icmpv4_number → 8 ≤ length message.now }
+    requires counted { length message.now ≤ max_len_over_ipv4 }
+    ensures written { buffer.new ≡ (headers.translated_header prefixes.now header.now
+        ++ specs.updated_message prefixes.now header.now message.now) ++ drop (40 + length message.now) buffer.old }
+    ensures alike { specs.IsAcceptedAlike prefixes.now header.now message.now (specs.updated_message prefixes.now header.now message.now) }
+{
+    let (front, rest) = buffer.split_at_mut(IPV6_LEN);
+    write_header(front, header, prefixes);
+    let translated = &mut rest[..message.len()];
+    write_message(translated, message, header, prefixes, front);
+}
+
 /// Whether a message of this protocol is an ICMP message, but no echo message.
+#[inline(always)]
 fn is_icmp_error(protocol: IpNumber, message: &[u8]) -> bool
     ensures { result ≡ specs.is_icmp_error protocol.0 message.now }
 {
@@ -260,6 +437,7 @@ fn translated_header(
 }
 
 /// The message: the bytes after this header, up to the total length.
+#[inline(always)]
 pub(crate) fn message_after<'a>(
     header: &Ipv4HeaderSlice<'_>,
     packet: &'a [u8],

@@ -255,6 +255,26 @@ impl Prefix64 {
         }
     }
 
+    /// The octets of a prefix of 96 bits.
+    #[inline(always)]
+    pub(crate) fn octets_of_96(&self) -> Option<&[u8; 11]>
+        ensures { IfSome result (λ start. self.now ≡ Bits96 start.now) }
+    {
+        match self {
+            Prefix64::Bits96(start) => Some(start),
+            _ => None,
+        }
+    }
+
+    /// Whether this is a prefix of 96 bits whose first eight octets are not those of the well-known prefix.
+    #[inline(always)]
+    pub(crate) fn is_plain(&self) -> bool {
+        match self {
+            Prefix64::Bits96(start) => numbers_of(start).0 != numbers_of(&WELL_KNOWN_OCTETS).0,
+            _ => false,
+        }
+    }
+
     /// Whether an address begins with the prefix. The reserved octet of the address is skipped.
     #[inline(always)]
     fn is_front_of(&self, address: &[u8; 16]) -> bool

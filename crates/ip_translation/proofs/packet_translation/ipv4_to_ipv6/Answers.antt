@@ -9,37 +9,37 @@ use Rattle.ip_translation.proofs.PayloadLemmas.{ipv4_payload_kept}
 use Rattle.ip_translation.proofs.RuleLemmas.{last_of_two}
 use Rattle.ip_translation.proofs.packet_translation.ipv4_to_ipv6.Goals as goal
 
-pub returns-clause-refused : goal.returns-clause-refused
-returns-clause-refused c =
+pub returns-then-is_plain-clause-refused : goal.returns-then-is_plain-clause-refused
+returns-then-is_plain-clause-refused c =
     let packet : List ℕ = c.args.packet.now in
     let room : ℕ = length c.args.buffer.now in
-    subst (λ refusal. RefusesExactly c.translate_with.result refusal)
+    subst (λ refusal. RefusesExactly c.translate_plain.result refusal)
     (sym (
     last_of_two (refused_if (not (specs.begins_with_header packet)) NoIpv4Header)
     (parts.refusal_with (ipv4_header packet) c.args.prefixes.now packet room)
     (ap (λ begins. refused_if (not begins) NoIpv4Header) c.in-Some.ensures.found.0)
     ∙ ap (λ header. parts.refusal_with header c.args.prefixes.now packet room) (sym c.in-Some.ensures.found.1)))
-    c.translate_with.ensures.refused
+    c.translate_plain.ensures.refused
 
-pub returns-clause-len : goal.returns-clause-len
-returns-clause-len c =
-    subst (λ header. IfOk c.translate_with.result
+pub returns-then-is_plain-clause-len : goal.returns-then-is_plain-clause-len
+returns-then-is_plain-clause-len c =
+    subst (λ header. IfOk c.translate_plain.result
     (λ len. len ≡ parts.len_with header c.args.prefixes.now (specs.message_after header c.args.packet.now)))
-    c.in-Some.ensures.found.1 c.translate_with.ensures.len
+    c.in-Some.ensures.found.1 c.translate_plain.ensures.len
 
-pub returns-clause-written : goal.returns-clause-written
-returns-clause-written c =
-    subst (λ header. IfOk c.translate_with.result (λ len. c.translate_with.new.buffer
+pub returns-then-is_plain-clause-written : goal.returns-then-is_plain-clause-written
+returns-then-is_plain-clause-written c =
+    subst (λ header. IfOk c.translate_plain.result (λ len. c.translate_plain.new.buffer
     ≡ parts.translation_with header c.args.prefixes.now (specs.message_after header c.args.packet.now) ++ drop len c.args.buffer.now))
-    c.in-Some.ensures.found.1 c.translate_with.ensures.written
+    c.in-Some.ensures.found.1 c.translate_plain.ensures.written
 
-pub returns-clause-alike : goal.returns-clause-alike
-returns-clause-alike c =
-    subst (λ header. IfOk c.translate_with.result
+pub returns-then-is_plain-clause-alike : goal.returns-then-is_plain-clause-alike
+returns-then-is_plain-clause-alike c =
+    subst (λ header. IfOk c.translate_plain.result
     (λ _. parts.IsPacketAlike c.args.prefixes.now header (specs.message_after header c.args.packet.now)))
-    c.in-Some.ensures.found.1 c.translate_with.ensures.alike
+    c.in-Some.ensures.found.1 c.translate_plain.ensures.alike
 
-pub returns-clause-payload : goal.returns-clause-payload
-returns-clause-payload c =
-    ipv4_payload_kept c.translate_with.result c.args.prefixes.now c.args.packet.now c.args.buffer.now c.translate_with.new.buffer
-    (returns-clause-refused c) (returns-clause-len c) (returns-clause-written c) (search rules)
+pub returns-then-is_plain-clause-payload : goal.returns-then-is_plain-clause-payload
+returns-then-is_plain-clause-payload c =
+    ipv4_payload_kept c.translate_plain.result c.args.prefixes.now c.args.packet.now c.args.buffer.now c.translate_plain.new.buffer
+    (returns-then-is_plain-clause-refused c) (returns-then-is_plain-clause-len c) (returns-then-is_plain-clause-written c) (search rules)
