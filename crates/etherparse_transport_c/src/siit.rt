@@ -1,4 +1,4 @@
-ghost use Rattle.std.specs.Prelude.{◌≡◌, IfOk, None, Some, [], length};
+ghost use Rattle.std.specs.Prelude.{◌≡◌, IfOk, IfSome, None, Some, [], length};
 ghost use Rattle.net_base.specs.Refusals.{RefusesExactly};
 ghost use Rattle.ip_translation.specs.ErrorTexts.{address_text, prefix_text};
 ghost use Rattle.ip_translation.specs.PacketsToIpv4 as to_ipv4;
@@ -34,6 +34,7 @@ const SOURCE: usize = 0;
 const DESTINATION: usize = 1;
 
 /// Returns the prefix.
+#[inline(always)]
 fn prefix_of(prefix: &EtherparsePrefix64) -> Result<Prefix64, EtherparseError>
     ensures refused { RefusesExactly result (specs.prefix_refusal prefix.now) }
     ensures kept { IfOk result (λ found. IsPrefix prefix.now found) }
@@ -57,8 +58,45 @@ fn of_prefix(error: &Prefix64Error) -> EtherparseError
     }
 }
 
+/// Returns the prefix if it has 96 bits. `None` for any other prefix, and for a refused prefix.
+#[inline(always)]
+fn prefix_of_96_bits(prefix: &EtherparsePrefix64) -> Option<Prefix64>
+    ensures accepted { IfSome result (λ _. specs.prefix_refusal prefix.now ≡ None) }
+    ensures kept { IfSome result (λ found. IsPrefix prefix.now found) }
+{
+    let address = prefix.address;
+    let last = [address[12], address[13], address[14], address[15]];
+    if prefix.len != 96 || address[8] != 0 || u32::from_be_bytes(last) != 0 {
+        return None;
+    }
+    prefix_of(prefix).ok()
+}
+
 /// Returns both prefixes. The error is about the first refused prefix.
+// perf: most callers pass prefixes of 96 bits. They are read here, so that the compiler does not mix this code with the code for other
+// prefixes.
+#[inline(always)]
 fn prefixes_of(
+    source: &EtherparsePrefix64,
+    destination: &EtherparsePrefix64,
+) -> Result<Prefixes<'static>, EtherparseError>
+    ensures refused { RefusesExactly result (prefixes_refusal source.now destination.now) }
+    ensures source { IfOk result (λ found. IsPrefix source.now found.source.prefix) }
+    ensures source_mappings { IfOk result (λ found. found.source.mappings.now ≡ []) }
+    ensures destination { IfOk result (λ found. IsPrefix destination.now found.destination.prefix) }
+    ensures destination_mappings { IfOk result (λ found. found.destination.mappings.now ≡ []) }
+{
+    if let Some(first) = prefix_of_96_bits(source) {
+        if let Some(second) = prefix_of_96_bits(destination) {
+            return Ok(Prefixes::new(first, second));
+        }
+    }
+    prefixes_of_any(source, destination)
+}
+
+/// Returns both prefixes, of any length.
+#[inline(never)]
+fn prefixes_of_any(
     source: &EtherparsePrefix64,
     destination: &EtherparsePrefix64,
 ) -> Result<Prefixes<'static>, EtherparseError>

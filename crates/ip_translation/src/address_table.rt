@@ -80,6 +80,17 @@ impl<'a> AddressTable<'a> {
         }
     }
 
+    /// Refuses an IPv4 address that `to_ipv6` refuses.
+    #[inline(always)]
+    pub(crate) fn check_ipv4(&self, ipv4: [u8; 4]) -> Result<(), AddressError>
+        ensures { RefusesExactly result (tables.to_ipv6_refusal self.now ipv4) }
+    {
+        match self.mapping_of_ipv4(ipv4) {
+            Some(_) => Ok(()),
+            None => self.prefix.check_ipv4(ipv4),
+        }
+    }
+
     /// Writes the IPv6 address that `embed` returns.
     #[inline(always)]
     pub(crate) fn write_embedded(&self, ipv4: [u8; 4], place: &mut [u8])

@@ -363,13 +363,21 @@ fn check_quoted_header(header: &Ipv4HeaderSlice<'_>) -> Result<u16, TranslationE
 }
 
 /// Refuses a header if one of its addresses has no translation.
+#[inline(always)]
 pub(crate) fn check_embedding(
     header: &Ipv4HeaderSlice<'_>,
     prefixes: &Prefixes,
 ) -> Result<(), TranslationError>
     ensures refused { RefusesExactly result (specs.embedding_refusal prefixes.now header.now) }
 {
-    write_addresses(header, prefixes, &mut [0; 16], &mut [0; 16])
+    match prefixes.source.check_ipv4(header.source()) {
+        Ok(()) => {}
+        Err(error) => return Err(TranslationError::Source(error)),
+    }
+    match prefixes.destination.check_ipv4(header.destination()) {
+        Ok(()) => Ok(()),
+        Err(error) => Err(TranslationError::Destination(error)),
+    }
 }
 
 /// Writes the IPv6 addresses for the source and the destination.

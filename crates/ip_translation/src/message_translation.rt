@@ -67,9 +67,11 @@ fn check_udp(packet: &[u8]) -> Result<(), PacketTranslationError>
     ensures whole { IfOk result (λ _. specs.IsWholeUdp packet.now) }
 {
     check_header_len(packet, UDP_LEN)?;
+    if number(packet, UDP_CHECKSUM_AT) != 0 {
+        return Ok(());
+    }
     let length = usize::from(number(packet, UDP_LENGTH_AT));
-    let has_no_sum = length < UDP_LEN || packet.len() < length;
-    if number(packet, UDP_CHECKSUM_AT) == 0 && has_no_sum {
+    if length < UDP_LEN || packet.len() < length {
         return Err(PacketTranslationError::UdpLength {
             length,
             len: packet.len(),

@@ -19,7 +19,7 @@ use crate::echo_translation::{icmpv6_pseudo_header, type_over_ipv6};
 use crate::error_to_ipv6::error_to_ipv6;
 use crate::fragment_to_ipv6::translate_part;
 use crate::header_translation::{
-    IPV6_LEN, check_any_fields, check_whole_header, checked_ipv6_header, header_with, write_header,
+    IPV6_LEN, check_whole_header, checked_ipv6_header, header_with, write_header,
 };
 use crate::message_translation::{ICMP_LEN, check_message, check_space, number, write_message};
 use crate::{PacketTranslationError, Prefixes};
@@ -83,7 +83,7 @@ pub fn ipv4_to_ipv6(
 {
     // perf: after these tests, the compiler leaves out the code for other packets, and the tests that it has made.
     if let Some(header) = plain_header(packet) {
-        if is_plain(&header, packet, prefixes, buffer) {
+        if is_plain(&header, packet, prefixes) {
             return translate_plain(&header, packet, prefixes, buffer);
         }
     }
@@ -104,22 +104,13 @@ fn plain_header<'a>(packet: &'a [u8]) -> Option<Ipv4HeaderSlice<'a>>
 /// Whether this is a packet of UDP or TCP that two prefixes of 96 bits translate. The code for plain packets and the code for all
 /// packets are proved alike, so this test decides only which code runs.
 #[inline(always)]
-fn is_plain(
-    header: &Ipv4HeaderSlice<'_>,
-    packet: &[u8],
-    prefixes: &Prefixes,
-    buffer: &[u8],
-) -> bool
+fn is_plain(header: &Ipv4HeaderSlice<'_>, packet: &[u8], prefixes: &Prefixes) -> bool
     ensures whole { IsTrue result → ipv4_is_fragment header.now ≡ false }
 {
-    let total_len = usize::from(header.total_len());
     !header.is_fragmenting_payload()
         && prefixes.source.is_plain()
         && prefixes.destination.is_plain()
         && is_plain_message(header.protocol(), packet)
-        && check_any_fields(header).is_ok()
-        && total_len <= packet.len()
-        && total_len + 20 <= buffer.len()
 }
 
 /// Whether a packet without options contains the header of UDP with a checksum, or of TCP.

@@ -39,6 +39,7 @@ impl Prefix64 {
     /// - `Len` if the length is not 32, 40, 48, 56, 64 or 96.
     /// - `ReservedOctet` if bits 64 to 71 are not all 0 (RFC 6052, section 2.2).
     /// - `SuffixBits` if a bit after the prefix is not 0.
+    #[inline(always)]
     pub fn new(address: [u8; 16], len: u8) -> Result<Prefix64, Prefix64Error>
         ensures refused { RefusesExactly result (specs.prefix_refusal address len) }
         ensures kept { IfOk result (λ prefix. specs.prefix_address prefix ≡ address) }
@@ -192,6 +193,17 @@ impl Prefix64 {
             return Err(AddressError::NotGlobal);
         }
         self.write(ipv4, address);
+        Ok(())
+    }
+
+    /// Refuses an IPv4 address that `to_ipv6` refuses.
+    #[inline(always)]
+    pub(crate) fn check_ipv4(&self, ipv4: [u8; 4]) -> Result<(), AddressError>
+        ensures refused { RefusesExactly result (specs.to_ipv6_refusal self.now ipv4) }
+    {
+        if self.is_excluded(ipv4) {
+            return Err(AddressError::NotGlobal);
+        }
         Ok(())
     }
 

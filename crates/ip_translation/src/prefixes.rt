@@ -16,6 +16,7 @@ pub struct Prefixes<'a> {
 
 impl<'a> Prefixes<'a> {
     /// Two prefixes without explicit mappings. The prefix `source` embeds the source, and `destination` embeds the destination.
+    #[inline(always)]
     pub fn new(source: Prefix64, destination: Prefix64) -> Prefixes<'a>
         ensures source { result.source.prefix ≡ source }
         ensures destination { result.destination.prefix ≡ destination }
@@ -26,6 +27,7 @@ impl<'a> Prefixes<'a> {
     }
 
     /// Two prefixes for the addresses without an explicit mapping. The mappings translate both addresses (RFC 7757, section 3.3).
+    #[inline(always)]
     pub fn with_mappings(
         source: Prefix64,
         destination: Prefix64,
