@@ -295,7 +295,7 @@ fn start_of_ipv6(header: &Ipv4HeaderSlice<'_>) -> [u8; 8]
     let service = byte_at(header.slice(), TYPE_OF_SERVICE_AT);
     let payload_len = header.total_len() - u16::from(header.ihl()) * 4;
     let [high, low] = payload_len.to_be_bytes();
-    let hop_limit = header.ttl().saturating_sub(1);
+    let time_to_live = header.ttl();
     [
         0x60 + service / 16,
         service % 16 * 16,
@@ -304,7 +304,7 @@ fn start_of_ipv6(header: &Ipv4HeaderSlice<'_>) -> [u8; 8]
         high,
         low,
         next_header(header.protocol()).0,
-        hop_limit,
+        time_to_live.saturating_sub(1),
     ]
 }
 

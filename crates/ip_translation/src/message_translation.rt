@@ -171,7 +171,6 @@ fn write_icmp(
 }
 
 /// Writes a UDP packet with its new checksum. The translated packet begins with the headers `front`.
-// perf: in a function of its own, the compiler inlines the sums of the addresses, and adds nothing for zeros.
 #[inline(always)]
 fn write_udp(
     translated: &mut [u8],
@@ -199,7 +198,7 @@ fn write_udp(
 }
 
 /// Writes a TCP segment with its checksum updated for the new addresses. The translated packet begins with the headers `front`.
-// perf: a function of its own for the same reason.
+// perf: in a function of its own, so that the code for UDP is short.
 #[inline(never)]
 fn write_tcp(
     translated: &mut [u8],

@@ -81,7 +81,7 @@ pub fn ipv4_to_ipv6(
     // All bytes after the transport header are kept.
     ensures payload { IfOk result (λ len. IsIpv4PayloadKept packet.now (take len buffer.new)) }
 {
-    // perf: after these tests, the compiler leaves out the code for other packets, and the tests that it has made.
+    // perf: after these tests, the compiler leaves out the code for other packets.
     if let Some(header) = plain_header(packet) {
         if is_plain(&header, packet, prefixes) {
             return translate_plain(&header, packet, prefixes, buffer);
@@ -300,7 +300,7 @@ fn translate_message_in_place(
         (specs.updated_message prefixes.now header.now message.now)) }
 {
     check_message(header.protocol(), message)?;
-    let len = IPV6_LEN + message.len();
+    let len = message.len() + IPV6_LEN;
     check_space(len, buffer.len())?;
     write_in_place(buffer, message, header, prefixes);
     Ok(len)

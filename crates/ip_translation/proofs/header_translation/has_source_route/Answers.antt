@@ -1,4 +1,4 @@
-use Rattle.std.proofs.Common.{◌≡◌, ℕ, List, [], ◌∷◌, None, false, length, refl, ap, sym, ◌∙◌, arith}
+use Rattle.std.proofs.Common.{◌≡◌, ℕ, List, [], ◌∷◌, false, length, refl, ap, sym, ◌∙◌, arith}
 use Rattle.std.specs.List.{find}
 use Rattle.std.specs.Prelude.{is_some}
 use Rattle.ip_part.specs.Options.{ipv4_option, is_unexpired_route, options_of}

@@ -1,9 +1,7 @@
-use Rattle.std.proofs.Common.{◌≡◌, ◌+◌, ap, ◌∙◌, subst, sym}
+use Rattle.std.proofs.Common.{◌+◌, ap, ◌∙◌, subst, sym}
 use Rattle.word_sum.specs.Checksum.{folded, total}
 use Rattle.word_sum.specs.ChecksumChange.{IsExtendedBy, added_value}
-use Rattle.ip_translation.specs.AddressTables.{embedded}
 use Rattle.ip_translation.specs.Prefixes as prefixes
-use Rattle.ip_translation.specs.declared.prefix64.Prefix64.TheVariants.{Bits96}
 use Rattle.ip_translation.proofs.AddressTableLemmas.{embedded_without}
 use Rattle.ip_translation.proofs.header_translation.replace_address.Goals as goal
 

@@ -1,9 +1,7 @@
-use Rattle.std.proofs.Common.{◌≡◌, ◌+◌, ℕ, rules, refl, ap, ◌∙◌, sym, arith}
+use Rattle.std.proofs.Common.{◌+◌, ℕ, rules, refl, ap, ◌∙◌, sym, arith}
 use Rattle.std.specs.Prelude.{slice_range}
 use Rattle.word_sum.specs.Checksum.{folded, total}
 use Rattle.word_sum.specs.ChecksumChange.{added_value, removed_value}
-use Rattle.ip_translation.specs.Prefixes.{embedded}
-use Rattle.ip_translation.specs.declared.prefix64.Prefix64.TheVariants.{Bits96}
 use Rattle.ip_translation.proofs.ReplacedAddressLemmas.{folded_four, third, total_of_96}
 use Rattle.ip_translation.proofs.header_translation.replace_by_96.Goals as goal
 

@@ -1,4 +1,4 @@
-use Rattle.std.proofs.Common.{◌≡◌, List, ℕ, true, false, sym, ◌∙◌, true≢false}
+use Rattle.std.proofs.Common.{◌≡◌, List, ℕ, false, sym, ◌∙◌, true≢false}
 use Rattle.std.proofs.lemmas.Result.{IfOk-weaker}
 use Rattle.net_base.specs.IpHeaders.{ipv4_is_fragment}
 use Rattle.ip_translation.specs.FragmentsToIpv6 as parts
