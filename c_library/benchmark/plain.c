@@ -683,6 +683,51 @@ etherparse_status plain_ipv6_to_ipv4(const uint8_t *packet, size_t packet_len, c
     return ETHERPARSE_OK;
 }
 
+/* The blocks of IPv4 addresses that are not global (RFC 5735, section 4, and RFC 6598). */
+static const struct {
+    uint32_t block;
+    unsigned len;
+} special[] = {
+    {0x00000000, 8},  {0x0a000000, 8},  {0x64400000, 10}, {0x7f000000, 8},  {0xa9fe0000, 16},
+    {0xac100000, 12}, {0xc0000000, 24}, {0xc0000200, 24}, {0xc0586300, 24}, {0xc0a80000, 16},
+    {0xc6120000, 15}, {0xc6336400, 24}, {0xcb007100, 24}, {0xe0000000, 4},  {0xf0000000, 4},
+};
+
+/* Whether this is the address of a host (RFC 1812, section 5.3.7), which the well-known prefix embeds only if it is global (RFC 6052,
+ * section 3.1). */
+static int is_translated(const uint8_t address[4], const etherparse_prefix64 *prefix)
+{
+    static const uint8_t well_known[12] = {0, 0x64, 0xff, 0x9b};
+    uint32_t number = big_endian_32(address);
+    size_t i;
+    if (address[0] == 0 || address[0] == 127 || address[0] > 223)
+        return 0;
+    if (memcmp(prefix->address, well_known, sizeof well_known) == 0)
+        for (i = 0; i < sizeof special / sizeof special[0]; i++)
+            if ((number ^ special[i].block) >> (32 - special[i].len) == 0)
+                return 0;
+    return 1;
+}
+
+/* The same translation, which also refuses the addresses that the library refuses. */
+etherparse_status plain_checked_ipv4_to_ipv6(const uint8_t *packet, size_t packet_len, const etherparse_prefix64 *source,
+                                             const etherparse_prefix64 *destination, uint8_t *buffer, size_t buffer_len, size_t *written,
+                                             etherparse_error *error)
+{
+    if (packet_len < 20 || !is_translated(packet + 12, source) || !is_translated(packet + 16, destination))
+        return refuse(error, 20, packet_len);
+    return plain_ipv4_to_ipv6(packet, packet_len, source, destination, buffer, buffer_len, written, error);
+}
+
+etherparse_status plain_checked_ipv6_to_ipv4(const uint8_t *packet, size_t packet_len, const etherparse_prefix64 *source,
+                                             const etherparse_prefix64 *destination, uint16_t identification, uint8_t *buffer,
+                                             size_t buffer_len, size_t *written, etherparse_error *error)
+{
+    if (packet_len < 40 || !is_translated(packet + 20, source) || !is_translated(packet + 36, destination))
+        return refuse(error, 40, packet_len);
+    return plain_ipv6_to_ipv4(packet, packet_len, source, destination, identification, buffer, buffer_len, written, error);
+}
+
 /* The place of a fragment in the payload of its packet. */
 struct part {
     size_t offset, end;

@@ -32,6 +32,12 @@ etherparse_status plain_ipv4_to_ipv6(const uint8_t *packet, size_t packet_len, c
 etherparse_status plain_ipv6_to_ipv4(const uint8_t *packet, size_t packet_len, const etherparse_prefix64 *source,
                                      const etherparse_prefix64 *destination, uint16_t identification, uint8_t *buffer,
                                      size_t buffer_len, size_t *written, etherparse_error *error);
+etherparse_status plain_checked_ipv4_to_ipv6(const uint8_t *packet, size_t packet_len, const etherparse_prefix64 *source,
+                                             const etherparse_prefix64 *destination, uint8_t *buffer, size_t buffer_len, size_t *written,
+                                             etherparse_error *error);
+etherparse_status plain_checked_ipv6_to_ipv4(const uint8_t *packet, size_t packet_len, const etherparse_prefix64 *source,
+                                             const etherparse_prefix64 *destination, uint16_t identification, uint8_t *buffer,
+                                             size_t buffer_len, size_t *written, etherparse_error *error);
 etherparse_status plain_reassembly_packet(const uint8_t *packets, size_t packets_len, const size_t *lens, size_t lens_len, uint8_t *room,
                                           size_t room_len, uint8_t *buffer, size_t buffer_len, size_t *written, etherparse_error *error);
 

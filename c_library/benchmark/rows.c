@@ -161,16 +161,20 @@ ROW(echo,
     etherparse_echo_answer_ipv4(next_of(ping_over_ipv4, sizeof ping_over_ipv4), sizeof ping_over_ipv4, destination4, 64, &reply_len,
                                 &error),
     plain_echo_answer_ipv4(next_of(ping_over_ipv4, sizeof ping_over_ipv4), sizeof ping_over_ipv4, destination4, 64, &reply_len, &error))
-#define TO_IPV6(function, packet)                                                                                                      \
+#define TO_IPV6(function, plain, packet)                                                                                               \
     ROW(function, etherparse_ipv4_to_ipv6(packet, sizeof packet, &host, &network, translated, sizeof translated, &written, &error),    \
-        plain_ipv4_to_ipv6(packet, sizeof packet, &host, &network, translated, sizeof translated, &written, &error))
-#define TO_IPV4(function, packet)                                                                                                      \
+        plain(packet, sizeof packet, &host, &network, translated, sizeof translated, &written, &error))
+#define TO_IPV4(function, plain, packet)                                                                                               \
     ROW(function, etherparse_ipv6_to_ipv4(packet, sizeof packet, &host, &network, 7, translated, sizeof translated, &written, &error), \
-        plain_ipv6_to_ipv4(packet, sizeof packet, &host, &network, 7, translated, sizeof translated, &written, &error))
-TO_IPV6(short_to_ipv6, short_ipv4)
-TO_IPV6(long_to_ipv6, long_ipv4)
-TO_IPV4(short_to_ipv4, short_ipv6)
-TO_IPV4(long_to_ipv4, long_ipv6)
+        plain(packet, sizeof packet, &host, &network, 7, translated, sizeof translated, &written, &error))
+TO_IPV6(short_to_ipv6, plain_ipv4_to_ipv6, short_ipv4)
+TO_IPV6(long_to_ipv6, plain_ipv4_to_ipv6, long_ipv4)
+TO_IPV4(short_to_ipv4, plain_ipv6_to_ipv4, short_ipv6)
+TO_IPV4(long_to_ipv4, plain_ipv6_to_ipv4, long_ipv6)
+TO_IPV6(short_to_ipv6_checked, plain_checked_ipv4_to_ipv6, short_ipv4)
+TO_IPV6(long_to_ipv6_checked, plain_checked_ipv4_to_ipv6, long_ipv4)
+TO_IPV4(short_to_ipv4_checked, plain_checked_ipv6_to_ipv4, short_ipv6)
+TO_IPV4(long_to_ipv4_checked, plain_checked_ipv6_to_ipv4, long_ipv6)
 #define JOIN(function, count)                                                                                                          \
     ROW(function,                                                                                                                      \
         etherparse_reassembly_packet(fragments_of(count), sizeof fragments, lens, count, room, sizeof room, joined, sizeof joined,     \
@@ -204,6 +208,10 @@ static const struct {
     {"ipv4_to_ipv6, UDP, 1400 bytes", long_to_ipv6},
     {"ipv6_to_ipv4, UDP, 64 bytes", short_to_ipv4},
     {"ipv6_to_ipv4, UDP, 1400 bytes", long_to_ipv4},
+    {"ipv4_to_ipv6, UDP, 64 bytes, the same checks", short_to_ipv6_checked},
+    {"ipv4_to_ipv6, UDP, 1400 bytes, the same checks", long_to_ipv6_checked},
+    {"ipv6_to_ipv4, UDP, 64 bytes, the same checks", short_to_ipv4_checked},
+    {"ipv6_to_ipv4, UDP, 1400 bytes, the same checks", long_to_ipv4_checked},
     {"reassembly_packet, 2 fragments", join_two},
     {"reassembly_packet, 10 fragments", join_ten},
     {"reassembly_packet, 45 fragments", join_most},
