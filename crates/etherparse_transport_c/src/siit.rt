@@ -111,17 +111,6 @@ fn prefixes_of_any(
     Ok(Prefixes::new(source, destination))
 }
 
-/// Refuses, as `refuse` does.
-// perf: in a function of its own, so that the compiler copies the prefixes as a whole.
-#[inline(never)]
-fn refuse_apart(place: ErrorPlace, refusal: EtherparseError) -> Answer
-    ensures status { result.status ≡ refusal.status }
-    ensures pointer { result.pointer ≡ place.pointer }
-    ensures error { result.error ≡ refusal }
-{
-    refuse(place, refusal)
-}
-
 /// Translates an IPv4 packet to IPv6 (RFC 7915, section 4). Writes the IPv6 packet to the front of `buffer`, and its length to `written`.
 /// The prefix `source` embeds the source, and `destination` embeds the destination. A receiver accepts the message of the translated packet
 /// exactly if it accepts the message of the original packet.
@@ -167,14 +156,14 @@ pub extern "C" fn etherparse_ipv4_to_ipv6(
 {
     let prefixes = match prefixes_of(source, destination) {
         Ok(prefixes) => prefixes,
-        Err(refused) => return refuse_apart(error, refused),
+        Err(refused) => return refuse(error, refused),
     };
     match ipv4_to_ipv6(packet, &prefixes, buffer) {
         Ok(len) => {
             *written = len;
             accept(error)
         }
-        Err(refused) => refuse_apart(error, of_siit(&refused)),
+        Err(refused) => refuse(error, of_siit(&refused)),
     }
 }
 
@@ -227,14 +216,14 @@ pub extern "C" fn etherparse_ipv6_to_ipv4(
 {
     let prefixes = match prefixes_of(source, destination) {
         Ok(prefixes) => prefixes,
-        Err(refused) => return refuse_apart(error, refused),
+        Err(refused) => return refuse(error, refused),
     };
     match ipv6_to_ipv4(packet, &prefixes, identification, buffer) {
         Ok(len) => {
             *written = len;
             accept(error)
         }
-        Err(refused) => refuse_apart(error, of_siit(&refused)),
+        Err(refused) => refuse(error, of_siit(&refused)),
     }
 }
 

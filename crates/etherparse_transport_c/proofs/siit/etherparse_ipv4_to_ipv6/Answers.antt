@@ -25,6 +25,6 @@ returns-in-Err-ipv4_to_ipv6-clause-translated c = λ accepted. (
     no_destination_mappings = c.in-Ok.ensures.destination_mappings;
   },
   refused_answer _ c.in-Err-ipv4_to_ipv6.refused _ _ _ _ _ _ _ c.in-Err-ipv4_to_ipv6.ensures.refused
-      (c.refuse_apart-in-Err-ipv4_to_ipv6.ensures.status ∙ ap (λ error. error.status) c.of_siit.ensures.numbers)
-      (c.refuse_apart-in-Err-ipv4_to_ipv6.ensures.error ∙ c.of_siit.ensures.numbers) c.in-Err-ipv4_to_ipv6.ensures.unchanged,
+      (c.refuse-in-Err-ipv4_to_ipv6.ensures.status ∙ ap (λ error. error.status) c.of_siit.ensures.numbers)
+      (c.refuse-in-Err-ipv4_to_ipv6.ensures.error ∙ c.of_siit.ensures.numbers) c.in-Err-ipv4_to_ipv6.ensures.unchanged,
 )

@@ -25,6 +25,6 @@ returns-in-Err-ipv6_to_ipv4-clause-translated c = λ accepted. (
     no_destination_mappings = c.in-Ok.ensures.destination_mappings;
   },
   refused_answer _ c.in-Err-ipv6_to_ipv4.refused _ _ _ _ _ _ _ c.in-Err-ipv6_to_ipv4.ensures.refused
-      (c.refuse_apart-in-Err-ipv6_to_ipv4.ensures.status ∙ ap (λ error. error.status) c.of_siit.ensures.numbers)
-      (c.refuse_apart-in-Err-ipv6_to_ipv4.ensures.error ∙ c.of_siit.ensures.numbers) c.in-Err-ipv6_to_ipv4.ensures.unchanged,
+      (c.refuse-in-Err-ipv6_to_ipv4.ensures.status ∙ ap (λ error. error.status) c.of_siit.ensures.numbers)
+      (c.refuse-in-Err-ipv6_to_ipv4.ensures.error ∙ c.of_siit.ensures.numbers) c.in-Err-ipv6_to_ipv4.ensures.unchanged,
 )
