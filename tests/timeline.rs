@@ -1,9 +1,12 @@
 //! Tests of the crate `timeline`.
 
-use crate::expect::{expect_at, expect_equal, expect_ok};
+use crate::expect::{expect_at, expect_equal, expect_ok, expect_some};
 use std::alloc::Global;
 use std::process::Abort;
-use timeline::{Count, Counts, Event, Fault, MAX_INTERVALS, Timeline, Transport};
+use std::num::NonZeroU128;
+use timeline::{
+    Count, Counts, Event, Fault, MAX_FIXED_INTERVALS, MAX_INTERVALS, Timeline, Transport,
+};
 
 /// A UDP packet of 100 bytes at this time.
 fn udp(time: Option<u128>) -> Event {
@@ -154,6 +157,70 @@ fn older_packets_and_packets_without_a_time_are_apart(rt: HostRuntime) {
     expect_equal(&rt, &timeline.older().udp, &count(2, 200));
     let shown = intervals(&rt, rt.alloc(), &timeline);
     expect_equal(&rt, &Counts::sum(&shown).udp, &count(2, 200));
+    expect_equal(&rt, &timeline.later(), &Counts::NONE);
+}
+
+/// A timeline without packets, of this width.
+fn with_width(rt: &impl Abort, alloc: Global, width: u128) -> Timeline {
+    let width = expect_some(rt, NonZeroU128::new(width));
+    expect_ok(rt, Timeline::with_width(alloc, width))
+}
+
+/// Stops the test unless the number of intervals and of later packets are these after a packet at time 1000 and another packet so much
+/// later. The first number of the row is the width.
+fn expect_fixed(rt: &impl Abort, alloc: Global, row: &(u128, u128, usize, u64)) {
+    let mut timeline = with_width(rt, alloc, row.0);
+    timeline.add(&udp(Some(1000)));
+    timeline.add(&udp(Some(1000 + row.1)));
+    expect_at(rt, row, &timeline.width(), &row.0);
+    expect_at(rt, row, &timeline.interval_count(), &row.2);
+    expect_at(rt, row, &timeline.later().udp.packets, &row.3);
+    let shown = intervals(rt, alloc, &timeline);
+    expect_at(rt, row, &shown.len(), &row.2);
+    expect_at(rt, row, &Counts::sum(&shown).udp.packets, &(2 - row.3));
+    let last = timeline.interval(row.2 - 1).udp.packets;
+    let expected = if row.2 == 1 { 2 - row.3 } else { 1 };
+    expect_at(rt, row, &last, &expected);
+}
+
+#[test]
+fn a_fixed_width_does_not_grow(rt: HostRuntime) {
+    expect_equal(&rt, &MAX_FIXED_INTERVALS, &65_536);
+    let rows: [(u128, u128, usize, u64); 11] = [
+        (1, 0, 1, 0),
+        (1, 256, 257, 0),
+        (1, 65_535, 65_536, 0),
+        (1, 65_536, 1, 1),
+        (3, 7, 3, 0),
+        (10, 9, 1, 0),
+        (10, 10, 2, 0),
+        (10, 655_359, 65_536, 0),
+        (10, 655_360, 1, 1),
+        (1, u128::MAX - 1000, 1, 1),
+        (u128::MAX, u128::MAX - 1000, 1, 0),
+    ];
+    for row in &rows {
+        expect_fixed(&rt, rt.alloc(), row);
+    }
+}
+
+#[test]
+fn packets_in_no_interval_of_a_fixed_width_are_apart(rt: HostRuntime) {
+    let mut timeline = with_width(&rt, rt.alloc(), 2);
+    expect_equal(&rt, &timeline.width(), &2);
+    expect_each_interval(&rt, &timeline, &[]);
+    let times = [None, Some(7), Some(6), Some(131_079), Some(9), None, Some(131_078), Some(8)];
+    for time in times {
+        timeline.add(&udp(time));
+    }
+    expect_equal(&rt, &timeline.start(), &Some(7));
+    expect_equal(&rt, &timeline.untimed().udp, &count(2, 200));
+    expect_equal(&rt, &timeline.older().udp, &count(1, 100));
+    expect_equal(&rt, &timeline.later().udp, &count(1, 100));
+    expect_equal(&rt, &timeline.interval_count(), &65_536);
+    for (place, packets) in [(0, 2), (1, 1), (2, 0), (65_535, 1), (65_536, 0)] {
+        expect_at(&rt, &place, &timeline.interval(place).udp, &count(packets, packets * 100));
+    }
 }
 
 #[test]

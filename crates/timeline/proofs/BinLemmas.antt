@@ -48,10 +48,11 @@ module _ (start : ℕ) (packets : List Event) (untimed : All (λ packet. packet.
   all_before : (end : ℕ) → All (λ packet. IsBefore end packet.time) packets
   all_before end k d within = subst (IsBefore end) (sym (untimed k d within)) tt
 
-  pub no_intervals : AreIntervals start 1 [] packets
-  no_intervals = record {
-    contained = λ place. sym (between_none (start + place * 1) (start + (place + 1) * 1) packets (all_before (start + place * 1)));
-    suffice = all_before (start + 0 * 1);
+  pub no_intervals : (width : ℕ) → AreIntervals start width [] packets
+  no_intervals width = record {
+    contained = λ place. sym (between_none (start + place * width) (start + (place + 1) * width) packets (all_before
+        (start + place * width)));
+    suffice = all_before (start + 0 * width);
     fewest = λ count fits. omega arith;
   }
 

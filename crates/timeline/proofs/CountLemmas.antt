@@ -1,5 +1,5 @@
 -- Counts of two parts of some packets add up, and one more packet is counted.
-use Rattle.std.proofs.Common.{◌≡◌, ◌∙◌, ℕ, ◌+◌, Bool, true, false, cond, ◌&&◌, List, [], ◌∷◌, ◌++◌, sum_by, count_by, get_or, All, refl, ap, ap₂, arith}
+use Rattle.std.proofs.Common.{◌≡◌, ◌∙◌, ℕ, ◌+◌, Bool, true, false, cond, ◌&&◌, List, [], ◌∷◌, ◌++◌, filter, sum_by, count_by, get_or, All, refl, ap, ap₂, arith}
 use Rattle.std.proofs.lemmas.List.Elements.{All-head, All-tail}
 use Rattle.std.proofs.lemmas.List.Sums.{sum_by-cons, sum_by_push}
 use Rattle.timeline.specs.Counts.{count_of, count_sum, counted_if, counts_of, counts_sum, counts_with, is_fault, is_transport, no_packets, none, saturated}
@@ -116,6 +116,54 @@ none_pass packets =
 pub counts_none : (test : Event → Bool) (packets : List Event) → All (λ packet. test packet ≡ false) packets → counts_of test packets
     ≡ no_packets
 counts_none test packets fails = counts_agree test (λ packet. false) packets fails ∙ none_pass packets
+
+-- ---- some of the packets
+
+sum_by_filter : {X : Type 0} (keep : X → Bool) (f : X → ℕ) (xs : List X) → sum_by f (filter keep xs)
+    ≡ sum_by (λ x. cond (keep x) (f x) 0) xs
+sum_by_filter keep f [] = refl
+sum_by_filter keep f (x ∷ xs) = by (keep x) refl (sum_by_filter keep f xs)
+  where
+    by : (b : Bool) → keep x ≡ b → sum_by f (filter keep xs) ≡ sum_by (λ each. cond (keep each) (f each) 0) xs
+        → sum_by f (cond b (x ∷ filter keep xs) (filter keep xs)) ≡ sum_by (λ each. cond (keep each) (f each) 0) (x ∷ xs)
+    by true e others = omega (
+      arith,
+      sum_by-cons f x (filter keep xs),
+      sum_by-cons (λ each. cond (keep each) (f each) 0) x xs,
+      ap (λ b. cond b (f x) 0) e,
+      others,
+    )
+    by false e others = omega (
+      arith,
+      sum_by-cons (λ each. cond (keep each) (f each) 0) x xs,
+      ap (λ b. cond b (f x) 0) e,
+      others,
+    )
+
+cond_both : (k t y : Bool) (n : ℕ) → cond k (cond (t && y) n 0) 0 ≡ cond ((k && t) && y) n 0
+cond_both true t y n = refl
+cond_both false t y n = refl
+
+module _ (keep test : Event → Bool) (packets : List Event) where
+  filter_by : (key : Event → Bool) → count_of (λ packet. test packet && key packet) (filter keep packets)
+      ≡ count_of (λ packet. (keep packet && test packet) && key packet) packets
+  filter_by key = ap₂ count
+      (ap saturated (sum_by_filter keep (λ packet. bit (test packet && key packet)) packets
+      ∙ sum_by_agree (λ packet. cond (keep packet) (bit (test packet && key packet)) 0)
+      (λ packet. bit ((keep packet && test packet) && key packet)) packets
+      (λ k d within. cond_both (keep (get_or packets k d)) (test (get_or packets k d)) (key (get_or packets k d)) 1)))
+      (ap saturated (sum_by_filter keep (λ packet. cond (test packet && key packet) packet.len 0) packets
+      ∙ sum_by_agree (λ packet. cond (keep packet) (cond (test packet && key packet) packet.len 0) 0)
+      (λ packet. cond ((keep packet && test packet) && key packet) packet.len 0) packets
+      (λ k d within. cond_both (keep (get_or packets k d)) (test (get_or packets k d)) (key (get_or packets k d))
+      (get_or packets k d).len)))
+
+  -- the packets that are kept and pass the test
+  pub counts_filter : counts_of test (filter keep packets) ≡ counts_of (λ packet. keep packet && test packet) packets
+  counts_filter = counts_same _ _ _ _ _ _ _ _ _ _ _ _
+      (filter_by (λ packet. is_transport Udp packet.transport)) (filter_by (λ packet. is_transport Tcp packet.transport))
+      (filter_by (λ packet. is_transport Icmp packet.transport)) (filter_by (λ packet. is_transport Other packet.transport))
+      (filter_by (λ packet. is_fault Wrong packet.fault)) (filter_by (λ packet. is_fault Refused packet.fault))
 
 -- ---- one more packet
 

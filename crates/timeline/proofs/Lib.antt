@@ -1,6 +1,8 @@
 pub mod BinLemmas
 pub mod CountLemmas
+pub mod FixedLemmas
 pub mod IntervalLemmas
+pub mod LaterLemmas
 pub mod MergingLemmas
 pub mod TimelineExamples
 pub mod TimelineLemmas

@@ -1,8 +1,8 @@
 -- Worked examples of what a timeline counts, so that a wrong definition fails before any code does.
-use Rattle.std.proofs.Common.{◌≡◌, ℕ, [], ◌∷◌, List, None, Some, arith, inl, inr, refl, replicate}
+use Rattle.std.proofs.Common.{◌≡◌, ℕ, [], ◌∷◌, ◌++◌, List, None, Some, arith, false, inl, inr, refl, replicate}
 use Rattle.timeline.specs.Counts.{counts_of, no_packets, none, total}
 use Rattle.timeline.specs.Intervals.{Fits, IsWidth, counts_between, merged}
-use Rattle.timeline.specs.Timelines.{first_time, is_older, is_untimed, shown_width}
+use Rattle.timeline.specs.Timelines.{empty_timeline, first_time, is_later, is_older, is_untimed, shown_width}
 use Rattle.timeline.specs.declared.count.Count.{Count}
 use Rattle.timeline.specs.declared.counts.Counts.{Counts}
 use Rattle.timeline.specs.declared.event.Event.{Event}
@@ -53,16 +53,22 @@ pairs : merged 2 (of_udp 1 ∷ of_udp 2 ∷ of_udp 4 ∷ []) ≡ of_udp 3 ∷ of
 pairs = refl
 
 -- 300 bins of one second are shown as 150 intervals of two seconds
-two_seconds : shown_width (record {
-  start = Some 0;
-  unit = 1000000000;
-  bins = replicate 300
-      (of_udp 1);
-  older = no_packets;
-  untimed = no_packets;
-})
+two_seconds : shown_width (record (empty_timeline None) { start = Some 0; unit = 1000000000; bins = replicate 300 (of_udp 1) })
     ≡ 2000000000
 two_seconds = refl
+
+-- 300 intervals of a fixed width of one second
+one_second : shown_width (record (empty_timeline (Some 1000000000)) { bins = replicate 300 (of_udp 1) }) ≡ 1000000000
+one_second = refl
+
+-- With a fixed width of one unit the intervals end 65,536 units after the start.
+later : total (counts_of (λ packet. is_later (Some 1) (Some 1000) packet.time)
+    (packets ++ record { time = Some 66535; len = 1; transport = Udp; fault = None }
+    ∷ record { time = Some 66536; len = 2; transport = Udp; fault = None } ∷ [])) ≡ count 1 2
+later = refl
+
+never_later : is_later None (Some 1000) (Some 66536) ≡ false
+never_later = refl
 
 scale : IsWidth 200 × IsWidth 5 × IsWidth 1
 scale = ((2, inr (inl refl)), (0, inr (inr refl)), (0, inl refl))

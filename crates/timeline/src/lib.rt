@@ -4,6 +4,9 @@
 //! ten, in units of time, and is the least such width with which these intervals suffice. The first packet with a time begins the first
 //! interval. Packets that are older than the first packet are counted apart, and so are packets without a time.
 //!
+//! `Timeline::with_width` fixes the width instead. Then there are at most `MAX_FIXED_INTERVALS` intervals, and packets that are later are
+//! counted apart.
+//!
 //! ```
 //! let mut timeline = Timeline::new(alloc)?;
 //! timeline.add(&event);
@@ -24,4 +27,4 @@ pub use count::Count;
 pub use counts::Counts;
 pub use event::{Event, Fault, Transport};
 pub use merging::MAX_INTERVALS;
-pub use timeline::Timeline;
+pub use timeline::{MAX_FIXED_INTERVALS, Timeline};

@@ -2,7 +2,7 @@
 
 ghost use Rattle.std.specs.Prelude.{◌≡◌, ◌≤◌, ◌<◌, ◌*◌, IfOk, length, vec_capacity};
 ghost use Rattle.timeline.specs.Intervals.{merged, merged_at};
-ghost use Rattle.timeline.specs.Timelines.{bins_in_interval, max_bins};
+ghost use Rattle.timeline.specs.Timelines.{bins_in_interval, max_bins, max_fixed_intervals};
 
 use crate::Counts;
 use std::alloc::{AllocError, Global};
@@ -39,7 +39,7 @@ pub fn bins_in_interval(bins: usize) -> usize
 /// `AllocError` if no memory is left, and for no other reason.
 pub fn merged(alloc: Global, intervals: &[Counts], size: usize) -> Result<Vec<Counts>, AllocError>
     requires size { (0 < size) × (size ≤ 10) }
-    requires len { length intervals.now ≤ max_bins }
+    requires len { length intervals.now ≤ max_fixed_intervals }
     ensures { IfOk result (λ merged_intervals. merged_intervals.items ≡ merged size intervals.now) }
 {
     let mut merged = Vec::new(alloc);
@@ -66,7 +66,7 @@ pub fn coarsen(bins: &mut Vec<Counts>)
 #[tactic(auto, using(crate::proofs::MergingLemmas::slice_run))]
 pub fn merged_at(intervals: &[Counts], size: usize, place: usize) -> Counts
     requires size { (0 < size) × (size ≤ 10) }
-    requires len { length intervals.now ≤ max_bins }
+    requires len { length intervals.now ≤ max_fixed_intervals }
     requires place { place * size < length intervals.now }
     ensures { result ≡ merged_at size intervals.now place }
 {

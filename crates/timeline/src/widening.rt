@@ -33,12 +33,12 @@ pub fn widen(unit: &mut u128, bins: &mut Vec<Counts>, offset: u128) -> usize
     place as usize
 }
 
-/// Counts a packet in the bin number `place`. There must be room for this bin.
-pub fn count_at(bins: &mut Vec<Counts>, place: usize, event: &Event)
-    requires place { place < max_bins }
-    requires capacity { max_bins ≤ vec_capacity bins.old }
+/// Counts a packet in the bin number `place`. There must be room for `most` bins, and this bin must be one of them.
+pub fn count_at(bins: &mut Vec<Counts>, place: usize, most: usize, event: &Event)
+    requires place { place < most }
+    requires capacity { most ≤ vec_capacity bins.old }
     ensures counted { CountsAt place event.now bins.old.items bins.new.items }
-    ensures capacity { max_bins ≤ vec_capacity bins.new }
+    ensures capacity { most ≤ vec_capacity bins.new }
 {
     if bins.len() <= place {
         bins.resize(place + 1, Counts::NONE).unwrap();

@@ -1,7 +1,7 @@
 use Rattle.std.proofs.Common.{◌≡◌, ◌⊎◌, Some, None, arith, subst, sym}
 use Rattle.timeline.proofs.TimelineLemmas.{Widens, from_code}
 use Rattle.timeline.specs.contracts.timeline.Timeline.{the_view}
-use Rattle.timeline.proofs.timeline.Timeline.add_from.Goals as goal
+use Rattle.timeline.proofs.timeline.Timeline.add_grown.Goals as goal
 
 pub returns : goal.returns
 returns c =
@@ -17,6 +17,6 @@ returns c =
     } in
     from_code (the_view c.self.inside) c.args.event.now c.args.start c.args.offset c.widen-place.result c.widen-place.new.unit
     c.widen-place.new.bins.items c.count_at.new.bins.items c.requires.timed widens
-    c.count_at.ensures.counted c.args.self.now c.self.view_is
+    c.count_at.ensures.counted c.args.self.now c.self.view_is c.requires.grows
     (subst (λ timeline. (timeline.start ≡ Some c.args.start) ⊎ ((timeline.start ≡ None) × (c.args.offset ≡ 0))) (sym c.self.view_is)
     c.requires.start)
