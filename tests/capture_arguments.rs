@@ -20,15 +20,20 @@ impl Arguments for Given {
     ghost exceeds = { λ arguments place len. Unit {0} };
 
     fn argument(&self, place: usize, buffer: &mut [u8]) -> Result<usize, FillError> {
-        let Some(word) = self.words.get(place) else {
-            return Err(FillError::NotPresent);
-        };
-        let Some(room) = buffer.get_mut(..word.len()) else {
-            return Err(FillError::TooLong);
-        };
-        room.copy_from_slice(word);
-        Ok(word.len())
+        copy_word(self.words, place, buffer)
     }
+}
+
+/// Copies the word in this place, and returns its length.
+fn copy_word(words: &[&[u8]], place: usize, buffer: &mut [u8]) -> Result<usize, FillError> {
+    let Some(word) = words.get(place) else {
+        return Err(FillError::NotPresent);
+    };
+    let Some(room) = buffer.get_mut(..word.len()) else {
+        return Err(FillError::TooLong);
+    };
+    room.copy_from_slice(word);
+    Ok(word.len())
 }
 
 /// The name of the program.
@@ -38,7 +43,7 @@ const NAME: &[u8] = b"capture_report";
 const TOO_LONG: &[u8] = &[b'a'; 131073];
 
 /// Arguments that are accepted: the number of captures, the file for the packets, and whether lines are written out at once.
-static ACCEPTED: [(&[&[u8]], usize, Option<&str>, bool); 15] = [
+static ACCEPTED: [(&[&[u8]], usize, Option<&str>, bool); 16] = [
     (&[b"capture_report"], 0, None, false),
     (&[b"capture_report", b"a.pcap", b"-l"], 1, None, true),
     (
@@ -96,6 +101,12 @@ static ACCEPTED: [(&[&[u8]], usize, Option<&str>, bool); 15] = [
         None,
         false,
     ),
+    (
+        &[b"capture_report", b"--interval", b"0.5", b"--json", b"a"],
+        1,
+        None,
+        false,
+    ),
     // A repeated option replaces its earlier use.
     (&[b"capture_report", b"-nnvvll", b"-n"], 0, None, true),
     (
@@ -119,13 +130,16 @@ static ACCEPTED: [(&[&[u8]], usize, Option<&str>, bool); 15] = [
 ];
 
 /// Arguments that are refused, or request a text, with the exit status.
-static REJECTED: [(&[&[u8]], i32); 16] = [
+static REJECTED: [(&[&[u8]], i32); 19] = [
     (&[b"capture_report", b"--help"], 0),
     (&[b"capture_report", b"--version"], 0),
     (&[b"capture_report", b"--unknown"], 2),
     (&[b"capture_report", b"--summary", b"--packets"], 2),
     (&[b"capture_report", b"--timeline", b"--packets"], 2),
     (&[b"capture_report", b"--timeline", b"-w", b"-"], 2),
+    (&[b"capture_report", b"--interval", b"1", b"--packets"], 2),
+    (&[b"capture_report", b"--interval", b"1", b"-w", b"-"], 2),
+    (&[b"capture_report", b"--interval", b"0"], 2),
     (&[b"capture_report", b"--port", b"65536"], 2),
     (&[b"capture_report", b"--port", b"80,"], 2),
     (&[b"capture_report", b"--not-port", b"81-80"], 2),
@@ -263,4 +277,58 @@ fn filters_among_several_captures_get_a_hint(rt: HostRuntime) {
 fn errors_about_the_captures_have_status_2(rt: HostRuntime) {
     expect_equal(&rt, &no_capture(&rt.alloc()).exit_code(), &2);
     expect_equal(&rt, &output_is_capture(&rt.alloc()).exit_code(), &2);
+}
+
+/// Texts of the option `--interval`, and their numbers of nanoseconds. `None` is a text that is refused.
+#[rattlefmt::skip]
+static INTERVALS: [(&[u8], Option<u128>); 31] = [
+    (b"1", Some(1_000_000_000)), (b"0.5", Some(500_000_000)), (b"0.000001", Some(1_000)), (b"0.000000001", Some(1)),
+    (b"001.50", Some(1_500_000_000)), (b"10.000000001", Some(10_000_000_001)), (b"0.123456789", Some(123_456_789)),
+    (b"3600", Some(3_600_000_000_000)), (b"1000000000", Some(1_000_000_000_000_000_000)),
+    (b"999999999.999999999", Some(999_999_999_999_999_999)), (b"1000000000.0", Some(1_000_000_000_000_000_000)),
+    (b"1000000000.000000001", None), (b"1000000001", None), (b"18446744073709551616", None), (b"99999999999999999999999999", None), (b"0", None),
+    (b"0.0", None), (b"0.000000000", None), (b"0.0000000001", None), (b"0.0000000000", None), (b"", None), (b".", None), (b".5", None),
+    (b"1.", None), (b"+1", None), (b"1.+5", None), (b"1.2.3", None), (b"1e3", None), (b" 1", None), (b"1,5", None), (b"x", None),
+];
+
+/// The arguments of a test of `--interval`: the text of its value.
+#[derive(Drop)]
+struct Interval {
+    text: &'static [u8],
+}
+
+impl Arguments for Interval {
+    ghost holds = { λ arguments place bytes. Unit {0} };
+
+    ghost ends = { λ arguments place. Unit {0} };
+
+    ghost exceeds = { λ arguments place len. Unit {0} };
+
+    fn argument(&self, place: usize, buffer: &mut [u8]) -> Result<usize, FillError> {
+        copy_word(&[NAME, b"--interval", self.text], place, buffer)
+    }
+}
+
+/// Stops the test unless the option `--interval` with the text of a row has the value of the row.
+fn expect_interval(rt: &(impl Abort + AllocGlobal), row: &(&'static [u8], Option<u128>)) {
+    let arguments = Interval { text: row.0 };
+    let words = expect_ok(rt, words_of(&rt.alloc(), &arguments));
+    match requested_options(&rt.alloc(), words.as_slice()) {
+        Ok(options) => {
+            let interval = options.parts.interval.map(|interval| interval.get());
+            expect_at(rt, row, &interval, &row.1);
+            expect_at(rt, row, &options.parts.timeline, &true);
+        }
+        Err(error) => {
+            expect_at(rt, row, &error.exit_code(), &2);
+            expect_at(rt, row, &None, &row.1);
+        }
+    }
+}
+
+#[test]
+fn intervals_of_the_timeline(rt: HostRuntime) {
+    for row in &INTERVALS {
+        expect_interval(&rt, row);
+    }
 }

@@ -665,6 +665,8 @@ fn timeline_of_three(rt: &(impl Abort + AllocGlobal)) -> Vec<u8> {
     }
     append(rt, &mut text, br#"],"older":"#);
     append(rt, &mut text, NO_PACKETS.as_bytes());
+    append(rt, &mut text, br#","later":"#);
+    append(rt, &mut text, NO_PACKETS.as_bytes());
     append(rt, &mut text, br#","untimed":"#);
     append(rt, &mut text, NO_PACKETS.as_bytes());
     append(rt, &mut text, b"}");

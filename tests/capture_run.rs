@@ -18,6 +18,7 @@ use capture_summary::{MAX_CHOSEN, PortRange};
 use std::hash::RandomState;
 use std::io;
 use std::io::{ErrorKind, Write};
+use std::num::NonZeroU128;
 use std::process::Abort;
 use std::random::RandomSource;
 
@@ -650,4 +651,19 @@ fn the_table_of_the_timeline_is_requested(rt: HostRuntime) {
             expect_equal(&rt, &text.ends_with(TIMELINE), &has_table);
         }
     }
+}
+
+/// The timeline of a run has the requested width.
+#[test]
+fn the_width_of_the_timeline_is_requested(rt: HostRuntime) {
+    let bytes = expect_ok(&rt, raw_capture(rt.alloc()));
+    let parts = Parts {
+        format: Format::Json,
+        interval: NonZeroU128::new(90_000_000_007),
+        ..ALL
+    };
+    let ran = run_alone(&rt, parts, &bytes);
+    let text = expect_ok(&rt, std::str::from_utf8(&ran.output));
+    let width = r#","interval_seconds":90,"interval_nanoseconds":7,"intervals":["#;
+    expect_equal(&rt, &text.contains(width), &true);
 }

@@ -18,6 +18,7 @@ pub const ALL: Parts = Parts {
     format: Format::Text,
     top: BUSIEST,
     timeline: false,
+    interval: None,
     check: false,
     limit: None,
 };

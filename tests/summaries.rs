@@ -9,13 +9,22 @@ use capture_summary::{
 };
 use std::hash::RandomState;
 use std::net::{IpAddr, SocketAddr};
+use std::num::NonZeroU128;
 use std::process::Abort;
 use std::random::RandomSource;
 
 /// A summary of no packet.
 pub fn new_summary(rt: &(impl Abort + AllocGlobal + RandomSource)) -> Summary {
+    summary_with(rt, None)
+}
+
+/// A summary of no packet. The intervals of its timeline have this width in nanoseconds, if there is one.
+pub fn summary_with(
+    rt: &(impl Abort + AllocGlobal + RandomSource),
+    interval: Option<NonZeroU128>,
+) -> Summary {
     let state = expect_ok(rt, RandomState::new(rt));
-    expect_ok(rt, Summary::new(rt.alloc(), state))
+    expect_ok(rt, Summary::new(rt.alloc(), state, interval))
 }
 
 /// Counts a packet that is refused. Stops the test if there is no room for it.

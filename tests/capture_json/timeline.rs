@@ -1,20 +1,24 @@
 use crate::expect::{append, expect_all_written, expect_equal, expect_ok, expect_some};
-use crate::summaries::{judge, new_summary, refuse};
+use crate::summaries::{judge, new_summary, refuse, summary_with};
 use capture_file::PacketTime;
 use capture_file::pcapng::TimeResolution;
 use capture_json::{Captures, write_summary};
 use capture_summary::{
     Busiest, CaptureInfo, FileTable, FrameLen, Protocol, RefusalKind, Summary, VerdictKind,
 };
+use std::num::NonZeroU128;
 use std::process::Abort;
 use std::random::RandomSource;
 
-/// The object of an interval without packets, and of an interval with a UDP packet of 40 bytes.
+/// The objects of intervals without packets, with a UDP packet of 40 bytes, and with two such packets.
 pub const NO_PACKETS: &str =
     r#"{"packets":0,"bytes":0,"udp":{"packets":0,"bytes":0},"tcp":{"packets":0,"bytes":0},"icmp":{"packets":0,"bytes":0},"other":{"packets":0,"bytes":0},"wrong":{"packets":0,"bytes":0},"refused":{"packets":0,"bytes":0}}"#;
 
 pub const ONE_PACKET: &str =
     r#"{"packets":1,"bytes":40,"udp":{"packets":1,"bytes":40},"tcp":{"packets":0,"bytes":0},"icmp":{"packets":0,"bytes":0},"other":{"packets":0,"bytes":0},"wrong":{"packets":0,"bytes":0},"refused":{"packets":0,"bytes":0}}"#;
+
+const TWO_PACKETS: &str =
+    r#"{"packets":2,"bytes":80,"udp":{"packets":2,"bytes":80},"tcp":{"packets":0,"bytes":0},"icmp":{"packets":0,"bytes":0},"other":{"packets":0,"bytes":0},"wrong":{"packets":0,"bytes":0},"refused":{"packets":0,"bytes":0}}"#;
 
 /// What a capture states about a packet of 40 bytes with this time.
 fn info_at(time: Option<PacketTime>) -> CaptureInfo {
@@ -84,9 +88,10 @@ fn expect_start(rt: &(impl Abort + AllocGlobal + RandomSource), row: &StartRow) 
     );
     let width = r#","interval_seconds":0,"interval_nanoseconds":1,"intervals":["#;
     let older = r#"],"older":"#;
+    let later = r#","later":"#;
     let untimed = r#","untimed":"#;
     let wanted = [
-        "{", members, width, ONE_PACKET, older, NO_PACKETS, untimed, NO_PACKETS, "}",
+        "{", members, width, ONE_PACKET, older, NO_PACKETS, later, NO_PACKETS, untimed, NO_PACKETS, "}",
     ];
     expect_timeline(rt, &summary, &wanted);
 }
@@ -167,6 +172,8 @@ fn expect_width(rt: &(impl Abort + AllocGlobal + RandomSource), row: &WidthRow) 
         ONE_PACKET,
         r#"],"older":"#,
         ONE_PACKET,
+        r#","later":"#,
+        NO_PACKETS,
         r#","untimed":"#,
         UNTIMED,
         "}",
@@ -187,11 +194,12 @@ fn a_timeline_without_a_start(rt: HostRuntime) {
     let mut summary = new_summary(&rt);
     let before =
         r#"{"start":null,"interval_seconds":0,"interval_nanoseconds":1,"intervals":[],"older":"#;
+    let later = r#","later":"#;
     let untimed = r#","untimed":"#;
     expect_timeline(
         &rt,
         &summary,
-        &[before, NO_PACKETS, untimed, NO_PACKETS, "}"],
+        &[before, NO_PACKETS, later, NO_PACKETS, untimed, NO_PACKETS, "}"],
     );
     judge(
         &rt,
@@ -204,6 +212,29 @@ fn a_timeline_without_a_start(rt: HostRuntime) {
     expect_timeline(
         &rt,
         &summary,
-        &[before, NO_PACKETS, untimed, ONE_PACKET, "}"],
+        &[before, NO_PACKETS, later, NO_PACKETS, untimed, ONE_PACKET, "}"],
     );
+}
+
+/// Two packets in the first interval of ten seconds, one in the next, and one after 65,536 intervals.
+#[test]
+fn a_timeline_of_a_fixed_width(rt: HostRuntime) {
+    let mut summary = summary_with(&rt, NonZeroU128::new(10_000_000_000));
+    for seconds in [5, 14, 15, 655_365] {
+        let info = info_at(Some(time(seconds, 0, 0)));
+        judge(
+            &rt,
+            &mut summary,
+            Protocol::Udp,
+            VerdictKind::Right,
+            None,
+            info,
+        );
+    }
+    let start =
+        r#"{"start":"1970-01-01T00:00:05.000000000Z","start_seconds":5,"start_nanoseconds":0,"interval_seconds":10,"interval_nanoseconds":0,"intervals":["#;
+    let wanted = [
+        start, TWO_PACKETS, ",", ONE_PACKET, r#"],"older":"#, NO_PACKETS, r#","later":"#, ONE_PACKET, r#","untimed":"#, NO_PACKETS, "}",
+    ];
+    expect_timeline(&rt, &summary, &wanted);
 }

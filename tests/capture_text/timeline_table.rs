@@ -1,5 +1,6 @@
-use crate::expect::{expect_at, expect_ok, expect_written};
+use crate::expect::{expect_at, expect_equal, expect_ok, expect_some, expect_written};
 use capture_text::write_timeline;
+use std::num::NonZeroU128;
 use std::process::Abort;
 use timeline::{Event, Fault, Timeline, Transport};
 
@@ -52,6 +53,18 @@ timeline, seconds             packets             bytes       wrong     refused
          750000.000000000           1                60           0           0 ########################################
 ";
 
+/// Intervals of two seconds, of which each has a row. Three packets are in the first, and one in the next but one. A packet is older, and
+/// two packets are later than 65,536 intervals.
+const TWO_SECONDS: &str = "
+timeline, seconds             packets             bytes       wrong     refused
+              0.000000000           3               180           0           0 ########################################
+              2.000000000           0                 0           0           0
+              4.000000000           1                60           0           0 ##############
+older packets                       1                60           0           0
+later packets                       2               120           0           0
+packets without a time              1                60           0           0
+";
+
 /// A packet of 60 bytes at this time.
 fn event(time: Option<u128>, fault: Option<Fault>) -> Event {
     Event {
@@ -96,6 +109,33 @@ fn the_table_of_days(rt: HostRuntime) {
     let mut timeline = expect_ok(&rt, Timeline::new(rt.alloc()));
     add(&mut timeline, &[0, 777_600_000_000_001]);
     expect_table(&rt, &timeline, NINE_DAYS);
+}
+
+/// A timeline without packets, of this width.
+fn with_width(rt: &(impl Abort + AllocGlobal), width: u128) -> Timeline {
+    let width = expect_some(rt, NonZeroU128::new(width));
+    expect_ok(rt, Timeline::with_width(rt.alloc(), width))
+}
+
+#[test]
+fn the_table_of_a_fixed_width(rt: HostRuntime) {
+    let mut timeline = with_width(&rt, 2_000_000_000);
+    expect_table(&rt, &timeline, "");
+    add(&mut timeline, &[0, 1_999_999_999, 1, 5_999_999_999]);
+    add(&mut timeline, &[131_072_000_000_000, u128::MAX - START]);
+    timeline.add(&event(Some(START - 1), None));
+    timeline.add(&event(None, None));
+    expect_table(&rt, &timeline, TWO_SECONDS);
+}
+
+#[test]
+fn a_row_for_each_interval_of_a_fixed_width(rt: HostRuntime) {
+    let mut timeline = with_width(&rt, 10);
+    add(&mut timeline, &[0, 2_560]);
+    let mut text = Vec::new(rt.alloc());
+    expect_ok(&rt, write_timeline(&mut text, &timeline));
+    let lines = text.iter().filter(|byte| **byte == b'\n').count();
+    expect_equal(&rt, &lines, &259);
 }
 
 /// The number of rows after a packet at the start and another packet so many nanoseconds later. A line without a row and the head precede

@@ -1,6 +1,6 @@
 -- A worked example of a command line, from its words to the options that they request, so that a wrong definition fails before any code
 -- does.
-use Rattle.std.proofs.Common.{Global, Vec, ◌≡◌, ◌≢◌, ◌∙◌, ◌++◌, ℕ, Bool, true, false, not, List, [], ◌∷◌, None, Some, ap, ap₂, arith, codes, if◌then◌else◌, inl, inr, length, length-take, map, refl, replicate, slice_index, subst, sym, take, unwrap_or}
+use Rattle.std.proofs.Common.{Global, Vec, ◌≡◌, ◌≢◌, ◌∙◌, ◌++◌, ◌||◌, ℕ, Bool, true, false, not, List, [], ◌∷◌, None, Some, ap, ap₂, arith, codes, if◌then◌else◌, inl, inr, length, length-take, map, refl, replicate, slice_index, subst, sym, take, unwrap_or}
 use Rattle.std.specs.Borrow.{Bor}
 use Rattle.std.specs.List.{flat_map}
 use Rattle.std.specs.Option.{option_map}
@@ -30,6 +30,7 @@ use Rattle.capture_arguments.specs.Arguments.{HasFlag, flag_text, values_of}
 use Rattle.capture_arguments.specs.Chosen.{AreRead, ReadsProtocol, ReadsRange, list_items}
 use Rattle.capture_arguments.specs.CommandLine.{AreMatchesOf, AreRequestedBy, command_line}
 use Rattle.capture_arguments.specs.Conflicts.{conflict_in}
+use Rattle.capture_arguments.specs.Intervals.{IsIntervalOf}
 use Rattle.capture_arguments.specs.Options.{IsOptionsOf}
 use Rattle.capture_arguments.specs.ProtocolNames.{protocol_rows}
 use Rattle.capture_arguments.specs.Words.{escaped_option, escaped_option_text, is_escaped_option, word_of}
@@ -78,6 +79,7 @@ options = record {
     format = Json;
     top = 10;
     timeline = false;
+    interval = None;
     check = false;
     limit = Some 5;
   };
@@ -200,7 +202,8 @@ are_options = record {
   check = λ flag has. flag_is (codes "check") false flag refl has;
   format = λ flag has. ap (λ flag. if flag then Json else AsText) (flag_is (codes "json") true flag refl has);
   top = (λ none. refl, λ text given has number. absurd (cc (sym (ap (λ found. one_text found (codes "top")) are_found) ∙ has)));
-  timeline = λ flag has. flag_is (codes "timeline") false flag refl has;
+  timeline = λ flag has. ap (λ flag. flag || false) (flag_is (codes "timeline") false flag refl has);
+  interval = subst (λ text. IsIntervalOf text None) (sym (ap (λ found. first_value found (codes "interval")) are_found)) refl;
   choice = record {
     addresses = record {
       hosts = values (codes "host");

@@ -2,4 +2,5 @@ mod ArgumentExamples
 mod ChosenLemmas
 mod CommandLemmas
 mod ConflictLemmas
+mod IntervalLemmas
 mod WordLemmas

@@ -43,7 +43,7 @@ top_rule = parsed_rule (codes "top") (parsers.Unsigned 0 (2 ^ 64 - 1))
 -- the options for the form of the report and for its exit status
 abbrev pub form_rules : List Rule
 form_rules = flag_rule (codes "absolute") ∷ flag_rule (codes "check") ∷ flag_rule (codes "json") ∷ top_rule ∷ flag_rule (codes "timeline")
-    ∷ flag_rule (codes "tunnels")
+    ∷ value_rule (codes "interval") ∷ flag_rule (codes "tunnels")
     ∷ []
 
 -- the options that choose packets by hosts

@@ -11,10 +11,10 @@ use Rattle.clap.specs.declared.parser.matches.ValueSource.TheVariants.{CommandLi
 abbrev pub exclusive_pairs : List (Text × Text)
 exclusive_pairs =
     (codes "summary", codes "packets") ∷ (codes "wrong", codes "summary") ∷ (codes "absolute", codes "summary")
-    ∷ (codes "top", codes "packets") ∷ (codes "timeline", codes "packets")
+    ∷ (codes "top", codes "packets") ∷ (codes "timeline", codes "packets") ∷ (codes "interval", codes "packets")
     ∷ (codes "write", codes "summary") ∷ (codes "write", codes "packets") ∷ (codes "write", codes "absolute")
     ∷ (codes "write", codes "check")
-    ∷ (codes "write", codes "json") ∷ (codes "write", codes "top") ∷ (codes "write", codes "timeline") ∷ []
+    ∷ (codes "write", codes "json") ∷ (codes "write", codes "top") ∷ (codes "write", codes "timeline") ∷ (codes "write", codes "interval") ∷ []
 
 -- a value comes from the command line, and is not a default
 abbrev pub is_from_words : Option ValueSource → Bool
@@ -33,7 +33,10 @@ conflict_in rows = find (λ pair. is_given rows pair.0 && is_given rows pair.1) 
 
 -- the value of an option as a message shows it; it is empty for an option without a value
 abbrev pub shown_value : Text → Text
-shown_value name = if bytes_eq name (codes "top") then codes " <N>" else (if bytes_eq name (codes "write") then codes " <FILE>" else [])
+shown_value name =
+    if bytes_eq name (codes "top") then codes " <N>"
+    else (if bytes_eq name (codes "write") then codes " <FILE>"
+    else (if bytes_eq name (codes "interval") then codes " <SECONDS>" else []))
 
 -- an option as a message shows it, such as '--top <N>'
 abbrev pub shown_option : Text → Text

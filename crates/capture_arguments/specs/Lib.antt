@@ -3,6 +3,7 @@ pub mod Chosen
 pub mod CommandLine
 pub mod Conflicts
 pub mod Filters
+pub mod Intervals
 pub mod Options
 pub mod OutputFaults
 pub mod ProtocolNames

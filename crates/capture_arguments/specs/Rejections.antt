@@ -7,7 +7,8 @@ use Rattle.clap.specs.declared.error.kind.ErrorKind.TheVariants.{ArgumentConflic
 use Rattle.clap.specs.declared.parser.matches.ArgMatches.{ArgMatches}
 use Rattle.capture_arguments.specs.Chosen.{IsRefusal, choice_text}
 use Rattle.capture_arguments.specs.Conflicts.{conflict_in, conflict_text}
-use Rattle.capture_arguments.specs.Options.{IsCompatible}
+use Rattle.capture_arguments.specs.Intervals.{IsWrongInterval, interval_text}
+use Rattle.capture_arguments.specs.Options.{HasChoice, IsCompatible, interval_given}
 use Rattle.capture_arguments.specs.CommandLine.{AreMatchesOf, ArePlainMatchesOf, AreRequestedBy, IsCommandLine}
 use Rattle.capture_arguments.specs.OutputFaults.{fault_of}
 use Rattle.capture_arguments.specs.Unknown.{unknown_option, unknown_text}
@@ -35,6 +36,12 @@ HaveNoChoice words message =
     (matches : ArgMatches) × (error : ChoiceError) × ArePlainMatchesOf words matches × IsCompatible matches × IsRefusal matches error
     × (message ≡ choice_text error)
 
+-- the width of the intervals of the timeline is wrong
+abbrev pub HaveNoInterval : List Text → Text → Type 0
+HaveNoInterval words message =
+    (matches : ArgMatches) × (text : Text) × ArePlainMatchesOf words matches × IsCompatible matches × HasChoice matches
+    × IsWrongInterval (interval_given matches) text × (message ≡ interval_text text)
+
 -- packets can't be written to the file that the words name
 abbrev pub HaveNoOutput : List Text → Text → Type 0
 HaveNoOutput words message = (options : Options) × AreRequestedBy words options × (fault_of options ≡ Some message)
@@ -45,7 +52,8 @@ HaveFault words kind message =
     ((kind ≡ UnknownArgument) × HaveEscapedOption words message)
     ⊎ (((kind ≡ ArgumentConflict) × HaveConflict words message)
     ⊎ (((kind ≡ ValueValidation) × HaveNoChoice words message)
-    ⊎ ((kind ≡ ArgumentConflict) × HaveNoOutput words message)))
+    ⊎ (((kind ≡ ValueValidation) × HaveNoInterval words message)
+    ⊎ ((kind ≡ ArgumentConflict) × HaveNoOutput words message))))
 
 -- the message if there is no capture to read
 abbrev pub no_capture_text : Text

@@ -7,7 +7,7 @@ use Rattle.std.specs.Str.{bytes_eq}
 abbrev pub long_options : List (List ℕ)
 long_options =
     codes "--summary" ∷ codes "--packets" ∷ codes "--wrong" ∷ codes "--verbose" ∷ codes "--absolute" ∷ codes "--check" ∷ codes "--json"
-    ∷ codes "--top" ∷ codes "--timeline" ∷ codes "--tunnels" ∷ codes "--host" ∷ codes "--source" ∷ codes "--destination"
+    ∷ codes "--top" ∷ codes "--timeline" ∷ codes "--interval" ∷ codes "--tunnels" ∷ codes "--host" ∷ codes "--source" ∷ codes "--destination"
     ∷ codes "--not-host" ∷ codes "--port" ∷ codes "--not-port"
     ∷ codes "--protocol" ∷ codes "--count" ∷ codes "--write" ∷ codes "--line-buffered" ∷ codes "--numeric" ∷ codes "--read" ∷ codes "--help"
     ∷ codes "--version" ∷ []

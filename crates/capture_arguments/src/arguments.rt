@@ -7,6 +7,7 @@ ghost use Rattle.capture_arguments.specs.Arguments.{HasFlag, HasNumberOr};
 ghost use Rattle.capture_arguments.specs.Options.{IsOptionsOf, IsRefusedBy, names_of};
 ghost use Rattle.capture_arguments.specs.Chosen.{choice_text};
 ghost use Rattle.capture_arguments.specs.Conflicts.{conflict_in, conflict_text};
+ghost use Rattle.capture_arguments.specs.Intervals.{interval_text};
 ghost use Rattle.capture_arguments.specs.OutputFaults.{fault_of, is_capture_text};
 ghost use Rattle.capture_arguments.specs.Words.{escaped_option_text};
 ghost use Rattle.capture_arguments.specs.Unknown.{unknown_text};
@@ -19,6 +20,7 @@ ghost use Rattle.capture_request.specs.declared.parts.Format.TheVariants as Form
 use crate::chosen::{ChoiceError, choice_of, choice_text, port_items};
 use crate::conflicts::{conflict_in, conflict_text};
 use crate::filters::has_filter;
+use crate::interval::{interval_of, interval_text};
 use crate::memory::Memory;
 use crate::unknown::{unknown_option, unknown_text};
 use crate::words::{escaped_option, escaped_option_text};
@@ -74,9 +76,9 @@ pub struct Options<'a> {
 /// # Errors
 ///
 /// If an argument is wrong, the text of the error names it, and the exit status is 2. It can be an unknown argument, an option that is not
-/// UTF-8, two options that can't be used together, the first wrong host, port or protocol, or a file that can't be written. If no memory is
-/// left, the exit status is 3. A request for help or for the version is also returned as an error. Its text goes to standard output, and
-/// its exit status is 0.
+/// UTF-8, two options that can't be used together, the first wrong host, port or protocol, a wrong width of intervals, or a file that can't be
+/// written. If no memory is left, the exit status is 3. A request for help or for the version is also returned as an error. Its text goes to
+/// standard output, and its exit status is 0.
 pub fn requested_options<'a, M: Memory>(
     memory: &M,
     words: &'a [String],
@@ -110,6 +112,7 @@ fn given_options<'a, M: Memory>(memory: &M, words: &'a [String]) -> Result<Optio
             Ok(options) => Ok(options),
             Err(OptionsError::Conflict(first, second)) => Err(invalid_pair(memory, first, second)),
             Err(OptionsError::Choice(error)) => Err(invalid_choice(memory, error)),
+            Err(OptionsError::Interval(text)) => Err(invalid_interval(memory, text)),
             Err(OptionsError::NoMemory(error)) => Err(error.into()),
         },
     }
@@ -135,6 +138,8 @@ pub enum OptionsError<'a> {
     Conflict(&'static str, &'static str),
     /// A value of an option that chooses packets is wrong.
     Choice(ChoiceError<'a>),
+    /// This value of the option `interval` is not a width of intervals.
+    Interval(&'a str),
     /// No memory is left.
     NoMemory(AllocError),
 }
@@ -158,6 +163,10 @@ fn options_of<'a, M: Memory>(
         Ok(choice) => choice,
         Err(error) => return Err(OptionsError::Choice(error)),
     };
+    let interval = match interval_of(matches) {
+        Ok(interval) => interval,
+        Err(text) => return Err(OptionsError::Interval(text)),
+    };
     let files = match files_of(memory, matches) {
         Ok(files) => files,
         Err(error) => return Err(OptionsError::NoMemory(error)),
@@ -175,7 +184,8 @@ fn options_of<'a, M: Memory>(
             verbose: flag_of(matches, "verbose"),
             format: format_of(matches),
             top: top_of(matches),
-            timeline: flag_of(matches, "timeline"),
+            timeline: flag_of(matches, "timeline") || interval.is_some(),
+            interval,
             limit: count_of(matches),
             ..asked
         },
@@ -296,6 +306,16 @@ fn output_fault(options: &Options<'_>) -> Option<&'static str>
         [_] => Some(OUTPUT_IS_CAPTURE),
         files if has_filter(files) => Some(SEVERAL_OR_FILTER),
         _ => Some(SEVERAL_CAPTURES),
+    }
+}
+
+/// The error for a wrong width of intervals. Its text contains the usage. If no memory is left, it is an error about memory.
+fn invalid_interval<M: Memory>(memory: &M, text: &str) -> Error
+    ensures { IsExplainedUnless (M.ran_out memory.now) (M.explains memory.now) ErrorKind.ValueValidation (interval_text text.now) result }
+{
+    match interval_text(memory, text) {
+        Ok(text) => error_with_usage(memory, ErrorKind::ValueValidation, text.as_str()),
+        Err(error) => error.into(),
     }
 }
 
@@ -439,6 +459,7 @@ fn with_form<'a, M: Memory>(memory: &M, command: Command<'a>) -> Result<Command<
     let command = memory.with_arg(command, json(alloc))?;
     let command = memory.with_arg(command, top(alloc))?;
     let command = memory.with_arg(command, timeline(alloc))?;
+    let command = memory.with_arg(command, interval(alloc))?;
     memory.with_arg(command, tunnels(alloc))
 }
 
@@ -501,6 +522,19 @@ fn timeline<'a>(alloc: Global) -> Arg<'a>
         alloc,
         "timeline",
         "Also write a table of the packets by time in the summary, which JSON always has",
+    )
+}
+
+/// The option that fixes the width of the intervals of the timeline.
+fn interval<'a>(alloc: Global) -> Arg<'a>
+    ensures rule { rule_of result ≡ value_rule (codes "interval") }
+    ensures local { result.global ≡ false }
+{
+    valued(
+        alloc,
+        "interval",
+        "SECONDS",
+        "Count packets in intervals of this width, such as 0.5, and write --timeline with a row for each interval",
     )
 }
 

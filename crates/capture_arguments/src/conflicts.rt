@@ -10,12 +10,13 @@ use clap::parser::ValueSource;
 use std::alloc::AllocError;
 
 /// The names of options that can't be used together, in pairs. The pairs are tested in this order.
-static EXCLUSIVE: [(&str, &str); 12] = [
+static EXCLUSIVE: [(&str, &str); 14] = [
     ("summary", "packets"),
     ("wrong", "summary"),
     ("absolute", "summary"),
     ("top", "packets"),
     ("timeline", "packets"),
+    ("interval", "packets"),
     ("write", "summary"),
     ("write", "packets"),
     ("write", "absolute"),
@@ -23,6 +24,7 @@ static EXCLUSIVE: [(&str, &str); 12] = [
     ("write", "json"),
     ("write", "top"),
     ("write", "timeline"),
+    ("write", "interval"),
 ];
 
 /// The first pair of options that can't be used together and that both occur on the command line.
@@ -71,6 +73,7 @@ fn shown_value(name: &str) -> &'static str
     match name {
         "top" => " <N>",
         "write" => " <FILE>",
+        "interval" => " <SECONDS>",
         _ => "",
     }
 }

@@ -16,6 +16,7 @@ mod arguments;
 mod chosen;
 mod conflicts;
 mod filters;
+mod interval;
 mod memory;
 mod names;
 mod unknown;

@@ -7,7 +7,7 @@ use crate::memory::Memory;
 use std::alloc::AllocError;
 
 /// The long names of the options.
-static LONG_OPTIONS: [&str; 24] = [
+static LONG_OPTIONS: [&str; 25] = [
     "--summary",
     "--packets",
     "--wrong",
@@ -17,6 +17,7 @@ static LONG_OPTIONS: [&str; 24] = [
     "--json",
     "--top",
     "--timeline",
+    "--interval",
     "--tunnels",
     "--host",
     "--source",

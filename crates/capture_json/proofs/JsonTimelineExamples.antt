@@ -1,5 +1,5 @@
 -- Worked examples of the timeline in JSON. A wrong definition fails here before its code is written.
-use Rattle.std.proofs.Common.{◌≡◌, ◌+◌, ◌*◌, ◌^◌, ◌++◌, ◌∙◌, ℕ, List, [], ◌∷◌, Some, ap, arith, codes, pos, refl, sym, true}
+use Rattle.std.proofs.Common.{◌≡◌, ◌+◌, ◌*◌, ◌^◌, ◌++◌, ◌∙◌, ℕ, List, [], ◌∷◌, None, Some, ap, arith, codes, pos, refl, sym, true}
 use Rattle.std.specs.Char.{encode_utf8}
 use Rattle.std.specs.Fmt.{char_count, digits, padded_integral}
 use Rattle.jiff_core.proofs.SignedLemmas.{signed_arith}
@@ -43,18 +43,19 @@ text_of_none =
 -- ---- timelines
 
 -- no packet has a time
-without_times : compact_text (object_of (timeline_member (record empty_timeline { untimed = three }) ∷ []))
+without_times : compact_text (object_of (timeline_member (record (empty_timeline None) { untimed = three }) ∷ []))
     ≡ codes "{\"timeline\":{\"start\":null,\"interval_seconds\":0,\"interval_nanoseconds\":1,\"intervals\":[],\"older\":"
-    ++ (text_of_none ++ (codes ",\"untimed\":" ++ (text_of_three ++ codes "}}")))
+    ++ (text_of_none ++ (codes ",\"later\":" ++ (text_of_none ++ (codes ",\"untimed\":" ++ (text_of_three ++ codes "}}")))))
 unfolding digits escape_byte
 without_times = refl
 
--- packets in the first and in the third interval of ten seconds; the first of them was captured 7 nanoseconds after the beginning of 1970
+-- Packets in the first and in the third interval of a fixed width of ten seconds, and packets that are later than all intervals. The first
+-- packet was captured 7 nanoseconds after the beginning of 1970.
 abbrev three_intervals : TimelineBins
-three_intervals = record empty_timeline {
+three_intervals = record (empty_timeline (Some 10000000000)) {
   start = Some (2 ^ 63 * 1000000000 + 7);
-  unit = 10000000000;
   bins = three ∷ no_packets ∷ three ∷ [];
+  later = three;
 }
 
 day_0 : days_from_civil (pos 1970) 1 1 ≡ pos 0
@@ -68,7 +69,8 @@ with_start : compact_text (object_of (timeline_member three_intervals ∷ []))
     ≡ codes "{\"timeline\":{\"start\":\"1970-01-01T00:00:00.000000007Z\",\"start_seconds\":0,\"start_nanoseconds\":7,"
     ++ (codes "\"interval_seconds\":10,\"interval_nanoseconds\":0,\"intervals\":["
     ++ (text_of_three ++ (codes "," ++ (text_of_none ++ (codes "," ++ (text_of_three
-    ++ (codes "],\"older\":" ++ (text_of_none ++ (codes ",\"untimed\":" ++ (text_of_none ++ codes "}}"))))))))))
+    ++ (codes "],\"older\":" ++ (text_of_none ++ (codes ",\"later\":" ++ (text_of_three ++ (codes ",\"untimed\":"
+    ++ (text_of_none ++ codes "}}"))))))))))))
 unfolding char_count digits encode_utf8 escape_byte padded_integral
 with_start =
     let has : has_date (pos 0) ≡ true = ap has_date (sym day_0) ∙ has_is 1970 1 1 is_date in

@@ -42,14 +42,19 @@ start_members (Some nanoseconds) =
     (codes "start", string (absolute_text (time_at nanoseconds)))
     ∷ instant_members (codes "start_seconds") (codes "start_nanoseconds") (time_at nanoseconds)
 
+-- the counts of the packets in no interval: packets that are older than the start or later than all intervals, and packets without a time
+abbrev pub apart_members : TimelineBins → List Member
+apart_members timeline =
+    (codes "older", interval_data timeline.older) ∷ (codes "later", interval_data timeline.later)
+    ∷ (codes "untimed", interval_data timeline.untimed) ∷ []
+
 -- Interval number `n`, from 0 on, begins `n` widths after the start. Intervals without packets are written too. The counts of the packets
--- that are older than the start, and of the packets without a time, come last.
+-- in no interval come last.
 abbrev pub timeline_members : TimelineBins → List Member
 timeline_members timeline =
     start_members timeline.start
     ++ (nanoseconds_members (codes "interval_seconds") (codes "interval_nanoseconds") (shown_width timeline)
-    ++ (codes "intervals", array_of (map interval_data (shown_intervals timeline))) ∷ (codes "older", interval_data timeline.older)
-    ∷ (codes "untimed", interval_data timeline.untimed) ∷ [])
+    ++ (codes "intervals", array_of (map interval_data (shown_intervals timeline))) ∷ apart_members timeline)
 
 -- the timeline, as a member of the summary
 abbrev pub timeline_member : TimelineBins → Member

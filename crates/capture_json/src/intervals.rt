@@ -1,7 +1,7 @@
 //! The timeline: the counts of the packets in each interval of time.
 
 ghost use Rattle.std.specs.Prelude.{◌≡◌, ◌∷◌, [], OnOk, codes, map};
-ghost use Rattle.capture_json.specs.JsonTimeline.{interval_data, interval_members, row_member, start_members, summary_count, timeline_member};
+ghost use Rattle.capture_json.specs.JsonTimeline.{apart_members, interval_data, interval_members, row_member, start_members, summary_count, timeline_member};
 ghost use Rattle.capture_json.specs.Members.{array_of};
 ghost use Rattle.capture_json.specs.Tokens.{push, put, tokens_in, with_items, with_members};
 ghost use Rattle.timeline.specs.Timelines.{shown_intervals};
@@ -29,8 +29,7 @@ pub fn put_timeline(line: &mut Line, room: &mut Vec<u8>, timeline: &Timeline) ->
         timeline.width(),
     )?;
     put_intervals(line, timeline)?;
-    put_interval(line, "older", &timeline.older())?;
-    put_interval(line, "untimed", &timeline.untimed())?;
+    put_apart(line, timeline)?;
     Ok(line.end_object()?)
 }
 
@@ -46,6 +45,15 @@ fn put_start(line: &mut Line, room: &mut Vec<u8>, start: Option<u128>) -> io::Re
         }
         None => Ok(line.put_null("start")?),
     }
+}
+
+/// Writes the counts of the packets that are in no interval.
+fn put_apart(line: &mut Line, timeline: &Timeline) -> Result<(), AllocError>
+    ensures { OnOk result (tokens_in line.new ≡ with_members (apart_members timeline.now) (tokens_in line.old)) }
+{
+    put_interval(line, "older", &timeline.older())?;
+    put_interval(line, "later", &timeline.later())?;
+    put_interval(line, "untimed", &timeline.untimed())
 }
 
 /// Writes the intervals as an array of objects.

@@ -3,6 +3,7 @@ pub mod Endings
 pub mod ErrorLines
 pub mod ExitStatuses
 pub mod Filters
+pub mod Intervals
 pub mod Limits
 pub mod Lines
 pub mod Names

@@ -10,6 +10,7 @@ ghost use Rattle.capture_request.specs.declared.parts.Format.TheVariants as Form
 use crate::{Choice, Times};
 use capture_packet::Verdict;
 use capture_summary::{BUSIEST, VerdictKind};
+use std::num::NonZeroU128;
 
 /// The options of a report.
 #[derive(Clone, Copy, Debug, PartialEq, Eq)]
@@ -30,6 +31,8 @@ pub struct Parts {
     pub top: usize,
     /// Whether a summary of text has the table of the timeline. A summary of JSON always has the timeline.
     pub timeline: bool,
+    /// The fixed width of the intervals of the timeline in nanoseconds, or `None` if the width grows with the time of the packets.
+    pub interval: Option<NonZeroU128>,
     /// Whether the exit status reports that a packet has a wrong checksum or was refused.
     pub check: bool,
     /// The requested number of lines, or `None` if no number is requested. The report ends after this many lines, and reads no further
@@ -45,7 +48,7 @@ impl Parts {
     /// - `check`: the exit status reports packets with a wrong checksum and refused packets.
     ///
     /// All packets are chosen, without a limit. The report is text without details. It shows times since the first packet, and lists the
-    /// ten busiest conversations, without the table of the timeline.
+    /// ten busiest conversations, without the table of the timeline. The width of the intervals of the timeline grows.
     pub fn from_flags(
         summary_alone: bool,
         packets_alone: bool,
@@ -60,6 +63,7 @@ impl Parts {
         ensures format { result.format ≡ Format.Text }
         ensures top { result.top ≡ default_top }
         ensures timeline { result.timeline ≡ false }
+        ensures interval { result.interval ≡ None }
         ensures check { result.check ≡ check }
         ensures limit { result.limit ≡ None }
     {
@@ -77,6 +81,7 @@ impl Parts {
             format: Format::Text,
             top: BUSIEST,
             timeline: false,
+            interval: None,
             check,
             limit: None,
         }

@@ -171,7 +171,7 @@ module _ (first second : List ℕ) (first_room : length (section ++ first) ≡ m
   }
 
   -- the report of the file: no packet is counted, and the reader after the packets knows the interface
-  writes : (parts : Parts) → WritesCapture parts (Some (section ++ interface)) (Some []) (Ok End) empty_tables empty_tables
+  writes : (parts : Parts) → WritesCapture parts (Some (section ++ interface)) (Some []) (Ok End) (empty_tables None) (empty_tables None)
       (Pcapng described) []
   writes parts = record {
     reader = Pcapng begun;
@@ -206,6 +206,7 @@ summary_alone = record {
   format = formats.Text;
   top = 10;
   timeline = false;
+  interval = None;
   check = true;
   limit = None;
 }
@@ -217,7 +218,7 @@ ReadsFile name given = given ≡ Some (Some (section ++ interface))
 -- the state after the file
 abbrev after_file : Progress
 after_file = record {
-  summary = empty_tables;
+  summary = empty_tables None;
   status = Success;
   is_empty = false;
   capture = Some (Pcapng described);
@@ -229,7 +230,7 @@ abbrev after_row : Option (List ℕ) → Progress
 after_row row = record after_file { files = files_after row (Some (Pcapng described)) no_file_packets no_files }
 
 -- the file was reported
-opened : (shown row : Option (List ℕ)) → ReportsOpened summary_alone shown row (Some (section ++ interface)) at_start (after_row row) [] []
+opened : (shown row : Option (List ℕ)) → ReportsOpened summary_alone shown row (Some (section ++ interface)) (at_start summary_alone) (after_row row) [] []
 opened shown row =
     let (first, first_room) = filled section max_packet_len (omega arith) in
     let (second, second_room) = filled interface max_packet_len (omega arith) in
@@ -247,7 +248,7 @@ opened shown row =
       within = λ none. none;
     }
 
-reports_file : ReportsEach ReadsFile summary_alone 1 0 (codes "a.pcapng" ∷ []) at_start after_file [] []
+reports_file : ReportsEach ReadsFile summary_alone 1 0 (codes "a.pcapng" ∷ []) (at_start summary_alone) after_file [] []
 reports_file =
     (after_file, [], [], [], [], ([], (Some (Some (section ++ interface)), refl, opened _ _), refl), (refl, refl, refl), refl, refl)
 
@@ -294,7 +295,7 @@ opened_again shown =
       within = λ none. none;
     }
 
-reports_two : ReportsEach ReadsFile summary_alone 2 0 (codes "a" ∷ codes "b" ∷ []) at_start after_both [] []
+reports_two : ReportsEach ReadsFile summary_alone 2 0 (codes "a" ∷ codes "b" ∷ []) (at_start summary_alone) after_both [] []
 reports_two = (
   after_row (Some (codes "a")),
   [],
@@ -384,11 +385,11 @@ counted = record {
   packets = 1;
   bytes = 1;
   span = Some (record { earliest = time; latest = time });
-  protocols = packet_counted_at 1 (protocol_place (content_protocol packet.content)) empty_tables.protocols;
-  verdicts = counted_at (verdict_place (verdict_kind packet.verdict)) empty_tables.verdicts;
-  links = counted_at (link_place (link_kind (Some (Err 147)))) empty_tables.links;
-  refusals = empty_tables.refusals;
-  flows = table_counted None 1 (Some time) empty_tables.flows;
+  protocols = packet_counted_at 1 (protocol_place (content_protocol packet.content)) (empty_tables None).protocols;
+  verdicts = counted_at (verdict_place (verdict_kind packet.verdict)) (empty_tables None).verdicts;
+  links = counted_at (link_place (link_kind (Some (Err 147)))) (empty_tables None).links;
+  refusals = (empty_tables None).refusals;
+  flows = table_counted None 1 (Some time) (empty_tables None).flows;
   timeline = first_in_timeline (nanoseconds_of time) (counts_with event no_packets);
   file = record { all = record { packets = 1; bytes = 1 }; wrong = 0; refused = 0 };
 }
@@ -400,7 +401,7 @@ all_chosen = record {
   content = record { ports = tt; other_ports = tt; protocols = tt };
 }
 
-counts_packet : CountsEach every_packet empty_tables (in_file ∷ []) counted
+counts_packet : CountsEach every_packet (empty_tables None) (in_file ∷ []) counted
 counts_packet = (
   counted,
   record {
@@ -478,7 +479,7 @@ module _ (rest : List ℕ) (room : length (170 ∷ rest) ≡ max_packet_len) whe
   -- the report of the capture: the packet is counted and has this line
   writes_line : (parts : Parts) (line : List ℕ) → parts.choice ≡ every_packet
       → IsPacketText parts 1 (Classic after_packet) None in_file line
-      → WritesCapture parts (Some (file_header ++ one_byte)) (Some []) (Ok End) empty_tables counted (Classic after_packet) (line ++ [])
+      → WritesCapture parts (Some (file_header ++ one_byte)) (Some []) (Ok End) (empty_tables None) counted (Classic after_packet) (line ++ [])
   writes_line parts line every is_line = record {
     reader = Classic at_packet;
     after_beginning = Some one_byte;
@@ -524,7 +525,7 @@ after_capture = record {
   files = no_files;
 }
 
-reported : (shown : Option (List ℕ)) → ReportsOpened lines_alone shown None (Some (file_header ++ one_byte)) at_start after_capture (line
+reported : (shown : Option (List ℕ)) → ReportsOpened lines_alone shown None (Some (file_header ++ one_byte)) (at_start lines_alone) after_capture (line
     ++ []) []
 reported shown =
     let (rest, room) = filled (170 ∷ []) max_packet_len (omega arith) in
@@ -546,7 +547,7 @@ reported shown =
 abbrev ReadsPacket : List ℕ → Given → Type 0
 ReadsPacket name given = given ≡ Some (Some (file_header ++ one_byte))
 
-reports_packet : ReportsEach ReadsPacket lines_alone 1 0 (codes "a.pcap" ∷ []) at_start after_capture line []
+reports_packet : ReportsEach ReadsPacket lines_alone 1 0 (codes "a.pcap" ∷ []) (at_start lines_alone) after_capture line []
 reports_packet = (
   after_capture,
   line,

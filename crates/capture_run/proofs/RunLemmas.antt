@@ -11,6 +11,7 @@ use Rattle.capture_request.proofs.LineLemmas.{writes-more, writes-nothing, write
 use Rattle.capture_run.specs.Captures.{Given, IsRun, Progress, ReportsEach, ReportsHeaded, ReportsNamed, TellsFirst, WritesReport, WritesRun, at_start, captures_of, heading_of, progress_of, row_name}
 use Rattle.capture_request.specs.ErrorLines.{line_name}
 use Rattle.capture_request.specs.ExitStatuses.{final_status}
+use Rattle.capture_request.specs.Intervals.{width_of}
 use Rattle.capture_request.specs.Limits.{is_full, limited}
 use Rattle.capture_run.proofs.TimelineLemmas.{timeline_from_start}
 use Rattle.capture_run.specs.PacketsText.{end_text}
@@ -190,14 +191,14 @@ all_named [] named some = absurd (grind (arith, some))
 all_named (name ∷ names) named some = refl
 
 -- the state at the start of a run
-at_first : (start : CaptureReports) → start.summary ≡ empty_tables → start.status ≡ Success → start.is_empty ≡ true → start.capture ≡ None
-    → start.files ≡ no_files → progress_of start ≡ at_start
-at_first start tables status empty no_capture none = cc (tables, status, empty, no_capture, none)
+at_first : (parts : Parts) (start : CaptureReports) → start.summary ≡ empty_tables (width_of parts) → start.status ≡ Success → start.is_empty ≡ true → start.capture ≡ None
+    → start.files ≡ no_files → progress_of start ≡ at_start parts
+at_first parts start tables status empty no_capture none = cc (tables, status, empty, no_capture, none)
 
 -- the summary was written after all captures, and all lines of errors were written
 pub run_result : {X : Type 0} (Reads : List ℕ → Given → Type 0) (parts : Parts) (names : List X) (named : X → List ℕ)
     (start reports : CaptureReports) (status : ExitStatus) (a b c e f : Option (List ℕ)) → start.parts ≡ parts
-    → start.summary ≡ empty_tables → start.status ≡ Success → start.is_empty ≡ true → start.capture ≡ None → start.files ≡ no_files
+    → start.summary ≡ empty_tables (width_of parts) → start.status ≡ Success → start.is_empty ≡ true → start.capture ≡ None → start.files ≡ no_files
     → reports.parts ≡ start.parts → reports.unwritten ≡ None
     → WritesReport a b e f (IsNone reports.unwritten)
     (ReportsEach Reads start.parts (length names) 0 (captures_of (map named names)) (progress_of start) (progress_of reports))
@@ -205,8 +206,8 @@ pub run_result : {X : Type 0} (Reads : List ℕ → Given → Type 0) (parts : P
     → status ≡ final_status reports.parts.check reports.status reports.summary
     → WritesRun a c e f (IsRun Reads parts (map named names) status)
 run_result Reads parts names named start reports status a b c e f same tables first empty no_capture none kept told each end final =
-    let is_start : progress_of start ≡ at_start = at_first start tables first empty no_capture none in
-    let all : ReportsEach Reads parts (length (map named names)) 0 (captures_of (map named names)) at_start
+    let is_start : progress_of start ≡ at_start parts = at_first parts start tables first empty no_capture none in
+    let all : ReportsEach Reads parts (length (map named names)) 0 (captures_of (map named names)) (at_start parts)
     (progress_of reports) each.text each.lines =
     rw (same, is_start, sym (length-map names named)) at each.is_report in
     let whole : each.tells.written ≡ concat each.lines = each.tells.whole (rw told refl) in (
@@ -228,9 +229,9 @@ run_result Reads parts names named start reports status a b c e f same tables fi
 -- the run failed after all captures
 pub run_failed : {X : Type 0} (Reads : List ℕ → Given → Type 0) (parts : Parts) (names : List X) (named : X → List ℕ)
     (start : CaptureReports) (e f : Option (List ℕ)) → start.parts ≡ parts
-    → start.summary ≡ empty_tables → start.status ≡ Success → start.is_empty ≡ true → start.capture ≡ None
+    → start.summary ≡ empty_tables (width_of parts) → start.status ≡ Success → start.is_empty ≡ true → start.capture ≡ None
     → start.files ≡ no_files
     → TellsFirst Reads start.parts (length names) (captures_of (map named names)) (progress_of start) e f
-    → TellsFirst Reads parts (length names) (captures_of (map named names)) at_start e f
+    → TellsFirst Reads parts (length names) (captures_of (map named names)) (at_start parts) e f
 run_failed Reads parts names named start e f same tables first empty no_capture none tells =
-    rw (same, at_first start tables first empty no_capture none) at tells
+    rw (same, at_first parts start tables first empty no_capture none) at tells

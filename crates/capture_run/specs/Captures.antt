@@ -11,6 +11,7 @@ use Rattle.capture_summary.specs.declared.file_count.FileCount.{FileCount}
 use Rattle.capture_request.specs.Endings.{status_of}
 use Rattle.capture_request.specs.ErrorLines.{AreEndLines, IsOneLine, IsOpenErrorLine, WritesLines, line_name}
 use Rattle.capture_request.specs.ExitStatuses.{final_status, greater}
+use Rattle.capture_request.specs.Intervals.{width_of}
 use Rattle.capture_request.specs.Limits.{EndsByLimit, IsWithin, is_full, limited}
 use Rattle.capture_request.specs.Names.{shown_name, without_mark}
 use Rattle.capture_run.specs.PacketsText.{IsCaptureReport, end_text, has_headings}
@@ -48,8 +49,8 @@ progress_of reports = record {
 }
 
 -- the state before the first capture
-abbrev pub at_start : Progress
-at_start = record { summary = empty_tables; status = Success; is_empty = true; capture = None; files = no_files }
+abbrev pub at_start : Parts → Progress
+at_start parts = record { summary = empty_tables (width_of parts); status = Success; is_empty = true; capture = None; files = no_files }
 
 -- the state after a capture that can't be opened
 abbrev pub unopened : Progress → Progress
@@ -200,13 +201,13 @@ packets_of_each Reads parts count place (name ∷ names) before after text lines
 
 -- The report of a run with this exit status. `text` is the text of each capture, and then the summary if it is requested and the beginning
 -- of a capture was accepted. `lines` are the lines of all errors, in the order of the captures. The timeline in the summary is the timeline
--- of the chosen packets that were read, in their order.
+-- of the chosen packets that were read, in their order, with intervals of the requested width.
 pub record IsRun (Reads : List ℕ → Given → Type 0) (parts : Parts) (names : List (List ℕ)) (status : ExitStatus) (text : List ℕ) (lines : List (List ℕ)) : Type 0 where
   pub after : Progress
   pub captures : List ℕ
-  pub reports : ReportsEach Reads parts (length names) 0 (captures_of names) at_start after captures lines
-  pub timeline : HasTimeline parts.choice (packets_of_each Reads parts (length names) 0 (captures_of names) at_start after captures lines reports)
-      after.summary.timeline
+  pub reports : ReportsEach Reads parts (length names) 0 (captures_of names) (at_start parts) after captures lines
+  pub timeline : HasTimeline parts.choice (width_of parts)
+      (packets_of_each Reads parts (length names) 0 (captures_of names) (at_start parts) after captures lines reports) after.summary.timeline
   pub whole : text ≡ captures ++ (if after.is_empty then [] else end_text parts (length names) after.capture after.files after.summary)
   pub is_final : status ≡ final_status parts.check after.status after.summary
 

@@ -1,5 +1,5 @@
 -- The timeline of the chosen packets.
-use Rattle.std.specs.Prelude.{◌≡◌, ◌⊎◌, List, [], ◌∷◌, ◌++◌}
+use Rattle.std.specs.Prelude.{◌≡◌, ◌⊎◌, ℕ, List, [], ◌∷◌, ◌++◌, Option}
 use Rattle.capture_file.specs.CapturePackets.{FilePacket}
 use Rattle.capture_packet.specs.declared.packet.Packet.{Packet}
 use Rattle.capture_request.specs.Report.{IsPacketOf, info_of}
@@ -25,6 +25,7 @@ AreEventsOf choice (packet ∷ packets) events =
     (first : List Event) × (others : List Event) × IsEventOf choice packet first × AreEventsOf choice packets others
     × (events ≡ first ++ others)
 
--- the timeline of the chosen packets, in the order of the packets
-abbrev pub HasTimeline : Choice → List FilePacket → TimelineBins → Type 0
-HasTimeline choice packets timeline = (events : List Event) × AreEventsOf choice packets events × IsTimelineOf events timeline
+-- the timeline of the chosen packets, in the order of the packets, with intervals of this fixed width in nanoseconds, or of a width that grows
+-- if no width is given
+abbrev pub HasTimeline : Choice → Option ℕ → List FilePacket → TimelineBins → Type 0
+HasTimeline choice width packets timeline = (events : List Event) × AreEventsOf choice packets events × IsTimelineOf width events timeline

@@ -6,6 +6,7 @@ ghost use Rattle.capture_json.specs.JsonPacket.{json_line};
 ghost use Rattle.capture_json.specs.JsonSummary.{summary_members};
 ghost use Rattle.capture_run.specs.Captures.{files_after, only_capture, progress_of};
 ghost use Rattle.capture_request.specs.Endings.{status_of};
+ghost use Rattle.capture_request.specs.Intervals.{width_of};
 ghost use Rattle.capture_run.specs.PacketsText.{IsCaptureReport, empty_line, end_text, has_headings, has_packet_line, summary_in, timeline_part};
 ghost use Rattle.capture_summary.specs.Endpoints.{busiest_endpoints};
 ghost use Rattle.capture_summary.specs.Ranking.{busiest_of};
@@ -65,7 +66,7 @@ impl<'a> CaptureReports<'a> {
         parts: Parts,
     ) -> Result<CaptureReports<'a>, AllocError>
         ensures parts { IfOk result (λ reports. reports.parts ≡ parts) }
-        ensures summary { IfOk result (λ reports. reports.summary ≡ empty_tables) }
+        ensures summary { IfOk result (λ reports. reports.summary ≡ empty_tables (width_of parts)) }
         ensures status { IfOk result (λ reports. reports.status ≡ ExitStatus.Success) }
         ensures empty { IfOk result (λ reports. reports.is_empty ≡ true) }
         ensures capture { IfOk result (λ reports. reports.capture ≡ None) }
@@ -74,7 +75,7 @@ impl<'a> CaptureReports<'a> {
     {
         Ok(CaptureReports {
             parts,
-            summary: Summary::new(alloc, state)?,
+            summary: Summary::new(alloc, state, parts.interval)?,
             status: ExitStatus::Success,
             is_empty: true,
             capture: None,

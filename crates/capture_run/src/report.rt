@@ -48,7 +48,7 @@ pub fn run<O: Open, W: Write, E: Write>(
         (IsRun (Gives (O.misses sources.now.opener.now) (O.opens sources.now.opener.now) O.Input.remaining) parts
         (map (λ name. name.now) sources.now.names.now) status)) }
     ensures errors { IfErr result (λ error. TellsFirst (Gives (O.misses sources.now.opener.now) (O.opens sources.now.opener.now) O.Input.remaining) parts
-        (length sources.now.names.now) (specs.captures_of (map (λ name. name.now) sources.now.names.now)) at_start
+        (length sources.now.names.now) (specs.captures_of (map (λ name. name.now) sources.now.names.now)) (at_start parts)
         (E.contents outputs.old.errors) (E.contents outputs.new.errors)) }
 {
     let start = CaptureReports::new(outputs.alloc, state, parts)?;

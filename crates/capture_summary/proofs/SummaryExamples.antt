@@ -30,7 +30,7 @@ use Rattle.capture_summary.specs.declared.flow.Flow.{Flow}
 use Rattle.capture_summary.specs.declared.flow.FlowProtocol.TheVariants.{Udp}
 use Rattle.capture_summary.specs.declared.network.Network.{Network}
 use Rattle.capture_summary.specs.declared.verdict_kind.VerdictKind.TheVariants.{Refused, Right, Wrong}
-use Rattle.timeline.proofs.TimelineLemmas.{Widens, first_counted, untimed_counted}
+use Rattle.timeline.proofs.TimelineLemmas.{Widens, from_counted, untimed_counted}
 use Rattle.timeline.specs.Counts as of_times
 use Rattle.timeline.specs.Counts.{counts_with}
 use Rattle.timeline.specs.Timelines.{CountsPacket, TimelineBins, empty_timeline}
@@ -105,13 +105,13 @@ one_packet = record {
     without_ports = no_packets;
     without_room = no_packets;
   };
-  timeline = record empty_timeline {
+  timeline = record (empty_timeline None) {
     untimed = record of_times.no_packets { udp = record { packets = 1; bytes = 1000 } };
   };
   file = record { all = count 1 1000; wrong = 0; refused = 0 };
 }
 
-counts_one : CountsOne empty_tables protocols.Udp Right None (Some request) info one_packet
+counts_one : CountsOne (empty_tables None) protocols.Udp Right None (Some request) info one_packet
 counts_one = record {
   rows = record {
     packets = refl;
@@ -124,7 +124,7 @@ counts_one = record {
     flows = refl;
     file = refl;
   };
-  timeline = untimed_counted empty_timeline (event_of protocols.Udp Right info) refl;
+  timeline = untimed_counted (empty_timeline None) (event_of protocols.Udp Right info) refl;
 }
 
 -- ---- times
@@ -141,7 +141,7 @@ event_of_response = refl
 
 -- the timeline after its first packet, which has a time
 abbrev pub first_in_timeline : ℕ → Counts → TimelineBins
-first_in_timeline time counts = record empty_timeline { start = Some time; bins = counts ∷ [] }
+first_in_timeline time counts = record (empty_timeline None) { start = Some time; bins = counts ∷ [] }
 
 no_wider : Widens 0 0 1 1 [] []
 no_wider = record {
@@ -165,11 +165,11 @@ first_bin packet = record { len = refl; here = refl; elsewhere = elsewhere }
 
 -- the first packet with a time is in the first interval
 pub counts_first : (packet : Event) (time : ℕ) → packet.time ≡ Some time
-    → CountsPacket empty_timeline packet (first_in_timeline time (counts_with packet of_times.no_packets))
+    → CountsPacket (empty_timeline None) packet (first_in_timeline time (counts_with packet of_times.no_packets))
 counts_first packet time timed =
     let at_start : time ≡ time + 0 = omega arith in
-    first_counted empty_timeline packet time 0 0 1 [] (counts_with packet of_times.no_packets ∷ []) (timed ∙ ap Some at_start) no_wider
-    (first_bin packet) refl refl
+    from_counted (empty_timeline None) packet time 0 0 1 [] (counts_with packet of_times.no_packets ∷ []) (timed ∙ ap Some at_start)
+    no_wider (first_bin packet) refl (inr (refl, refl))
 
 -- ---- files
 

@@ -32,9 +32,9 @@ pub record SummaryTables : Type 0 where
   pub timeline : TimelineBins
   pub file : FileCount
 
--- the tables without packets
-abbrev pub empty_tables : SummaryTables
-empty_tables = record {
+-- the tables without packets; the intervals of the timeline have this fixed width, or a width that grows if no width is given
+abbrev pub empty_tables : Option ℕ → SummaryTables
+empty_tables width = record {
   packets = 0;
   bytes = 0;
   span = None;
@@ -43,7 +43,7 @@ empty_tables = record {
   links = replicate (length link_kinds) 0;
   refusals = replicate (length refusal_kinds) 0;
   flows = record { rows = []; without_ports = no_packets; without_room = no_packets };
-  timeline = empty_timeline;
+  timeline = empty_timeline width;
   file = no_file_packets;
 }
 

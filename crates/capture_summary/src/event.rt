@@ -1,14 +1,34 @@
-//! A packet, as the timeline of a summary counts it.
+//! The timeline of a summary, and a packet as this timeline counts it.
 
-ghost use Rattle.std.specs.Prelude.{◌≡◌};
+ghost use Rattle.std.specs.Prelude.{◌≡◌, IfOk};
+ghost use Rattle.std.specs.Int.NonZero.{non_zero_u128_get};
 ghost use Rattle.std.specs.Option.{option_map};
 ghost use Rattle.capture_file.specs.PacketTimes.{nanoseconds_of};
 ghost use Rattle.capture_summary.specs.Events as specs;
-ghost use Rattle.timeline.specs.Timelines.{CountsPacket};
+ghost use Rattle.timeline.specs.Timelines.{CountsPacket, empty_timeline};
 
 use crate::{CaptureInfo, Protocol, VerdictKind};
 use capture_file::{PacketTime, nanoseconds_of};
+use std::alloc::{AllocError, Global};
+use std::num::NonZeroU128;
 use timeline::{Event, Fault, Timeline, Transport};
+
+/// A timeline without packets. Its intervals have this fixed width in nanoseconds, or a width that grows if no width is given.
+///
+/// # Errors
+///
+/// `AllocError` if no memory is left, and for no other reason.
+pub fn empty_timeline(
+    alloc: Global,
+    interval: Option<NonZeroU128>,
+) -> Result<Timeline, AllocError>
+    ensures { IfOk result (λ timeline. timeline ≡ empty_timeline (option_map non_zero_u128_get interval)) }
+{
+    match interval {
+        Some(width) => Timeline::with_width(alloc, width),
+        None => Timeline::new(alloc),
+    }
+}
 
 /// Counts a packet with this protocol and this verdict. `info` is what the capture states about the packet.
 pub fn count_event(

@@ -1,4 +1,5 @@
-ghost use Rattle.std.specs.Prelude.{◌≡◌, ◌↔◌, ◌<◌, ◌-◌, ◌^◌, ◌+◌, map, slice_index, slice_index_or, IfOk, IsSome, OnOk, OnErr};
+ghost use Rattle.std.specs.Int.NonZero.{non_zero_u128_get};
+ghost use Rattle.std.specs.Prelude.{◌≡◌, ◌↔◌, ◌<◌, ◌-◌, ◌^◌, ◌+◌, map, slice_index, slice_index_or, IfOk, IsSome, OnOk, OnErr, option_map};
 ghost use Rattle.capture_summary.specs.SummaryTables.{CountsOne, IsBalanced, empty_tables, file_started, has_fault};
 ghost use Rattle.capture_summary.specs.Kinds.{link_place, link_rows, protocol_rows, refusal_place, refusal_rows, verdict_place, verdict_rows};
 ghost use Rattle.capture_summary.specs.Protocols.{protocol_place};
@@ -7,7 +8,7 @@ ghost use Rattle.capture_summary.specs.Rates.{average_len};
 ghost use Rattle.capture_summary.specs.Tables.{no_packets};
 ghost use Rattle.capture_summary.specs.declared.verdict_kind.VerdictKind.TheVariants.{Refused};
 
-use crate::event::count_event;
+use crate::event::{count_event, empty_timeline};
 use crate::{
     CaptureInfo, Count, FileCount, Flow, Flows, LinkKind, Protocol, RefusalKind, TimeSpan,
     VerdictKind, protocol_rows,
@@ -16,6 +17,7 @@ use arrayvec::ArrayVec;
 use std::alloc::{AllocError, Global};
 use std::hash::RandomState;
 use std::marker::Model;
+use std::num::NonZeroU128;
 use timeline::Timeline;
 
 /// The counts of the packets of captures.
@@ -69,13 +71,18 @@ impl Model for Summary {
 }
 
 impl Summary {
-    /// A summary without packets, with the memory of its timeline. `state` provides the keys of the hashes that find a flow.
+    /// A summary without packets, with the memory of its timeline. `state` provides the keys of the hashes that find a flow. `interval` is
+    /// the fixed width of the intervals of the timeline in nanoseconds. If it is `None`, the width grows.
     ///
     /// # Errors
     ///
     /// `AllocError` if no memory is left, and for no other reason.
-    pub fn new(alloc: Global, state: RandomState) -> Result<Summary, AllocError>
-        ensures empty { IfOk result (λ summary. summary ≡ empty_tables) }
+    pub fn new(
+        alloc: Global,
+        state: RandomState,
+        interval: Option<NonZeroU128>,
+    ) -> Result<Summary, AllocError>
+        ensures empty { IfOk result (λ summary. summary ≡ empty_tables (option_map non_zero_u128_get interval)) }
         ensures balanced { IfOk result (λ summary. IsBalanced summary) }
     {
         Ok(Summary {
@@ -86,7 +93,7 @@ impl Summary {
             links: [0; LinkKind::COUNT],
             refusals: [0; RefusalKind::COUNT],
             flows: Flows::new(alloc, state),
-            timeline: Timeline::new(alloc)?,
+            timeline: empty_timeline(alloc, interval)?,
             file: FileCount::NONE,
         })
     }

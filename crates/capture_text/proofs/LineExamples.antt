@@ -102,7 +102,7 @@ five_packets = record {
     without_ports = count 3 268;
     without_room = no_packets;
   };
-  timeline = record empty_timeline {
+  timeline = record (empty_timeline None) {
     untimed = record {
       udp = record { packets = 2; bytes = 1044 };
       tcp = none;

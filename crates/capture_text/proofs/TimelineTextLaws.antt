@@ -1,14 +1,16 @@
 -- The rows of the table of the timeline contain their packets, and the bars have their lengths.
-use Rattle.std.proofs.Common.{◌≡◌, ℕ, ◌*◌, ◌≤◌, ◌<◌, Bool, true, false, cond, nat_le, leb-true, List, length, Option, Some, None, ap, arith, refl, lt_of_mul-lt-mul_right}
+use Rattle.std.proofs.Common.{◌≡◌, ℕ, ◌*◌, ◌≤◌, ◌<◌, Bool, true, false, cond, nat_le, leb-true, List, length, Option, Some, None, ap, arith, refl, subst, sym, lt_of_mul-lt-mul_right}
 use Rattle.std.proofs.lemmas.Grind.{div_ceil_times}
 use Rattle.std.specs.Int.{div_ceil}
+use Rattle.std.specs.Option.{is_some}
 use Rattle.std.specs.Prelude.{unwrap_or}
 use Rattle.timeline.proofs.MergingLemmas.{length_of_merged, merged_are_intervals}
 use Rattle.timeline.proofs.TimelineLemmas.{shown}
-use Rattle.timeline.specs.Intervals.{merged}
-use Rattle.timeline.specs.Timelines.{AreShown, IsTimelineOf, TimelineBins, shown_intervals, shown_width}
+use Rattle.timeline.specs.Intervals.{AreIntervals, merged}
+use Rattle.timeline.specs.Timelines.{AreShown, IsTimelineOf, TimelineBins, not_later, shown_intervals, shown_width}
+use Rattle.timeline.specs.declared.counts.Counts.{Counts}
 use Rattle.timeline.specs.declared.event.Event.{Event}
-use Rattle.capture_text.specs.TimelineText.{AreRows, bar_len, intervals_in_row, row_size, row_width, rows}
+use Rattle.capture_text.specs.TimelineText.{AreRows, bar_len, intervals_in_row, row_width, rows}
 
 -- there are intervals in a row, and 20 rows of them suffice
 suffices : (intervals : ℕ) → intervals ≤ 256 → (0 < intervals_in_row intervals) × (intervals ≤ 20 * intervals_in_row intervals)
@@ -31,18 +33,36 @@ few number size some enough =
     let less : div_ceil number size < 21 = lt_of_mul-lt-mul_right size product in
     omega (arith, less)
 
-pub rows_of_packets : (packets : List Event) (timeline : TimelineBins) → IsTimelineOf packets timeline
-    → AreRows timeline.start (row_width timeline) (rows timeline) packets
-rows_of_packets packets timeline is = by timeline.start (shown packets timeline is)
+-- the rows of these intervals, whether their width is fixed
+abbrev size_of : Bool → List Counts → ℕ
+size_of is_fixed intervals = cond is_fixed 1 (intervals_in_row (length intervals))
+
+pub rows_of_packets : (width : Option ℕ) (packets : List Event) (timeline : TimelineBins) → IsTimelineOf width packets timeline
+    → AreRows width timeline.start (row_width timeline) (rows timeline) packets
+rows_of_packets width packets timeline is =
+    let intervals = shown_intervals timeline in
+    subst (λ is_fixed. AreRows width timeline.start (shown_width timeline * size_of is_fixed intervals)
+    (merged (size_of is_fixed intervals) intervals) packets) (sym is.is_fixed)
+    (by width timeline.start (shown_width timeline) intervals (shown width packets timeline is))
   where
-    by : (start : Option ℕ) → AreShown start (shown_width timeline) (shown_intervals timeline) packets
-        → AreRows start (row_width timeline) (rows timeline) packets
-    by None none = ap (λ intervals. merged (intervals_in_row (length intervals)) intervals) none
-    by (Some start) are =
-        let intervals = shown_intervals timeline in
+    by : (width start : Option ℕ) (shown_width : ℕ) (intervals : List Counts) → AreShown width start shown_width intervals packets
+        → AreRows width start (shown_width * size_of (is_some width) intervals) (merged (size_of (is_some width) intervals) intervals)
+        packets
+    by None None shown_width intervals none = ap (λ each. merged (intervals_in_row (length each)) each) none
+    by None (Some start) shown_width intervals are =
+        let size = intervals_in_row (length intervals) in
         let enough = suffices (length intervals) (are.1.fewest 256 are.0.suffice) in (
-          omega (arith, length_of_merged (row_size timeline) intervals, few (length intervals) (row_size timeline) enough.0 enough.1),
-          merged_are_intervals start (shown_width timeline) intervals packets are.1 (row_size timeline) enough.0,
+          omega (arith, length_of_merged size intervals, few (length intervals) size enough.0 enough.1),
+          merged_are_intervals start shown_width intervals packets are.1 size enough.0,
+        )
+    by (Some fixed) None shown_width intervals are =
+        let same : shown_width * 1 ≡ fixed = omega (arith, are.0) in (same, ap (merged 1) are.1)
+    by (Some fixed) (Some start) shown_width intervals are =
+        let same : shown_width * 1 ≡ fixed = omega (arith, are.0) in
+        let one : fixed * 1 ≡ fixed = omega arith in (
+          same,
+          subst (λ each. AreIntervals start each (merged 1 intervals) (not_later fixed start packets)) one
+              (merged_are_intervals start fixed intervals (not_later fixed start packets) are.1 1 (omega arith)),
         )
 
 -- ---- bars

@@ -7,23 +7,24 @@ use Rattle.capture_text.specs.SummaryText.{name_cell, name_width, number_cell, t
 use Rattle.capture_words.specs.Numbers.{zero_padded}
 use Rattle.timeline.specs.Counts.{no_packets, total}
 use Rattle.timeline.specs.Intervals.{AreIntervals, merged}
-use Rattle.timeline.specs.Timelines.{TimelineBins, shown_intervals, shown_width}
+use Rattle.timeline.specs.Timelines.{AreFixed, TimelineBins, shown_intervals, shown_width}
 use Rattle.timeline.specs.declared.counts.Counts.{Counts}
 use Rattle.timeline.specs.declared.event.Event.{Event}
 
 -- ---- the rows of intervals
 
--- the greatest number of rows
+-- the greatest number of rows if the width of the intervals grows
 abbrev pub max_rows : ℕ
 max_rows = 20
 
--- The number of intervals in a row, of this number of intervals: the least of 1, 2, 5, 10 and 20 with which `max_rows` rows suffice. A
--- timeline has at most 256 intervals, so 20 intervals in a row always suffice.
+-- The number of intervals in a row if their width grows, of this number of intervals: the least of 1, 2, 5, 10 and 20 with which `max_rows`
+-- rows suffice. Such a timeline has at most 256 intervals, so 20 intervals in a row always suffice.
 abbrev pub intervals_in_row : ℕ → ℕ
 intervals_in_row intervals = unwrap_or (find (λ size. nat_le intervals (max_rows * size)) (1 ∷ 2 ∷ 5 ∷ 10 ∷ [])) 20
 
+-- the number of intervals in a row; a row is one interval of a fixed width
 abbrev pub row_size : TimelineBins → ℕ
-row_size timeline = intervals_in_row (length (shown_intervals timeline))
+row_size timeline = if timeline.is_fixed then 1 else intervals_in_row (length (shown_intervals timeline))
 
 -- the counts of each row; the last row can contain fewer intervals than the others
 abbrev pub rows : TimelineBins → List Counts
@@ -32,11 +33,13 @@ rows timeline = merged (row_size timeline) (shown_intervals timeline)
 abbrev pub row_width : TimelineBins → ℕ
 row_width timeline = shown_width timeline * row_size timeline
 
--- Rows of this width contain exactly the packets that are in them by their times, from the start on. There are at most `max_rows` rows.
--- Without a start there are none.
-abbrev pub AreRows : Option ℕ → ℕ → List Counts → List Event → Type 0
-AreRows None width counts packets = counts ≡ []
-AreRows (Some start) width counts packets = (length counts ≤ max_rows) × AreIntervals start width counts packets
+-- Rows contain exactly the packets that are in them by their times, from the start on. If the width of the intervals is fixed, a row has
+-- this width, and contains no packet that is later than all intervals. If the width grows, there are at most `max_rows` rows. Without a
+-- start there are none.
+abbrev pub AreRows : Option ℕ → Option ℕ → ℕ → List Counts → List Event → Type 0
+AreRows None None width counts packets = counts ≡ []
+AreRows None (Some start) width counts packets = (length counts ≤ max_rows) × AreIntervals start width counts packets
+AreRows (Some fixed) start width counts packets = (width ≡ fixed) × AreFixed start fixed counts packets
 
 -- the time from the start of the timeline to the beginning of an interval, or the greatest time that 128 bits can contain if it is later
 abbrev pub begin_of : TimelineBins → ℕ → ℕ
@@ -98,14 +101,15 @@ timeline_head =
     ++ (title_cell 17 (codes "bytes") ++ (codes " " ++ (title_cell 11 (codes "wrong") ++ (codes " " ++ (title_cell 11 (codes "refused")
     ++ codes "\n")))))))))
 
--- the table has no rows: there are no intervals, no older packets, and no packets without a time
+-- the table has no rows: there are no intervals, no older packets, no later packets, and no packets without a time
 abbrev pub is_without_packets : TimelineBins → Bool
 is_without_packets timeline =
-    length (shown_intervals timeline) == 0 && ((total timeline.older).packets == 0 && (total timeline.untimed).packets == 0)
+    length (shown_intervals timeline) == 0
+    && ((total timeline.older).packets == 0 && ((total timeline.later).packets == 0 && (total timeline.untimed).packets == 0))
 
 -- the table, with the packets that are in no interval in its last rows; it is left out if it has no rows
 abbrev pub timeline_table : TimelineBins → List ℕ
 timeline_table timeline =
     if is_without_packets timeline then []
     else timeline_head ++ (intervals_text timeline ++ (apart_row (codes "older packets") timeline.older
-    ++ apart_row (codes "packets without a time") timeline.untimed))
+    ++ (apart_row (codes "later packets") timeline.later ++ apart_row (codes "packets without a time") timeline.untimed)))

@@ -18,10 +18,11 @@ pub fn one_line()
         (len : Option FrameLen) (packet : Packet) → HasOneLine times verbose number texts first time len packet }
 {}
 
-/// The rows of the table of a timeline contain exactly the packets that are in them by their times. There are at most 20 rows.
+/// The rows of the table of a timeline contain exactly the packets that are in them by their times. If the width of the intervals is fixed,
+/// it is the width of a row. If it grows, there are at most 20 rows.
 pub fn timeline_rows()
-    ensures { (packets : List PacketEvent) (timeline : TimelineBins) → IsTimelineOf packets timeline
-        → AreRows timeline.start (row_width timeline) (rows timeline) packets }
+    ensures { (width : Option ℕ) (packets : List PacketEvent) (timeline : TimelineBins) → IsTimelineOf width packets timeline
+        → AreRows width timeline.start (row_width timeline) (rows timeline) packets }
 {}
 
 /// The bar of a row has at most 40 bytes, and the bar of the row with the most packets has 40. A row with packets has a bar.

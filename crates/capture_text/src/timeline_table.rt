@@ -17,13 +17,14 @@ use timeline::{Count, Counts, Timeline};
 /// The bar of the row with the most packets.
 const LONGEST_BAR: [u8; 40] = [b'#'; 40];
 
-/// Writes an empty line and the table of the timeline. At most 20 rows show its intervals: a row is the sum of 1, 2, 5, 10 or 20
-/// neighboring intervals, of as few as possible. The row shows the seconds from the start of the timeline to its own beginning, and the
-/// numbers of packets and bytes, of packets with a wrong checksum, and of refused packets. At its end is a bar. The row with the most
-/// packets has a bar of 40 `#`. Other bars are in proportion to the numbers of packets, rounded up.
+/// Writes an empty line and the table of the timeline. If the width of its intervals is fixed, each interval has a row. Otherwise at most 20
+/// rows show its intervals: a row is the sum of 1, 2, 5, 10 or 20 neighboring intervals, of as few as possible. The row shows the seconds
+/// from the start of the timeline to its own beginning, and the numbers of packets and bytes, of packets with a wrong checksum, and of
+/// refused packets. At its end is a bar. The row with the most packets has a bar of 40 `#`. Other bars are in proportion to the numbers of
+/// packets, rounded up.
 ///
-/// The last rows count the packets that are older than the first packet with a time, and the packets without a time. They are left out if
-/// they count no packet. If no packet was counted, nothing is written.
+/// The last rows count the packets that are older than the first packet with a time, the packets that are later than all intervals of a
+/// fixed width, and the packets without a time. They are left out if they count no packet. If no packet was counted, nothing is written.
 ///
 /// The times in the timeline are numbers of nanoseconds.
 ///
@@ -39,15 +40,17 @@ pub fn write_timeline<W: Write>(output: &mut W, timeline: &Timeline) -> io::Resu
     write_timeline_head(output)?;
     write_intervals(output, timeline)?;
     write_apart(output, "older packets", &timeline.older())?;
+    write_apart(output, "later packets", &timeline.later())?;
     write_apart(output, "packets without a time", &timeline.untimed())
 }
 
-/// Whether the table has no rows: there are no intervals, no older packets, and no packets without a time.
+/// Whether the table has no rows: there are no intervals, no older packets, no later packets, and no packets without a time.
 fn is_without_packets(timeline: &Timeline) -> bool
     ensures { result ≡ specs.is_without_packets timeline.now }
 {
     timeline.interval_count() == 0
         && timeline.older().total().packets == 0
+        && timeline.later().total().packets == 0
         && timeline.untimed().total().packets == 0
 }
 
@@ -68,7 +71,7 @@ fn write_intervals<W: Write>(output: &mut W, timeline: &Timeline) -> io::Result<
     ensures { OnOk result (Appends (W.contents output.old) (W.contents output.new) (specs.intervals_text timeline.now)) }
 {
     let count = timeline.interval_count();
-    let size = intervals_in_row(count);
+    let size = row_size(timeline);
     let most = most_packets(timeline, size);
     for place in 0..count.div_ceil(size) {
         let begin = begin_of(timeline, place * size);
@@ -77,7 +80,18 @@ fn write_intervals<W: Write>(output: &mut W, timeline: &Timeline) -> io::Result<
     Ok(())
 }
 
-/// The number of neighboring intervals in a row. It is the least of 1, 2, 5, 10 and 20 with which 20 rows suffice.
+/// The number of intervals in a row.
+fn row_size(timeline: &Timeline) -> usize
+    ensures value { result ≡ specs.row_size timeline.now }
+    ensures few { (0 < result) × (result ≤ 20) }
+{
+    if timeline.is_fixed() {
+        return 1;
+    }
+    intervals_in_row(timeline.interval_count())
+}
+
+/// The number of neighboring intervals in a row if their width grows. It is the least of 1, 2, 5, 10 and 20 with which 20 rows suffice.
 fn intervals_in_row(intervals: usize) -> usize
     ensures value { result ≡ specs.intervals_in_row intervals }
     ensures few { (0 < result) × (result ≤ 20) }

@@ -5,14 +5,14 @@ use Rattle.std.proofs.lemmas.Grind.{div_ceil_times}
 use Rattle.std.proofs.lemmas.List.{get_or_past}
 use Rattle.std.proofs.lemmas.List.Elements.{All-weaker}
 use Rattle.std.specs.Int.{div_ceil}
-use Rattle.timeline.proofs.CountLemmas.{counts_agree}
+use Rattle.timeline.proofs.CountLemmas.{counts_agree, counts_none}
 use Rattle.timeline.proofs.IntervalLemmas.{between_none}
 use Rattle.timeline.proofs.MergingLemmas as lemmas
 use Rattle.timeline.proofs.MergingLemmas.{length_of_merged, merged_here}
 use Rattle.timeline.proofs.TimelineLemmas.{all_untimed}
 use Rattle.timeline.specs.Counts.{counts_of, no_packets}
 use Rattle.timeline.specs.Intervals.{AreIntervals, Fits, IsBefore, IsLeastWidth, IsPowerOfTen, counts_between, merged, merged_at}
-use Rattle.timeline.specs.Timelines.{HasBins, IsTimelineOf, bins_in_interval, first_time, is_older, max_bins, shown_intervals}
+use Rattle.timeline.specs.Timelines.{HasBins, IsTimelineOf, bins_in_interval, first_time, is_later, is_older, max_bins, shown_intervals}
 use Rattle.timeline.specs.declared.counts.Counts.{Counts}
 use Rattle.timeline.specs.declared.event.Event.{Event}
 use Rattle.report_page.specs.Charts.{page_counts, timeline_in}
@@ -29,14 +29,16 @@ module _ (packets : List Event) (none : first_time packets ≡ None) where
   untimed_before end k d within = subst (IsBefore end) (sym (all_untimed packets none k d within)) tt
 
   pub untimed_timeline : (bins : Bins) → bins.start ≡ None → bins.unit ≡ 1 → bins.len ≡ 0 → AreCounted 0 bins packets
-      → IsTimelineOf packets (timeline_in bins)
+      → IsTimelineOf None packets (timeline_in bins)
   untimed_timeline bins start unit len are = record {
+    is_fixed = refl;
     start = start ∙ sym none;
-    bins = subst (λ begin. HasBins begin bins.unit (take bins.len bins.all) packets) (sym start)
+    bins = subst (λ begin. HasBins None begin bins.unit (take bins.len bins.all) packets) (sym start)
         (unit, ap (λ n. take n bins.all) len);
     older = are.older
         ∙ counts_agree (λ packet. is_older (Some 0) packet.time) (λ packet. is_older bins.start packet.time) packets
         (λ k d within. older_same (get_or packets k d).time (all_untimed packets none k d within));
+    later = sym (counts_none (λ packet. is_later None bins.start packet.time) packets (λ k d within. refl));
     untimed = are.untimed;
   }
     where
@@ -107,12 +109,14 @@ module _ (packets : List Event) (start last : ℕ) (reaches : Reaches packets st
           omega (arith, less, shown_len, len);
     }
 
-    pub counted_timeline : bins.start ≡ Some start → IsTimelineOf packets (timeline_in bins)
+    pub counted_timeline : bins.start ≡ Some start → IsTimelineOf None packets (timeline_in bins)
     counted_timeline started = record {
+      is_fixed = refl;
       start = started ∙ sym reaches.first;
-      bins = subst (λ begin. HasBins begin bins.unit (take bins.len bins.all) packets) (sym started)
+      bins = subst (λ begin. HasBins None begin bins.unit (take bins.len bins.all) packets) (sym started)
           (least_unit bins.unit is, counted_intervals);
       older = are.older ∙ ap (λ begin. counts_of (λ packet. is_older begin packet.time) packets) (sym started);
+      later = sym (counts_none (λ packet. is_later None bins.start packet.time) packets (λ k d within. refl));
       untimed = are.untimed;
     }
 

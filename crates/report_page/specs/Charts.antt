@@ -1,5 +1,5 @@
 -- The timeline of packets in numbers that cross to the page.
-use Rattle.std.specs.Prelude.{◌≡◌, ℕ, ◌/◌, ◌%◌, ◌^◌, ◌<◌, List, ◌++◌, codes, length, slice_index_or, take, Option, Some, None}
+use Rattle.std.specs.Prelude.{◌≡◌, ℕ, ◌/◌, ◌%◌, ◌^◌, ◌<◌, false, List, ◌++◌, codes, length, slice_index_or, take, Option, Some, None}
 use Rattle.capture_summary.specs.Kinds.{verdict_word}
 use Rattle.capture_summary.specs.Protocols.{protocol_word}
 use Rattle.capture_summary.specs.declared.protocol.Protocol.TheVariants as protocols
@@ -62,11 +62,11 @@ page_timeline timeline = record {
   has_start = is_some timeline.start;
 }
 
--- The numbers are those of the timeline of these packets. `intervals` contains the counts of each interval, in their order, and then counts
+-- The numbers are those of the timeline of these packets, whose width grows. `intervals` contains the counts of each interval, in their order, and then counts
 -- without packets.
 pub record ShowsTimeline (packets : List Event) (page : PageTimeline) (intervals : List PageCounts) : Type 0 where
   pub timeline : TimelineBins
-  pub is_timeline : IsTimelineOf packets timeline
+  pub is_timeline : IsTimelineOf None packets timeline
   pub numbers : page ≡ page_timeline timeline
   pub counts : (place : ℕ) → place < max_intervals
       → slice_index_or intervals place (page_counts no_packets) ≡ page_counts (slice_index_or (shown_intervals timeline) place no_packets)
@@ -76,9 +76,11 @@ pub record ShowsTimeline (packets : List Event) (page : PageTimeline) (intervals
 -- the timeline with these bins
 abbrev pub timeline_in : Bins → TimelineBins
 timeline_in bins = record {
+  is_fixed = false;
   start = bins.start;
   unit = bins.unit;
   bins = take bins.len bins.all;
   older = bins.older;
+  later = no_packets;
   untimed = bins.untimed;
 }

@@ -3,7 +3,7 @@
 //! A `Timeline` has its bins on the heap, and is made one packet at a time. WebAssembly with 64-bit memories has no heap here. But the page
 //! has all packets, so that their times are known before the first packet is counted. The contracts cite the definitions of `timeline`.
 
-ghost use Rattle.std.specs.Prelude.{◌≡◌, ◌<◌, ◌≤◌, ◌*◌, ◌+◌, ◌^◌, ◌∷◌, ◌++◌, [], All, List, map};
+ghost use Rattle.std.specs.Prelude.{◌≡◌, ◌<◌, ◌≤◌, ◌*◌, ◌+◌, ◌^◌, ◌∷◌, ◌++◌, [], All, List, None, map};
 ghost use Rattle.report_page.specs.Charts.{timeline_in};
 ghost use Rattle.report_page.specs.Events.{event_in};
 ghost use Rattle.report_page.specs.Spans.{AreCounted, no_bins, of_transport};
@@ -38,7 +38,7 @@ pub(crate) struct Bins {
 
 /// Returns the bins of these packets.
 pub(crate) fn bins_of(events: &[PageEvent]) -> Bins
-    ensures timeline { IsTimelineOf (map event_in events.now) (timeline_in result) }
+    ensures timeline { IsTimelineOf None (map event_in events.now) (timeline_in result) }
     ensures unit { (0 < result.unit) × (result.unit < 2 ^ 96) }
     ensures len { result.len ≤ max_bins }
 {

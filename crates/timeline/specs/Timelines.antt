@@ -20,12 +20,9 @@ max_bins = 5 * max_intervals
 abbrev pub max_fixed_intervals : ℕ
 max_fixed_intervals = 65536
 
--- the greatest numbers of bins and of shown intervals, if the width is fixed and if it grows
+-- the greatest number of bins, if the width is fixed and if it grows
 abbrev pub most_bins : Bool → ℕ
 most_bins is_fixed = if is_fixed then max_fixed_intervals else max_bins
-
-abbrev pub most_intervals : Bool → ℕ
-most_intervals is_fixed = if is_fixed then max_fixed_intervals else max_intervals
 
 -- What a timeline contains. `start` is the time of the first packet with a time. `older` counts the packets that are older than this
 -- packet. `later` counts the packets that are later than all intervals of a fixed width, and `untimed` counts the packets without a time.

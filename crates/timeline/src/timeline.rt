@@ -1,7 +1,7 @@
 ghost use Rattle.std.specs.Prelude.{◌≡◌, ◌≤◌, ◌<◌, ◌⊎◌, ◌+◌, IfOk, List, None, Option, Some, ℕ, [], false, length, slice_index_or, true};
 ghost use Rattle.std.specs.Int.NonZero.{non_zero_u128_get};
 ghost use Rattle.timeline.specs.Counts.{no_packets};
-ghost use Rattle.timeline.specs.Timelines.{AreShown, CountsPacket, IsTimelineOf, empty_timeline, most_intervals, shown_bins, shown_intervals, shown_width};
+ghost use Rattle.timeline.specs.Timelines.{AreShown, CountsPacket, IsTimelineOf, empty_timeline, max_fixed_intervals, max_intervals, shown_bins, shown_intervals, shown_width};
 ghost use Rattle.timeline.specs.declared.event.Event.{Event as PacketEvent};
 
 use crate::merging::{MAX_BINS, bins_in_interval, merged, merged_at};
@@ -118,6 +118,13 @@ impl Timeline {
         self.add_from(start, time - start, event)
     }
 
+    /// Whether the width of the intervals is fixed.
+    pub fn is_fixed(&self) -> bool
+        ensures { result ≡ self.now.is_fixed }
+    {
+        self.is_fixed
+    }
+
     /// The time at which the first interval begins: the time of the first packet with a time. `None` if no packet has a time.
     pub fn start(&self) -> Option<u128>
         ensures { result ≡ self.now.start }
@@ -165,7 +172,7 @@ impl Timeline {
     /// The number of intervals. It is at most `MAX_FIXED_INTERVALS`, and at most `MAX_INTERVALS` if the width is not fixed.
     pub fn interval_count(&self) -> usize
         ensures value { result ≡ length (shown_intervals self.now) }
-        ensures few { result ≤ most_intervals self.now.is_fixed }
+        ensures few { (result ≤ max_fixed_intervals) × (self.now.is_fixed ≡ false → result ≤ max_intervals) }
     {
         self.bins.len().div_ceil(self.shown_bins())
     }

@@ -26,7 +26,7 @@ from .packets import (
 from .report import PROGRAM
 from .streams import check_live, check_progress
 from .summary import check_conversations, check_sums, check_top, check_totals
-from .timeline import check_timeline
+from .timeline import check_interval, check_timeline
 from .timeline_table import check_timeline_table
 from .times import check_dates, check_times_as_numbers
 from .tshark import check_against_tshark, check_payloads_against_tshark, check_tunnels_against_tshark, check_udp_tunnels_against_tshark
@@ -36,7 +36,7 @@ CHECKS = (
     check_every_kind, check_further_headers, check_tunnels, check_other_links, check_cuts, check_faults, check_writing, check_live,
     check_progress, check_files, check_sums, check_choices, check_top, check_conversations, check_dates, check_totals, check_timeline_table, check_facts, check_statistics,
     check_texts, check_comments, check_comments_against_tshark,
-    check_json, check_timeline, check_every_row, check_hop_limits, check_times_as_numbers, check_payloads, check_names, check_values, check_unknown_options,
+    check_json, check_timeline, check_interval, check_every_row, check_hop_limits, check_times_as_numbers, check_payloads, check_names, check_values, check_unknown_options,
     check_fragments, check_arp, check_neighbors, check_known_options, check_repeated_options, check_options_not_utf_8, check_pairs, check_long_words, check_against_tshark,
     check_payloads_against_tshark, check_tunnels_against_tshark, check_interfaces, check_interfaces_against_tshark, check_udp_tunnels,
     check_udp_tunnels_against_tshark)

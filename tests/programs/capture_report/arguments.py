@@ -30,6 +30,10 @@ def check_values(tally):
         (("--absolute", "--summary"), "--summary"),
         (("-c", "0"), "'0'"), (("-c", "-1"), "-1"), (("--count", "x"), "'x'"),
         (("-c", "18446744073709551616"), "18446744073709551616"),
+        *((("--interval", text), f"invalid value '{text}' for '--interval <SECONDS>': not a number of seconds")
+          for text in ("x", "0", "0.0", "0.0000000001", "1.0000000000", "1000000000.000000001", "1000000001", "1.", ".5", ".", "+1", "1.+5", "1e3", "1,5", "1.2.3",
+                       " 1", "1 ", "18446744073709551616", "9" * 50, "1." + "0" * 50, "٣")),
+        (("--interval=-1",), "'-1' for '--interval <SECONDS>'"), (("--interval", "x", "--host", "y"), "'y'"), (("--interval=",), "--interval"),
     ]:
         done = run(b"", *arguments)
         tally.expect(f"{arguments}", (done.returncode, done.stdout, words in done.stderr.decode()), (2, b"", True))
@@ -46,7 +50,7 @@ def check_unknown_options(tally):
 def check_known_options(tally):
     """Each option that the help shows is known, so that an error about another word names this word."""
     shown = re.findall(r"^ +(?:(-[a-zA-Z]), )?(--[a-z-]+)", run(b"", "--help").stdout.decode(), re.MULTILINE)
-    tally.expect("options of the help", len(shown), 24)
+    tally.expect("options of the help", len(shown), 25)
     for name in [name for names in shown for name in names if name not in ("", "-h", "--help", "-V", "--version")]:
         value = {"--protocol": "udp"}.get(name, "192.0.2.1" if name in HOST_OPTIONS else "1")
         done = run(b"", name, value, "--other")
@@ -83,7 +87,8 @@ def check_options_not_utf_8(tally):
 
 # The pairs of options that are not used together, as a message writes them.
 EXCLUSIVE = [("--summary", "--packets"), ("--wrong", "--summary"), ("--absolute", "--summary"), ("--top <N>", "--packets"), ("--timeline", "--packets"),
-             *(("--write <FILE>", option) for option in ("--summary", "--packets", "--absolute", "--check", "--json", "--top <N>", "--timeline"))]
+             ("--interval <SECONDS>", "--packets"),
+             *(("--write <FILE>", option) for option in ("--summary", "--packets", "--absolute", "--check", "--json", "--top <N>", "--timeline", "--interval <SECONDS>"))]
 
 # The options that are used with any other option.
 FREE_OPTIONS = ["--verbose", "--tunnels", *(f"{name} <ADDRESS>" for name in HOST_OPTIONS), "--port <N>", "--not-port <N>", "--protocol <NAME>", "--count <N>", "--line-buffered", "--numeric", "--read <FILE>"]
@@ -92,7 +97,7 @@ FREE_OPTIONS = ["--verbose", "--tunnels", *(f"{name} <ADDRESS>" for name in HOST
 def check_pairs(tally):
     """Each two options in either order: a pair of the list is refused by its names, and every other pair is accepted."""
     data = capture(RAW, [ipv4(17, udp(IPV4, b"abc"))])
-    values = {"<N>": "3", "<FILE>": "-", "<ADDRESS>": "::1", "<NAME>": "udp"}
+    values = {"<N>": "3", "<SECONDS>": "0.5", "<FILE>": "-", "<ADDRESS>": "::1", "<NAME>": "udp"}
     for options in itertools.permutations(sorted({option for pair in EXCLUSIVE for option in pair}) + FREE_OPTIONS, 2):
         arguments = [values.get(word, word) for option in options for word in option.split()]
         done = run(data, *arguments)

@@ -12,6 +12,8 @@ from .report import lines_of, run
 # The members of an interval by the names of protocols. Packets of all other protocols are in the member `other`.
 MEMBERS = {"UDP": "udp", "TCP": "tcp", "ICMPv4": "icmp", "ICMPv6": "icmp"}
 INTERVALS = 256
+# The greatest number of intervals of a fixed width.
+FIXED_INTERVALS = 65_536
 
 
 def count_of(packets):
@@ -33,18 +35,23 @@ def width_for(span):
     return next(width for width in widths if span < INTERVALS * width)
 
 
-def timeline_of(packets):
-    """The timeline of these packets without the text of its start, from their objects."""
+def timeline_of(packets, fixed=None):
+    """The timeline of these packets without the text of its start, from their objects. The width of its intervals may be fixed."""
     timed = [(packet["seconds"] * 10 ** 9 + packet["nanoseconds"], packet) for packet in packets if packet["time"] is not None]
     start = timed[0][0] if timed else None
     since = [(time - start, packet) for time, packet in timed]
-    span = max((offset for offset, _ in since), default=-1)
-    width = width_for(max(span, 0))
-    intervals = [[packet for offset, packet in since if offset >= 0 and offset // width == number] for number in range(span // width + 1)]
+    end = fixed * FIXED_INTERVALS if fixed else max((offset for offset, _ in since), default=0) + 1
+    span = max((offset for offset, _ in since if offset < end), default=-1)
+    width = fixed or width_for(max(span, 0))
+    intervals = [[] for _ in range(span // width + 1)]
+    for offset, packet in since:
+        if 0 <= offset < end:
+            intervals[offset // width].append(packet)
     numbers = {} if start is None else dict(zip(("start_seconds", "start_nanoseconds"), divmod(start, 10 ** 9)))
     return numbers | {
         "interval_seconds": width // 10 ** 9, "interval_nanoseconds": width % 10 ** 9, "intervals": [counts_of(some) for some in intervals],
         "older": counts_of([packet for offset, packet in since if offset < 0]),
+        "later": counts_of([packet for offset, packet in since if offset >= end]),
         "untimed": counts_of([packet for packet in packets if packet["time"] is None])}
 
 
@@ -57,6 +64,41 @@ def capture_at(times, packets):
     return b"".join(blocks)
 
 
+def seconds_text(nanoseconds):
+    """The shortest text of a number of seconds."""
+    return f"{nanoseconds // 10 ** 9}.{nanoseconds % 10 ** 9:09}".rstrip("0").rstrip(".")
+
+
+def expect_timeline(tally, name, data, *options, fixed=None):
+    """The timeline in the summary of a capture is the timeline of its packets."""
+    *packets, summary = map(json.loads, lines_of(run(data, "--json", *options).stdout))
+    found = summary["timeline"]
+    start = found.pop("start")
+    stated = {} if start is None else numbers_of(start, ("start_seconds", "start_nanoseconds"))
+    wanted = timeline_of(packets, fixed)
+    tally.expect(f"timeline, {name}: start", stated, {member: found[member] for member in stated})
+    tally.expect(f"timeline, {name}", found, wanted)
+    tally.expect(f"timeline, {name}: order", list(found), list(wanted))
+    apart = (found[member] for member in ("older", "later", "untimed"))
+    tally.expect(f"timeline, {name}: sum", sum(counts["packets"] for counts in (*found["intervals"], *apart)), summary["packets"])
+
+
+def check_interval(tally):
+    """The timeline with a fixed width, of packets at random times, some of them older, later, or without a time."""
+    chance = random.Random(2)
+    kinds = [packet for _, packet in transports()]
+    base = 1_600_000_000_000_000
+    for width in (1, 999, 1000, 3_000, 10 ** 6, 123_456_789, 10 ** 9, 60 * 10 ** 9, 3_600_000_000_001, 10 ** 18):
+        for span in (1, 100, FIXED_INTERVALS * 2):
+            microseconds = max(1, min(width * span // 1000, base // 2))
+            times = [None if not chance.randrange(10) else base + chance.randrange(-microseconds // 4, microseconds) for _ in range(60)]
+            times = [base, *times, base + width * FIXED_INTERVALS // 1000 - 1, base + width * FIXED_INTERVALS // 1000]
+            data = capture_at([time and min(time, 2 ** 63) for time in times], [chance.choice(kinds) for _ in times])
+            expect_timeline(tally, f"{span} intervals of {width} nanoseconds", data, "--interval", seconds_text(width), fixed=width)
+    for text, width in (("1", 10 ** 9), ("01.50", 1_500_000_000), ("0.000000001", 1), ("1000000000.000000000", 10 ** 18)):
+        expect_timeline(tally, f"--interval {text}", capture_at([base, base + 1], kinds), f"--interval={text}", fixed=width)
+
+
 def check_timeline(tally):
     """The timeline in JSON is the one that the objects of the packets give."""
     chance = random.Random(1)
@@ -67,13 +109,4 @@ def check_timeline(tally):
     rows += [("in order", range(base, base + 200)), ("no times", [None] * 20), ("no packets", []),
              ("some times", [chance.choice((None, base, base + 7, base - 1)) for _ in range(100)])]
     for name, times in rows:
-        data = capture_at(times, [chance.choice(kinds) for _ in times])
-        *packets, summary = map(json.loads, lines_of(run(data, "--json").stdout))
-        found = summary["timeline"]
-        start = found.pop("start")
-        stated = {} if start is None else numbers_of(start, ("start_seconds", "start_nanoseconds"))
-        tally.expect(f"timeline, {name}: start", stated, {member: found[member] for member in stated})
-        tally.expect(f"timeline, {name}", found, timeline_of(packets))
-        tally.expect(f"timeline, {name}: order", list(found), list(timeline_of(packets)))
-        tally.expect(f"timeline, {name}: sum", sum(counts["packets"] for counts in (*found["intervals"], found["older"], found["untimed"])),
-                     summary["packets"])
+        expect_timeline(tally, name, capture_at(times, [chance.choice(kinds) for _ in times]))

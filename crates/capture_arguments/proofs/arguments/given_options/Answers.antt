@@ -77,3 +77,26 @@ returns-in-Err-Choice-clause-rejected g c =
         refl,
       ),
     ))))
+
+-- the width of the intervals is wrong
+pub returns-in-Err-Interval-clause-rejected : goal.returns-in-Err-Interval-clause-rejected
+returns-in-Err-Interval-clause-rejected g c =
+    let words = map (λ word. string_bytes word) c.args.words.now in
+    let line = c.in_ok-command.ensures.line in
+    let found = matches_of_command_line (app_of c.in_ok-command.command) words _ line c.in-Ok.ensures.matches c.in-Ok.ensures.kinds in
+    let refusal = subst (IsRefusedBy (g.M.Memory.ran_out c.args.memory.now) c.in-Ok.matches) c.in-Err-Interval.field-0-is
+    c.in-Err-Interval.ensures.refusal in
+    rejected_by_fault (g.M.Memory.ran_out c.args.memory.now) (g.M.Memory.refuses c.args.memory.now) (g.M.Memory.explains c.args.memory.now)
+    words _ _ c.invalid_interval.result c.invalid_interval.ensures
+    (inr (inr (inr (inl (
+      refl,
+      (
+        c.in-Ok.matches,
+        c.in-Err-Interval.text.now,
+        (found, sym c.escaped_option.ensures ∙ ap (option_map (λ word. word.now)) c.in-None.is),
+        refusal.0,
+        refusal.1.0,
+        refusal.1.1,
+        refl,
+      ),
+    )))))

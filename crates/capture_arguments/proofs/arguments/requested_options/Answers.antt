@@ -7,4 +7,4 @@ pub returns-in-Some-clause-rejected : goal.returns-in-Some-clause-rejected
 returns-in-Some-clause-rejected g c =
     rejected_by_fault (g.M.Memory.ran_out c.args.memory.now) (g.M.Memory.refuses c.args.memory.now) (g.M.Memory.explains c.args.memory.now)
     (map (λ word. string_bytes word) c.args.words.now) _ _ c.invalid_output.result c.invalid_output.ensures
-    (inr (inr (inr (refl, (c.in_ok-options.options, c.in_ok-options.ensures.options, sym c.in-Some.ensures)))))
+    (inr (inr (inr (inr (refl, (c.in_ok-options.options, c.in_ok-options.ensures.options, sym c.in-Some.ensures))))))

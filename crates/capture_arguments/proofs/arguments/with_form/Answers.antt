@@ -11,5 +11,6 @@ returns-clause-rules g c =
     let third = adds_rule _ _ _ _ _ c.in_ok-command-3.ensures.adds c.json.ensures.local c.json.ensures.rule second in
     let fourth = adds_rule _ _ _ _ _ c.in_ok-command-4.ensures.adds c.top.ensures.local c.top.ensures.rule third in
     let fifth = adds_rule _ _ _ _ _ c.in_ok-command-5.ensures.adds c.timeline.ensures.local c.timeline.ensures.rule fourth in
-    IfOk-weaker _ _ _ (λ more adds. adds_rule _ _ _ _ _ adds c.tunnels.ensures.local c.tunnels.ensures.rule fifth)
-    c.with_arg-6.ensures.adds
+    let sixth = adds_rule _ _ _ _ _ c.in_ok-command-6.ensures.adds c.interval.ensures.local c.interval.ensures.rule fifth in
+    IfOk-weaker _ _ _ (λ more adds. adds_rule _ _ _ _ _ adds c.tunnels.ensures.local c.tunnels.ensures.rule sixth)
+    c.with_arg-7.ensures.adds

@@ -7,8 +7,10 @@ use Rattle.capture_text.proofs.timeline_table.write_timeline.Goals as goal
 pub returns : goal.returns
 returns g c =
     let timeline = c.args.timeline.now in
-    written_3 _ _ _ _ _ _ _ _ _ (Appends-trans _ _ _ _ _ c.in_ok-write_timeline_head.ensures c.in_ok-write_intervals.ensures)
-    c.in_ok-write_apart.ensures c.write_apart-2.ensures
-    ((simp (append_assoc, c.older.ensures, c.untimed.ensures))
+    written_3 _ _ _ _ _ _ _ _ _ (Appends-trans _ _ _ _ _ (Appends-trans _ _ _ _ _ c.in_ok-write_timeline_head.ensures
+    c.in_ok-write_intervals.ensures) c.in_ok-write_apart.ensures)
+    c.in_ok-write_apart-2.ensures c.write_apart-3.ensures
+    ((simp (append_assoc, c.older.ensures, c.later.ensures, c.untimed.ensures))
     ∙ ap (λ none. if none then [] else timeline_head ++ (intervals_text timeline ++ (apart_row (codes "older packets") timeline.older
-    ++ apart_row (codes "packets without a time") timeline.untimed))) (sym c.if-is_without_packets.false ∙ c.is_without_packets.ensures))
+    ++ (apart_row (codes "later packets") timeline.later ++ apart_row (codes "packets without a time") timeline.untimed))))
+    (sym c.if-is_without_packets.false ∙ c.is_without_packets.ensures))
