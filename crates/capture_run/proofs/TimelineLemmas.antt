@@ -49,7 +49,7 @@ each width choice before after (packet ∷ packets) earlier counted is =
     by (inl chosen) others =
         let read = counted.1.packet in
         let event : Event = event_of (content_protocol read.content) (verdict_kind read.verdict) (info_of packet) in
-        let rest = others (earlier ++ event ∷ []) (chosen.1.counts.timeline earlier is) in (
+        let rest = others (earlier ++ event ∷ []) (chosen.1.counts.timeline width earlier is) in (
           event ∷ rest.0,
           (event ∷ [], rest.0, (read, counted.1.is_packet, inl (chosen.0, refl)), rest.1, refl),
           subst (λ events. IsTimelineOf width events after.timeline) (append_assoc earlier (event ∷ []) rest.0) rest.2,
