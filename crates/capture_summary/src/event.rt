@@ -18,10 +18,7 @@ use timeline::{Event, Fault, Timeline, Transport};
 /// # Errors
 ///
 /// `AllocError` if no memory is left, and for no other reason.
-pub fn empty_timeline(
-    alloc: Global,
-    interval: Option<NonZeroU128>,
-) -> Result<Timeline, AllocError>
+pub fn empty_timeline(alloc: Global, interval: Option<NonZeroU128>) -> Result<Timeline, AllocError>
     ensures { IfOk result (λ timeline. timeline ≡ empty_timeline (option_map non_zero_u128_get interval)) }
 {
     match interval {
