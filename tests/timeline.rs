@@ -2,8 +2,8 @@
 
 use crate::expect::{expect_at, expect_equal, expect_ok, expect_some};
 use std::alloc::Global;
-use std::process::Abort;
 use std::num::NonZeroU128;
+use std::process::Abort;
 use timeline::{
     Count, Counts, Event, Fault, MAX_FIXED_INTERVALS, MAX_INTERVALS, Timeline, Transport,
 };
@@ -209,7 +209,16 @@ fn packets_in_no_interval_of_a_fixed_width_are_apart(rt: HostRuntime) {
     let mut timeline = with_width(&rt, rt.alloc(), 2);
     expect_equal(&rt, &timeline.width(), &2);
     expect_each_interval(&rt, &timeline, &[]);
-    let times = [None, Some(7), Some(6), Some(131_079), Some(9), None, Some(131_078), Some(8)];
+    let times = [
+        None,
+        Some(7),
+        Some(6),
+        Some(131_079),
+        Some(9),
+        None,
+        Some(131_078),
+        Some(8),
+    ];
     for time in times {
         timeline.add(&udp(time));
     }
@@ -219,7 +228,12 @@ fn packets_in_no_interval_of_a_fixed_width_are_apart(rt: HostRuntime) {
     expect_equal(&rt, &timeline.later().udp, &count(1, 100));
     expect_equal(&rt, &timeline.interval_count(), &65_536);
     for (place, packets) in [(0, 2), (1, 1), (2, 0), (65_535, 1), (65_536, 0)] {
-        expect_at(&rt, &place, &timeline.interval(place).udp, &count(packets, packets * 100));
+        expect_at(
+            &rt,
+            &place,
+            &timeline.interval(place).udp,
+            &count(packets, packets * 100),
+        );
     }
 }
 

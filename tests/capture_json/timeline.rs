@@ -91,7 +91,8 @@ fn expect_start(rt: &(impl Abort + AllocGlobal + RandomSource), row: &StartRow) 
     let later = r#","later":"#;
     let untimed = r#","untimed":"#;
     let wanted = [
-        "{", members, width, ONE_PACKET, older, NO_PACKETS, later, NO_PACKETS, untimed, NO_PACKETS, "}",
+        "{", members, width, ONE_PACKET, older, NO_PACKETS, later, NO_PACKETS, untimed, NO_PACKETS,
+        "}",
     ];
     expect_timeline(rt, &summary, &wanted);
 }
@@ -199,7 +200,9 @@ fn a_timeline_without_a_start(rt: HostRuntime) {
     expect_timeline(
         &rt,
         &summary,
-        &[before, NO_PACKETS, later, NO_PACKETS, untimed, NO_PACKETS, "}"],
+        &[
+            before, NO_PACKETS, later, NO_PACKETS, untimed, NO_PACKETS, "}",
+        ],
     );
     judge(
         &rt,
@@ -212,7 +215,9 @@ fn a_timeline_without_a_start(rt: HostRuntime) {
     expect_timeline(
         &rt,
         &summary,
-        &[before, NO_PACKETS, later, NO_PACKETS, untimed, ONE_PACKET, "}"],
+        &[
+            before, NO_PACKETS, later, NO_PACKETS, untimed, ONE_PACKET, "}",
+        ],
     );
 }
 
@@ -234,7 +239,17 @@ fn a_timeline_of_a_fixed_width(rt: HostRuntime) {
     let start =
         r#"{"start":"1970-01-01T00:00:05.000000000Z","start_seconds":5,"start_nanoseconds":0,"interval_seconds":10,"interval_nanoseconds":0,"intervals":["#;
     let wanted = [
-        start, TWO_PACKETS, ",", ONE_PACKET, r#"],"older":"#, NO_PACKETS, r#","later":"#, ONE_PACKET, r#","untimed":"#, NO_PACKETS, "}",
+        start,
+        TWO_PACKETS,
+        ",",
+        ONE_PACKET,
+        r#"],"older":"#,
+        NO_PACKETS,
+        r#","later":"#,
+        ONE_PACKET,
+        r#","untimed":"#,
+        NO_PACKETS,
+        "}",
     ];
     expect_timeline(&rt, &summary, &wanted);
 }
