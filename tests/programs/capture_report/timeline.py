@@ -89,12 +89,14 @@ def check_interval(tally):
     kinds = [packet for _, packet in transports()]
     base = 1_600_000_000_000_000
     for width in (1, 999, 1000, 3_000, 10 ** 6, 123_456_789, 10 ** 9, 60 * 10 ** 9, 3_600_000_000_001, 10 ** 18):
-        for span in (1, 100, FIXED_INTERVALS * 2):
+        for span in (1, 100, 1_000):
             microseconds = max(1, min(width * span // 1000, base // 2))
             times = [None if not chance.randrange(10) else base + chance.randrange(-microseconds // 4, microseconds) for _ in range(60)]
-            times = [base, *times, base + width * FIXED_INTERVALS // 1000 - 1, base + width * FIXED_INTERVALS // 1000]
-            data = capture_at([time and min(time, 2 ** 63) for time in times], [chance.choice(kinds) for _ in times])
+            times = [base, *times, min(base + width * FIXED_INTERVALS // 1000 + 1, 2 ** 63)]
+            data = capture_at(times, [chance.choice(kinds) for _ in times])
             expect_timeline(tally, f"{span} intervals of {width} nanoseconds", data, "--interval", seconds_text(width), fixed=width)
+    last = [base, base + 3 * FIXED_INTERVALS - 1, base + 3 * FIXED_INTERVALS]
+    expect_timeline(tally, "the last interval", capture_at(last, kinds), "--interval", "0.000003", fixed=3000)
     for text, width in (("1", 10 ** 9), ("01.50", 1_500_000_000), ("0.000000001", 1), ("1000000000.000000000", 10 ** 18)):
         expect_timeline(tally, f"--interval {text}", capture_at([base, base + 1], kinds), f"--interval={text}", fixed=width)
 
