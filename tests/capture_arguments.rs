@@ -2,6 +2,8 @@
 
 use crate::expect::{expect_at, expect_equal, expect_ok, expect_some};
 use capture_arguments::{Arguments, no_capture, output_is_capture, requested_options, words_of};
+use capture_file::pcapng::TimeResolution;
+use capture_file::{PacketTime, nanoseconds_of};
 use std::env::FillError;
 use std::io::ErrorKind;
 use std::process::Abort;
@@ -38,6 +40,14 @@ fn copy_word(words: &[&[u8]], place: usize, buffer: &mut [u8]) -> Result<usize, 
 
 /// The name of the program.
 const NAME: &[u8] = b"capture_report";
+
+/// The beginning of 1970.
+const BEGINNING_OF_1970: PacketTime = PacketTime {
+    seconds: 0,
+    fraction: 0,
+    resolution: TimeResolution::PowerOfTen(6),
+    offset: 0,
+};
 
 /// An argument that is one byte longer than Linux accepts.
 const TOO_LONG: &[u8] = &[b'a'; 131073];
@@ -130,7 +140,7 @@ static ACCEPTED: [(&[&[u8]], usize, Option<&str>, bool); 16] = [
 ];
 
 /// Arguments that are refused, or request a text, with the exit status.
-static REJECTED: [(&[&[u8]], i32); 19] = [
+static REJECTED: [(&[&[u8]], i32); 21] = [
     (&[b"capture_report", b"--help"], 0),
     (&[b"capture_report", b"--version"], 0),
     (&[b"capture_report", b"--unknown"], 2),
@@ -145,6 +155,8 @@ static REJECTED: [(&[&[u8]], i32); 19] = [
     (&[b"capture_report", b"--not-port", b"81-80"], 2),
     (&[b"capture_report", b"--protocol", b"pppoe session"], 2),
     (&[b"capture_report", b"--not-host", b"10.0.0.1/8"], 2),
+    (&[b"capture_report", b"--from", b"2.5"], 2),
+    (&[b"capture_report", b"--to=2023-02-29T00:00:00Z"], 2),
     (
         &[
             b"capture_report",
@@ -159,6 +171,56 @@ static REJECTED: [(&[&[u8]], i32); 19] = [
     (&[b"capture_report", b"--host=10.0.0.1\xFF", b"a.pcap"], 2),
     (&[b"capture_report", b"a.pcap", b"-\xFF"], 2),
     (&[b"capture_report", b"--help", b"-\xFF"], 0),
+];
+
+/// A value of `--from`, and the nanoseconds from the beginning of 1970 to this time. The first five are from RFC 3339, section 5.8.
+#[rattlefmt::skip]
+static TIMES: [(&[&[u8]], i128); 11] = [
+    (&[NAME, b"--from", b"1985-04-12T23:20:50.52Z"], 482_196_050_520_000_000),
+    (&[NAME, b"--from", b"1996-12-19T16:39:57-08:00"], 851_042_397_000_000_000),
+    (&[NAME, b"--from", b"1990-12-31T23:59:60Z"], 662_688_000_000_000_000),
+    (&[NAME, b"--from", b"1990-12-31T15:59:60-08:00"], 662_688_000_000_000_000),
+    (&[NAME, b"--from", b"1937-01-01T12:00:27.87+00:20"], -1_041_337_172_130_000_000),
+    (&[NAME, b"--from", b"2024-02-29t00:00:00z"], 1_709_164_800_000_000_000),
+    (&[NAME, b"--from", b"2000-02-29 23:59:59.999999999-00:00"], 951_868_799_999_999_999),
+    (&[NAME, b"--from", b"2023-11-14T22:13:20.000200Z"], 1_700_000_000_000_200_000),
+    (&[NAME, b"--from", b"0001-01-01T00:00:00.1+23:59"], -62_135_683_139_900_000_000),
+    (&[NAME, b"--from", b"0000-03-01T00:00:00Z"], -62_162_035_200_000_000_000),
+    (&[NAME, b"--from", b"9999-12-31T23:59:59.000000001-23:59"], 253_402_387_139_000_000_001),
+];
+
+/// Values that are no date and time.
+#[rattlefmt::skip]
+static NO_TIMES: [&[&[u8]]; 29] = [
+    &[NAME, b"--to", b"2023-11-14"],
+    &[NAME, b"--to", b"2023-11-14T22:13:20"],
+    &[NAME, b"--to", b"2023-11-14T22:13:20.Z"],
+    &[NAME, b"--to", b"2023-11-14T22:13:20.0123456789Z"],
+    &[NAME, b"--to", b"2023-02-29T00:00:00Z"],
+    &[NAME, b"--to", b"1900-02-29T00:00:00Z"],
+    &[NAME, b"--to", b"2023-04-31T00:00:00Z"],
+    &[NAME, b"--to", b"2023-13-01T00:00:00Z"],
+    &[NAME, b"--to", b"2023-00-01T00:00:00Z"],
+    &[NAME, b"--to", b"2023-01-00T00:00:00Z"],
+    &[NAME, b"--to", b"2023-11-14T24:00:00Z"],
+    &[NAME, b"--to", b"2023-11-14T22:60:00Z"],
+    &[NAME, b"--to", b"2023-11-14T22:13:61Z"],
+    &[NAME, b"--to", b"2023-11-14_22:13:20Z"],
+    &[NAME, b"--to", b"2023/11/14T22:13:20Z"],
+    &[NAME, b"--to", b"2023-11-14T22:13:20+24:00"],
+    &[NAME, b"--to", b"2023-11-14T22:13:20+01:60"],
+    &[NAME, b"--to", b"2023-11-14T22:13:20+0100"],
+    &[NAME, b"--to", b"2023-11-14T22:13:20+01"],
+    &[NAME, b"--to", b"+023-11-14T22:13:20Z"],
+    &[NAME, b"--to", b"2023-11-14T22:13:20,5Z"],
+    &[NAME, b"--to", b"2023-11-14T22:13:20.5aZ"],
+    &[NAME, b"--to", b"2023-11-14T22:13:20ZZ"],
+    &[NAME, b"--to", b" 2023-11-14T22:13:20Z"],
+    &[NAME, b"--to", b"20231114T221320Z"],
+    &[NAME, b"--to", b"2.5"],
+    &[NAME, b"--to", b"0"],
+    &[NAME, b"--to", b""],
+    &[NAME, b"--to", b"Z"],
 ];
 
 /// Words that look like options but are not options, each with the text of the error, which names no other option.
@@ -211,6 +273,32 @@ fn expect_rejected(rt: &(impl Abort + AllocGlobal), row: &(&'static [&'static [u
     expect_at(rt, row, &error.exit_code(), &row.1);
 }
 
+/// Stops the test unless the option `--from` of a row has the time of the row.
+fn expect_time(rt: &(impl Abort + AllocGlobal), row: &(&'static [&'static [u8]], i128)) {
+    let words = words(rt, row.0);
+    let options = expect_some(rt, requested_options(&rt.alloc(), words.as_slice()).ok());
+    let range = options.parts.choice.time_range;
+    let begin = nanoseconds_of(BEGINNING_OF_1970) as i128;
+    expect_at(rt, row, &range.from, &Some((begin + row.1) as u128));
+    expect_at(rt, row, &range.to, &None);
+}
+
+/// Stops the test unless the value of a row is refused, and the error names the option and the value.
+fn expect_no_time(rt: &(impl Abort + AllocGlobal), row: &'static [&'static [u8]]) {
+    let words = words(rt, row);
+    let error = expect_some(rt, requested_options(&rt.alloc(), words.as_slice()).err());
+    let text = expect_ok(rt, format!(in rt.alloc(); "{error}"));
+    let wanted = expect_ok(
+        rt,
+        format!(in rt.alloc();
+            "error: invalid value '{}' for '--to <TIME>': not a date and time such as 2023-11-14T22:13:20Z\n\n",
+            words.as_slice()[2]
+        ),
+    );
+    expect_at(rt, &row, &text.as_str().starts_with(wanted.as_str()), &true);
+    expect_at(rt, &row, &error.exit_code(), &2);
+}
+
 /// Stops the test unless the error of a row is this text and the usage.
 fn expect_unknown(rt: &(impl Abort + AllocGlobal), row: &(&'static [&'static [u8]], &str)) {
     let words = words(rt, row.0);
@@ -257,6 +345,16 @@ fn arguments_are_rejected(rt: HostRuntime) {
         expect_rejected(&rt, row);
     }
     expect_too_long(&rt);
+}
+
+#[test]
+fn dates_and_times_are_read(rt: HostRuntime) {
+    for row in &TIMES {
+        expect_time(&rt, row);
+    }
+    for row in &NO_TIMES {
+        expect_no_time(&rt, row);
+    }
 }
 
 #[test]

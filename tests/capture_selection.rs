@@ -5,12 +5,22 @@ use crate::captures::{
     OTHER_LINK, RAW_IP, SECTION, SIMPLE, SIMPLE_END, UDP, first_bytes, long_capture, two_packets,
 };
 use crate::expect::{expect_at, expect_equal, expect_some, joined};
+use capture_file::pcapng::TimeResolution;
+use capture_file::{PacketTime, nanoseconds_of};
 use capture_packet::MAX_PACKET_LEN;
 use capture_run::{CaptureError, Choice, ExitStatus, Lines, Parts};
 use capture_selection::{Copier, Counts, SelectionError, write_selected};
-use capture_summary::{MAX_CHOSEN, PortRange};
+use capture_summary::{MAX_CHOSEN, PortRange, TimeRange};
 use std::io::{Read, Write};
 use std::process::Abort;
+
+/// The beginning of 1970.
+const BEGINNING_OF_1970: PacketTime = PacketTime {
+    seconds: 0,
+    fraction: 0,
+    resolution: TimeResolution::PowerOfTen(6),
+    offset: 0,
+};
 
 /// The counts of a selection, its exit status, and the place in its error. An error of the writer has no status.
 #[derive(Drop)]
@@ -187,6 +197,52 @@ fn a_packet_that_is_too_long_is_selected(rt: HostRuntime) {
     let whole = long_capture(&rt);
     for row in &LONG {
         expect_long(&rt, &whole, row);
+    }
+}
+
+/// The beginning and the end of a range of times in nanoseconds since 1970, and whether a packet at 5.000007 seconds is written.
+#[rattlefmt::skip]
+static TIME_RANGES: [(Option<u64>, Option<u64>, bool); 5] = [
+    (Some(5_000_007_000), None, true),
+    (Some(5_000_007_001), None, false),
+    (None, Some(5_000_007_000), false),
+    (None, Some(5_000_007_001), true),
+    (Some(5_000_000_000), Some(6_000_000_000), true),
+];
+
+/// Stops the test unless the packets of a capture are all written, or all left out, as a row states.
+fn expect_times(
+    rt: &(impl Abort + AllocGlobal),
+    whole: &[u8],
+    row: &(Option<u64>, Option<u64>, bool),
+) {
+    let begin = nanoseconds_of(BEGINNING_OF_1970);
+    let time_range = TimeRange {
+        from: row.0.map(|time| begin + u128::from(time)),
+        to: row.1.map(|time| begin + u128::from(time)),
+    };
+    let parts = Parts {
+        choice: Choice {
+            time_range,
+            ..Choice::ALL
+        },
+        ..ALL
+    };
+    let mut input = whole;
+    let mut output = Vec::new(rt.alloc());
+    let selected = select(&mut input, &mut output, &parts);
+    let len = if row.2 { whole.len() } else { 24 };
+    let is_equal = output.as_slice() == first_bytes(whole, len);
+    expect_at(rt, row, &is_equal, &true);
+    expect_at(rt, row, &selected.status, &Some(ExitStatus::Success));
+}
+
+#[test]
+fn times_select_packets_of_any_length(rt: HostRuntime) {
+    let (kept, long) = (two_packets(&rt, 10), long_capture(&rt));
+    for row in &TIME_RANGES {
+        expect_times(&rt, &kept, row);
+        expect_times(&rt, &long, row);
     }
 }
 

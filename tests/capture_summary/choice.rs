@@ -1,7 +1,10 @@
 use crate::expect::{expect_at, expect_equal, expect_ok, expect_some};
+use capture_file::pcapng::TimeResolution;
+use capture_file::{PacketTime, nanoseconds_of};
 use capture_packet::{Content, NetworkProtocol, Packet, Transport, Tunnel, Verdict};
 use capture_summary::{
     Choice, ChosenProtocol, Hosts, MAX_CHOSEN, Network, NetworkError, PortRange, Ports, Protocol,
+    TimeRange,
 };
 use etherparse_transport::ip::IpAddresses;
 use etherparse_transport::{
@@ -203,7 +206,7 @@ fn expect_chosen(rt: &impl Abort, packets: &[Packet<'static>; 5], row: &ChoiceRo
     let (hosts, ports, protocol, wanted) = row;
     let choice = choice_of(rt, hosts, ports, *protocol);
     for (packet, wanted) in packets.iter().zip(wanted) {
-        expect_at(rt, &choice, &choice.includes(packet), wanted);
+        expect_at(rt, &choice, &choice.includes(packet, None), wanted);
     }
 }
 
@@ -255,9 +258,9 @@ fn expect_directions(rt: &impl Abort, row: &(&'static str, [bool; 5], [bool; 5],
     };
     let packets = five_packets(rt);
     for (place, packet) in packets.iter().enumerate() {
-        expect_at(rt, row, &sources.includes(packet), &row.1[place]);
-        expect_at(rt, row, &destinations.includes(packet), &row.2[place]);
-        expect_at(rt, row, &others.includes(packet), &row.3[place]);
+        expect_at(rt, row, &sources.includes(packet, None), &row.1[place]);
+        expect_at(rt, row, &destinations.includes(packet, None), &row.2[place]);
+        expect_at(rt, row, &others.includes(packet, None), &row.3[place]);
     }
 }
 
@@ -289,8 +292,8 @@ fn expect_range(rt: &impl Abort, row: &(u16, u16, [bool; 5])) {
     };
     let packets = five_packets(rt);
     for (packet, wanted) in packets.iter().zip(&row.2) {
-        expect_at(rt, row, &chosen.includes(packet), wanted);
-        expect_at(rt, row, &others.includes(packet), &!*wanted);
+        expect_at(rt, row, &chosen.includes(packet, None), wanted);
+        expect_at(rt, row, &others.includes(packet, None), &!*wanted);
     }
 }
 
@@ -310,7 +313,7 @@ static HOSTS_IN_TUNNELS: [(&str, bool); 7] = [
 
 /// Stops the test unless the choice of this host includes the packet, or does not.
 fn expect_host(rt: &impl Abort, packet: &Packet<'static>, host: &str, wanted: bool) {
-    let included = choice_of(rt, &[host], &[], None).includes(packet);
+    let included = choice_of(rt, &[host], &[], None).includes(packet, None);
     expect_at(rt, &host, &included, &wanted);
 }
 
@@ -325,5 +328,60 @@ fn tunnels_are_chosen(rt: HostRuntime) {
     expect_some(&rt, packet.tunnels.try_push(tunnel).ok());
     for (host, wanted) in &HOSTS_IN_TUNNELS {
         expect_host(&rt, &packet, host, *wanted);
+    }
+}
+
+/// The beginning and the end of a range of times, and whether the range includes a packet without a time, and packets at 4.999999999,
+/// 5.000007, 5.000007001 and 6 seconds after the beginning of 1970.
+#[rattlefmt::skip]
+static TIME_RANGES: [(Option<u64>, Option<u64>, [bool; 5]); 8] = [
+    (None, None, [true; 5]),
+    (Some(0), None, [false, true, true, true, true]),
+    (Some(5_000_007_000), None, [false, false, true, true, true]),
+    (Some(5_000_007_001), None, [false, false, false, true, true]),
+    (None, Some(5_000_007_001), [false, true, true, false, false]),
+    (Some(5_000_007_000), Some(5_000_007_001), [false, false, true, false, false]),
+    (Some(6_000_000_000), Some(6_000_000_000), [false; 5]),
+    (Some(6_000_000_001), Some(5_000_000_000), [false; 5]),
+];
+
+/// The time at this many seconds and fractions of a second after the beginning of 1970, in units of this power of ten.
+fn time_at(seconds: u64, fraction: u64, exponent: u8) -> PacketTime {
+    PacketTime {
+        seconds,
+        fraction,
+        resolution: TimeResolution::PowerOfTen(exponent),
+        offset: 0,
+    }
+}
+
+/// Stops the test unless the range of a row includes the packets that the row states.
+fn expect_times(rt: &impl Abort, row: &(Option<u64>, Option<u64>, [bool; 5])) {
+    let begin = nanoseconds_of(time_at(0, 0, 6));
+    let time_range = TimeRange {
+        from: row.0.map(|nanoseconds| begin + u128::from(nanoseconds)),
+        to: row.1.map(|nanoseconds| begin + u128::from(nanoseconds)),
+    };
+    let choice = Choice {
+        time_range,
+        ..Choice::ALL
+    };
+    let packet = message_packet();
+    let times = [
+        None,
+        Some(time_at(4, 999_999_999, 9)),
+        Some(time_at(5, 7, 6)),
+        Some(time_at(5, 7001, 9)),
+        Some(time_at(6, 0, 0)),
+    ];
+    for (time, wanted) in times.iter().zip(&row.2) {
+        expect_at(rt, row, &choice.includes(&packet, *time), wanted);
+    }
+}
+
+#[test]
+fn times_are_chosen(rt: HostRuntime) {
+    for row in &TIME_RANGES {
+        expect_times(&rt, row);
     }
 }

@@ -27,7 +27,7 @@ use Rattle.capture_summary.specs.declared.choice.PortRange.{PortRange}
 use Rattle.capture_words.specs.TimeText.{times_by}
 use Rattle.capture_words.specs.declared.times.Times.TheVariants.{SinceFirst}
 use Rattle.capture_arguments.specs.Arguments.{HasFlag, flag_text, values_of}
-use Rattle.capture_arguments.specs.Chosen.{AreRead, ReadsProtocol, ReadsRange, list_items}
+use Rattle.capture_arguments.specs.Chosen.{AreRead, IsTimeOf, ReadsProtocol, ReadsRange, list_items}
 use Rattle.capture_arguments.specs.CommandLine.{AreMatchesOf, AreRequestedBy, command_line}
 use Rattle.capture_arguments.specs.Conflicts.{conflict_in}
 use Rattle.capture_arguments.specs.Intervals.{IsIntervalOf}
@@ -217,6 +217,10 @@ are_options = record {
     protocols = subst (λ names. AreRead ReadsProtocol names options.parts.choice.protocols) (sym (values (codes "protocol")))
         (λ none. absurd (cc none), (is_tcp, tt));
     udp_tunnels = λ flag has. flag_is (codes "tunnels") false flag refl has;
+    times = record {
+      from = subst (λ found. IsTimeOf (first_value found (codes "from")) None) (sym are_found) refl;
+      to = subst (λ found. IsTimeOf (first_value found (codes "to")) None) (sym are_found) refl;
+    };
   };
   limit = (
     λ none. absurd (cc (sym (ap (λ found. one_text found (codes "count")) are_found) ∙ none)),

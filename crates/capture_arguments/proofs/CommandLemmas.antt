@@ -7,7 +7,7 @@ use Rattle.clap.specs.declared.error.Error.{Error}
 use Rattle.clap.specs.declared.error.kind.ErrorKind.{ErrorKind}
 use Rattle.clap.specs.declared.error.kind.ErrorKind.TheVariants.{OutOfMemory, UnknownArgument}
 use Rattle.clap.specs.declared.parser.matches.ArgMatches.{ArgMatches}
-use Rattle.capture_arguments.specs.CommandLine.{AreMatchesOf, IsCommandLine, bare_command, choice_rules, end_rules, file_rules, form_rules, host_rules, line_rules, output_rules, with_rules}
+use Rattle.capture_arguments.specs.CommandLine.{AreMatchesOf, IsCommandLine, bare_command, choice_rules, end_rules, file_rules, form_rules, host_rules, line_rules, output_rules, time_rules, with_rules}
 use Rattle.capture_arguments.specs.Rejections.{AreRejectedBy, HaveFault, IsExplainedUnless, IsShownFor, named_word}
 use Rattle.capture_arguments.specs.Unknown.{unknown_text}
 
@@ -31,16 +31,17 @@ adds_rule old arg new app rule adds local is_rule is_app =
     adds.shape local ∙ (ap (with_rule (app_of old)) is_rule ∙ ap (λ some. with_rule some rule) is_app)
 
 -- the command line, of a bare command with all options
-pub all_options : (bare lines form hosts choice all : App) → bare ≡ bare_command → lines ≡ with_rules bare line_rules
-    → form ≡ with_rules lines form_rules → hosts ≡ with_rules form host_rules → choice ≡ with_rules hosts (choice_rules ++ end_rules)
-    → all ≡ with_rules choice (output_rules ++ file_rules) → IsCommandLine all
-all_options bare lines form hosts choice all is_bare is_lines is_form is_hosts is_choice is_all =
+pub all_options : (bare lines form hosts choice times all : App) → bare ≡ bare_command → lines ≡ with_rules bare line_rules
+    → form ≡ with_rules lines form_rules → hosts ≡ with_rules form host_rules → choice ≡ with_rules hosts choice_rules
+    → times ≡ with_rules choice (time_rules ++ end_rules) → all ≡ with_rules times (output_rules ++ file_rules) → IsCommandLine all
+all_options bare lines form hosts choice times all is_bare is_lines is_form is_hosts is_choice is_times is_all =
     is_all
-    ∙ ap (λ app. with_rules app (output_rules ++ file_rules)) (is_choice
-    ∙ ap (λ app. with_rules app (choice_rules ++ end_rules)) (is_hosts
+    ∙ ap (λ app. with_rules app (output_rules ++ file_rules)) (is_times
+    ∙ ap (λ app. with_rules app (time_rules ++ end_rules)) (is_choice
+    ∙ ap (λ app. with_rules app choice_rules) (is_hosts
     ∙ ap (λ app. with_rules app host_rules) (is_form
     ∙ ap (λ app. with_rules app form_rules) (is_lines
-    ∙ ap (λ app. with_rules app line_rules) is_bare))))
+    ∙ ap (λ app. with_rules app line_rules) is_bare)))))
 
 decided : (test : Bool) → (test ≡ true) ⊎ (test ≡ false)
 decided true = inl refl

@@ -2,5 +2,7 @@ mod ArgumentExamples
 mod ChosenLemmas
 mod CommandLemmas
 mod ConflictLemmas
+mod DateTimeExamples
+mod DateTimeLemmas
 mod IntervalLemmas
 mod WordLemmas

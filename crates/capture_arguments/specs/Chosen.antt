@@ -1,16 +1,19 @@
 -- The packets that the matches of a command line choose.
 use Rattle.std.specs.Prelude.{◌≡◌, ◌≢◌, ◌⊎◌, ◌<◌, ◌≤◌, ◌==◌, ℕ, Bool, nat_lt, if◌then◌else◌, List, [], ◌∷◌, ◌++◌, codes, decimal, length, None, Ok, Option, Err, Some}
 use Rattle.std.specs.List.{after_first, before_first, flat_map, position_or_len, slice_split}
+use Rattle.clap.specs.Words.{first_value, found_of}
 use Rattle.clap.specs.declared.parser.matches.ArgMatches.{ArgMatches}
 use Rattle.capture_summary.specs.Networks.{ReadsNetwork, network_error_text}
 use Rattle.capture_summary.specs.declared.choice.Choice.{Choice}
 use Rattle.capture_summary.specs.declared.choice.ChosenProtocol.{ChosenProtocol}
 use Rattle.capture_summary.specs.declared.choice.PortRange.{PortRange}
 use Rattle.capture_summary.specs.declared.network.Network.{Network}
+use Rattle.capture_summary.specs.declared.time_range.TimeRange.{TimeRange}
 use Rattle.capture_arguments.specs.Arguments.{HasFlag, IsNumberText, values_of}
+use Rattle.capture_arguments.specs.DateTimes.{IsNoDateTime, ReadsDateTime}
 use Rattle.capture_arguments.specs.ProtocolNames.{Names, protocol_rows}
 use Rattle.capture_arguments.specs.declared.chosen.ChoiceError.{ChoiceError}
-use Rattle.capture_arguments.specs.declared.chosen.ChoiceError.TheVariants.{Host, Port, Protocol, TooMany}
+use Rattle.capture_arguments.specs.declared.chosen.ChoiceError.TheVariants.{Host, Port, Protocol, Time, TooMany}
 
 -- ---- values in places
 
@@ -95,13 +98,25 @@ pub record HasAddressesOf (matches : ArgMatches) (choice : Choice) : Type 0 wher
   pub destinations : AreRead ReadsHost (values_of matches (codes "destination")) choice.destinations
   pub other_hosts : AreRead ReadsHost (values_of matches (codes "not-host")) choice.other_hosts
 
--- the choice contains the hosts, ports and protocols that these matches give, and opens tunnels in UDP if they request it
+-- the time with this text; `None` if there is no text
+abbrev pub IsTimeOf : Option (List ℕ) → Option ℕ → Type 0
+IsTimeOf None time = time ≡ None
+IsTimeOf (Some text) None = ⊥
+IsTimeOf (Some text) (Some time) = ReadsDateTime text time
+
+-- the range of times has the beginning and the end that these matches give
+pub record HasTimesOf (matches : ArgMatches) (range : TimeRange) : Type 0 where
+  pub from : IsTimeOf (first_value (found_of matches) (codes "from")) range.from
+  pub to : IsTimeOf (first_value (found_of matches) (codes "to")) range.to
+
+-- the choice contains the hosts, ports, protocols and times that these matches give, and opens tunnels in UDP if they request it
 pub record IsChoiceOf (matches : ArgMatches) (choice : Choice) : Type 0 where
   pub addresses : HasAddressesOf matches choice
   pub ports : AreRead ReadsRange (items_in matches (codes "port")) choice.ports
   pub other_ports : AreRead ReadsRange (items_in matches (codes "not-port")) choice.other_ports
   pub protocols : AreRead ReadsProtocol (values_of matches (codes "protocol")) choice.protocols
   pub udp_tunnels : (flag : Bool) → HasFlag matches (codes "tunnels") flag → choice.udp_tunnels ≡ flag
+  pub times : HasTimesOf matches choice.time_range
 
 -- ---- refusals
 
@@ -142,6 +157,7 @@ AreNoHosts option texts (Host name text error) =
     (name.now ≡ option) × ((length texts ≤ 16) × IsFirstWrong ReadsHost (λ wrong. ReadsNetwork wrong (Err error)) texts text.now)
 AreNoHosts option texts (Port name text) = ⊥
 AreNoHosts option texts (Protocol text) = ⊥
+AreNoHosts option texts (Time name text) = ⊥
 
 -- Why these texts are not accepted as the ports of this option. There are more than 16 texts, or the error contains the first text that is
 -- neither a port nor a range.
@@ -150,6 +166,7 @@ AreNoPorts option texts (TooMany name) = (name.now ≡ option) × (16 < length t
 AreNoPorts option texts (Host name text error) = ⊥
 AreNoPorts option texts (Port name text) = (name.now ≡ option) × ((length texts ≤ 16) × IsFirstWrong ReadsRange IsNoRange texts text.now)
 AreNoPorts option texts (Protocol text) = ⊥
+AreNoPorts option texts (Time name text) = ⊥
 
 -- Why these texts are not accepted as the names of protocols. There are more than 16 texts, or the error contains the first text that is
 -- not a name.
@@ -158,6 +175,26 @@ AreNoProtocols texts (TooMany name) = (name.now ≡ codes "protocol") × (16 < l
 AreNoProtocols texts (Host name text error) = ⊥
 AreNoProtocols texts (Port name text) = ⊥
 AreNoProtocols texts (Protocol text) = (length texts ≤ 16) × IsFirstWrong ReadsProtocol IsNoProtocol texts text.now
+AreNoProtocols texts (Time name text) = ⊥
+
+-- the text of this option is not a date and time
+abbrev pub IsNoTime : List ℕ → Option (List ℕ) → ChoiceError → Type 0
+IsNoTime option given (TooMany name) = ⊥
+IsNoTime option given (Host name text error) = ⊥
+IsNoTime option given (Port name text) = ⊥
+IsNoTime option given (Protocol text) = ⊥
+IsNoTime option given (Time name text) = (name.now ≡ option) × ((given ≡ Some text.now) × IsNoDateTime text.now)
+
+-- the option is not given, or its text is a date and time
+abbrev pub HasTime : Option (List ℕ) → Type 0
+HasTime given = (time : Option ℕ) × IsTimeOf given time
+
+-- the error is about the first of the options `from` and `to` whose text is not a date and time
+abbrev pub AreNoTimes : ArgMatches → ChoiceError → Type 0
+AreNoTimes matches error =
+    IsNoTime (codes "from") (first_value (found_of matches) (codes "from")) error
+    ⊎ (HasTime (first_value (found_of matches) (codes "from"))
+    × IsNoTime (codes "to") (first_value (found_of matches) (codes "to")) error)
 
 -- there are at most 16 texts, and `Reads` relates each of them to a value
 abbrev pub AreFew : {X : Type 0} → (List ℕ → X → Type 0) → List (List ℕ) → Type 0
@@ -180,13 +217,14 @@ AreNoAddresses matches error =
     × AreNoHosts (codes "not-host") (values_of matches (codes "not-host")) error)))))
 
 -- Why these matches contain no valid choice of packets. The error is about the first option whose values are not accepted. The options for
--- hosts are tested first, then the options for ports, and then the option for protocols.
+-- hosts are tested first, then the options for ports, then the option for protocols, and then the options for times.
 abbrev pub IsRefusal : ArgMatches → ChoiceError → Type 0
 IsRefusal matches error =
     AreNoAddresses matches error
     ⊎ (HaveAddresses matches × (AreNoPorts (codes "port") (items_in matches (codes "port")) error
     ⊎ (AreFew ReadsRange (items_in matches (codes "port")) × (AreNoPorts (codes "not-port") (items_in matches (codes "not-port")) error
-    ⊎ (AreFew ReadsRange (items_in matches (codes "not-port")) × AreNoProtocols (values_of matches (codes "protocol")) error)))))
+    ⊎ (AreFew ReadsRange (items_in matches (codes "not-port")) × (AreNoProtocols (values_of matches (codes "protocol")) error
+    ⊎ (AreFew ReadsProtocol (values_of matches (codes "protocol")) × AreNoTimes matches error)))))))
 
 -- ---- the message
 
@@ -204,4 +242,7 @@ choice_text (Port name text) =
 choice_text (Protocol text) =
     codes "invalid value '" ++ (text.now
     ++ codes "' for '--protocol <NAME>': not the name of a protocol in the table `protocol` of the summary")
+choice_text (Time name text) =
+    codes "invalid value '" ++ (text.now
+    ++ of_option name.now (codes " <TIME>': not a date and time such as 2023-11-14T22:13:20Z"))
 choice_text (TooMany name) = codes "'--" ++ (name.now ++ (codes "' is given more than " ++ (decimal 16 ++ codes " values")))

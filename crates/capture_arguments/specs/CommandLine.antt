@@ -57,6 +57,10 @@ abbrev pub choice_rules : List Rule
 choice_rules =
     repeated (value_rule (codes "port")) ∷ repeated (value_rule (codes "not-port")) ∷ repeated (value_rule (codes "protocol")) ∷ []
 
+-- the options that choose packets by their times
+abbrev pub time_rules : List Rule
+time_rules = value_rule (codes "from") ∷ value_rule (codes "to") ∷ []
+
 -- the option that ends the report after a number of packets, `-c` (99); the number is at least 1 and has at most 64 bits
 abbrev pub count_rule : Rule
 count_rule = record (parsed_rule (codes "count") (parsers.Unsigned 1 (2 ^ 64 - 1))) { short = Some 99 }
@@ -123,7 +127,8 @@ pub record IsDescribed (command : Command) : Type 0 where
 -- the command line of the program, with all its options
 abbrev pub command_line : App
 command_line =
-    with_rules bare_command (line_rules ++ form_rules ++ host_rules ++ choice_rules ++ end_rules ++ output_rules ++ file_rules)
+    with_rules bare_command
+    (line_rules ++ form_rules ++ host_rules ++ choice_rules ++ time_rules ++ end_rules ++ output_rules ++ file_rules)
 
 -- `app` is the command line of the program
 abbrev pub IsCommandLine : App → Type 0

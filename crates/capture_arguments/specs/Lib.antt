@@ -2,6 +2,7 @@ pub mod Arguments
 pub mod Chosen
 pub mod CommandLine
 pub mod Conflicts
+pub mod DateTimes
 pub mod Filters
 pub mod Intervals
 pub mod Options

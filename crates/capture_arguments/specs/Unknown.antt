@@ -9,7 +9,7 @@ long_options =
     codes "--summary" ∷ codes "--packets" ∷ codes "--wrong" ∷ codes "--verbose" ∷ codes "--absolute" ∷ codes "--check" ∷ codes "--json"
     ∷ codes "--top" ∷ codes "--timeline" ∷ codes "--interval" ∷ codes "--tunnels" ∷ codes "--host" ∷ codes "--source" ∷ codes "--destination"
     ∷ codes "--not-host" ∷ codes "--port" ∷ codes "--not-port"
-    ∷ codes "--protocol" ∷ codes "--count" ∷ codes "--write" ∷ codes "--line-buffered" ∷ codes "--numeric" ∷ codes "--read" ∷ codes "--help"
+    ∷ codes "--protocol" ∷ codes "--from" ∷ codes "--to" ∷ codes "--count" ∷ codes "--write" ∷ codes "--line-buffered" ∷ codes "--numeric" ∷ codes "--read" ∷ codes "--help"
     ∷ codes "--version" ∷ []
 
 -- the letters of the options that have no value

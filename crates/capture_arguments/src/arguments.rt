@@ -12,7 +12,7 @@ ghost use Rattle.capture_arguments.specs.OutputFaults.{fault_of, is_capture_text
 ghost use Rattle.capture_arguments.specs.Words.{escaped_option_text};
 ghost use Rattle.capture_arguments.specs.Unknown.{unknown_text};
 ghost use Rattle.capture_arguments.specs.Rejections.{AreRejectedBy, IsExplainedUnless, IsShownFor, no_capture_text};
-ghost use Rattle.capture_arguments.specs.CommandLine.{AreRequestedBy, IsCommandLine, IsDescribed, bare_command, choice_rules, count_rule, end_rules, file_rule, file_rules, flag_rule, form_rules, host_rules, line_buffered_rule, line_rules, numeric_rule, output_rules, read_rule, repeated, top_rule, value_rule, verbose_rule, with_rules, write_rule};
+ghost use Rattle.capture_arguments.specs.CommandLine.{AreRequestedBy, IsCommandLine, IsDescribed, bare_command, choice_rules, count_rule, end_rules, file_rule, file_rules, flag_rule, form_rules, host_rules, line_buffered_rule, line_rules, numeric_rule, output_rules, read_rule, repeated, time_rules, top_rule, value_rule, verbose_rule, with_rules, write_rule};
 ghost use Rattle.capture_summary.specs.Ranking.{default_top};
 ghost use Rattle.capture_words.specs.TimeText.{times_by};
 ghost use Rattle.capture_request.specs.declared.parts.Format.TheVariants as Format;
@@ -76,9 +76,9 @@ pub struct Options<'a> {
 /// # Errors
 ///
 /// If an argument is wrong, the text of the error names it, and the exit status is 2. It can be an unknown argument, an option that is not
-/// UTF-8, two options that can't be used together, the first wrong host, port or protocol, a wrong width of intervals, or a file that can't be
-/// written. If no memory is left, the exit status is 3. A request for help or for the version is also returned as an error. Its text goes to
-/// standard output, and its exit status is 0.
+/// UTF-8, two options that can't be used together, the first wrong host, port, protocol or time, a wrong width of intervals, or a file that
+/// can't be written. If no memory is left, the exit status is 3. A request for help or for the version is also returned as an error. Its
+/// text goes to standard output, and its exit status is 0.
 pub fn requested_options<'a, M: Memory>(
     memory: &M,
     words: &'a [String],
@@ -379,6 +379,7 @@ fn command<'a, M: Memory>(memory: &M) -> Result<Command<'a>, AllocError>
     let command = with_form(memory, command)?;
     let command = with_hosts(memory, command)?;
     let command = with_choice(memory, command)?;
+    let command = with_times(memory, command)?;
     with_files(memory, command)
 }
 
@@ -614,16 +615,15 @@ fn other_host<'a>(alloc: Global) -> Arg<'a>
     )
 }
 
-/// The command line with the other options that choose packets, and with the option for the end of the report.
+/// The command line with the options that choose packets by ports and protocols.
 fn with_choice<'a, M: Memory>(memory: &M, command: Command<'a>) -> Result<Command<'a>, AllocError>
-    ensures rules { IfOk result (λ more. app_of more ≡ with_rules (app_of command.entry) (choice_rules ++ end_rules)) }
+    ensures rules { IfOk result (λ more. app_of more ≡ with_rules (app_of command.entry) choice_rules) }
     ensures ran_out { OnErr result (M.ran_out memory.now) }
 {
     let alloc = memory.alloc();
     let command = memory.with_arg(command, port(alloc))?;
     let command = memory.with_arg(command, other_port(alloc))?;
-    let command = memory.with_arg(command, protocol(alloc))?;
-    memory.with_arg(command, count(alloc))
+    memory.with_arg(command, protocol(alloc))
 }
 
 /// The option that chooses packets by a port.
@@ -662,6 +662,43 @@ fn protocol<'a>(alloc: Global) -> Arg<'a>
         "protocol",
         "NAME",
         "Report only packets of this protocol: icmp, or a name in the table `protocol` of the summary, with - for a space; repeat it for several",
+    )
+}
+
+/// The command line with the options that choose packets by times, and with the option for the end of the report.
+fn with_times<'a, M: Memory>(memory: &M, command: Command<'a>) -> Result<Command<'a>, AllocError>
+    ensures rules { IfOk result (λ more. app_of more ≡ with_rules (app_of command.entry) (time_rules ++ end_rules)) }
+    ensures ran_out { OnErr result (M.ran_out memory.now) }
+{
+    let alloc = memory.alloc();
+    let command = memory.with_arg(command, from_time(alloc))?;
+    let command = memory.with_arg(command, to_time(alloc))?;
+    memory.with_arg(command, count(alloc))
+}
+
+/// The option that leaves out the packets before a time.
+fn from_time<'a>(alloc: Global) -> Arg<'a>
+    ensures rule { rule_of result ≡ value_rule (codes "from") }
+    ensures local { result.global ≡ false }
+{
+    valued(
+        alloc,
+        "from",
+        "TIME",
+        "Report only packets at or after this date and time, such as 2023-11-14T22:13:20Z",
+    )
+}
+
+/// The option that leaves out the packets from a time on.
+fn to_time<'a>(alloc: Global) -> Arg<'a>
+    ensures rule { rule_of result ≡ value_rule (codes "to") }
+    ensures local { result.global ≡ false }
+{
+    valued(
+        alloc,
+        "to",
+        "TIME",
+        "Report only packets before this date and time",
     )
 }
 

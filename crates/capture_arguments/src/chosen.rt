@@ -2,14 +2,18 @@
 
 ghost use Rattle.std.specs.Prelude.{◌≡◌, ◌≤◌, ◌<◌, ◌++◌, ◌∷◌, [], Bool, Err, IfErr, IfOk, IfSome, MatchOption, OnErr, OnOk, codes, length, map, option_map, string_bytes};
 ghost use Rattle.std.specs.List.{flat_map};
-ghost use Rattle.capture_arguments.specs.Chosen.{AreNoAddresses, AreNoBounds, AreNoHosts, AreNoPorts, AreNoProtocols, AreRead, HasAddressesOf, HaveAddresses, IsChoiceOf, IsFirstWrong, IsNoPort, IsNoProtocol, IsNoRange, IsNoSingle, IsRefusal, IsSingle, ReadsBounds, ReadsHost, ReadsPlaces, ReadsPort, ReadsProtocol, ReadsRange, bounds_in, choice_text, items_in, list_items};
+ghost use Rattle.capture_arguments.specs.Chosen.{AreNoAddresses, AreNoBounds, AreNoHosts, AreNoPorts, AreNoProtocols, AreNoTimes, AreRead, HasAddressesOf, HasTimesOf, HaveAddresses, IsChoiceOf, IsFirstWrong, IsNoPort, IsNoProtocol, IsNoRange, IsNoSingle, IsNoTime, IsRefusal, IsSingle, IsTimeOf, ReadsBounds, ReadsHost, ReadsPlaces, ReadsPort, ReadsProtocol, ReadsRange, bounds_in, choice_text, items_in, list_items};
 ghost use Rattle.capture_arguments.specs.Arguments.{HasFlag, values_of};
 ghost use Rattle.capture_summary.specs.Networks.{ReadsNetwork};
+ghost use Rattle.clap.specs.Words.{first_value, found_of};
 
+use crate::date_time::time_in;
 use crate::memory::Memory;
 use crate::names::protocol_named;
 use capture_request::Choice;
-use capture_summary::{Hosts, MAX_CHOSEN, Network, NetworkError, PortRange, Ports, Protocols};
+use capture_summary::{
+    Hosts, MAX_CHOSEN, Network, NetworkError, PortRange, Ports, Protocols, TimeRange,
+};
 use clap::ArgMatches;
 use std::alloc::AllocError;
 
@@ -22,6 +26,8 @@ pub enum ChoiceError<'a> {
     Port(&'static str, &'a str),
     /// This value of the option `protocol` is not the name of a protocol.
     Protocol(&'a str),
+    /// The value of the option with this name is not a date and time. The variant contains the name and the value.
+    Time(&'static str, &'a str),
     /// More values than `MAX_CHOSEN` are given for the option with this name.
     TooMany(&'static str),
 }
@@ -112,11 +118,16 @@ pub fn choice_of<'a>(
         Ok(protocols) => protocols,
         Err(error) => return Err(error),
     };
+    let time_range = match times_of(matches) {
+        Ok(time_range) => time_range,
+        Err(error) => return Err(error),
+    };
     Ok(Choice {
         ports: chosen,
         other_ports: others,
         protocols,
         udp_tunnels: opens_udp_tunnels(matches),
+        time_range,
         ..addresses
     })
 }
@@ -296,6 +307,7 @@ fn port_in(text: &str) -> Option<u16>
 /// The protocols that choose packets, if protocols are given.
 fn protocols_of<'a>(matches: &ArgMatches<'a>) -> Result<Option<Protocols>, ChoiceError<'a>>
     ensures protocols { IfOk result (AreRead ReadsProtocol (values_of matches.now (codes "protocol"))) }
+    ensures few { IfOk result (λ protocols. length (values_of matches.now (codes "protocol")) ≤ 16) }
     ensures refusal { IfErr result (AreNoProtocols (values_of matches.now (codes "protocol"))) }
 {
     let texts = matches.get_strs("protocol").unwrap_or(&[]);
@@ -327,6 +339,39 @@ fn protocols_in<'a>(texts: &[&'a str]) -> Result<Protocols, &'a str>
     Ok(protocols)
 }
 
+/// The range of times of the packets that are chosen.
+fn times_of<'a>(matches: &ArgMatches<'a>) -> Result<TimeRange, ChoiceError<'a>>
+    ensures times { IfOk result (HasTimesOf matches.now) }
+    ensures refusal { IfErr result (AreNoTimes matches.now) }
+{
+    let from = match time_of(matches, "from") {
+        Ok(from) => from,
+        Err(error) => return Err(error),
+    };
+    let to = match time_of(matches, "to") {
+        Ok(to) => to,
+        Err(error) => return Err(error),
+    };
+    Ok(TimeRange { from, to })
+}
+
+/// The time that is the value of the option with this name, if a time is given.
+fn time_of<'a>(
+    matches: &ArgMatches<'a>,
+    name: &'static str,
+) -> Result<Option<u128>, ChoiceError<'a>>
+    ensures time { IfOk result (IsTimeOf (first_value (found_of matches.now) name.now)) }
+    ensures refusal { IfErr result (IsNoTime name.now (first_value (found_of matches.now) name.now)) }
+{
+    let Some(text) = matches.get_str(name) else {
+        return Ok(None);
+    };
+    match time_in(text) {
+        Some(time) => Ok(Some(time)),
+        None => Err(ChoiceError::Time(name, text)),
+    }
+}
+
 /// The message about a wrong choice of packets.
 pub fn choice_text<M: Memory>(memory: &M, error: ChoiceError<'_>) -> Result<String, AllocError>
     ensures text { IfOk result (λ text. string_bytes text ≡ choice_text error.entry) }
@@ -341,6 +386,9 @@ pub fn choice_text<M: Memory>(memory: &M, error: ChoiceError<'_>) -> Result<Stri
         )),
         ChoiceError::Protocol(text) => memory.text(format_args!(
             "invalid value '{text}' for '--protocol <NAME>': not the name of a protocol in the table `protocol` of the summary"
+        )),
+        ChoiceError::Time(name, text) => memory.text(format_args!(
+            "invalid value '{text}' for '--{name} <TIME>': not a date and time such as 2023-11-14T22:13:20Z"
         )),
         ChoiceError::TooMany(name) => memory.text(format_args!(
             "'--{name}' is given more than {MAX_CHOSEN} values"

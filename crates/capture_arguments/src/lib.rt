@@ -15,6 +15,7 @@
 mod arguments;
 mod chosen;
 mod conflicts;
+mod date_time;
 mod filters;
 mod interval;
 mod memory;

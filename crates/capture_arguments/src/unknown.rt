@@ -7,7 +7,7 @@ use crate::memory::Memory;
 use std::alloc::AllocError;
 
 /// The long names of the options.
-static LONG_OPTIONS: [&str; 25] = [
+static LONG_OPTIONS: [&str; 27] = [
     "--summary",
     "--packets",
     "--wrong",
@@ -26,6 +26,8 @@ static LONG_OPTIONS: [&str; 25] = [
     "--port",
     "--not-port",
     "--protocol",
+    "--from",
+    "--to",
     "--count",
     "--write",
     "--line-buffered",

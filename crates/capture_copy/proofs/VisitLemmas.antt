@@ -5,7 +5,7 @@ use Rattle.std.proofs.lemmas.List.{drop_at, take_at}
 use Rattle.std.specs.Io.KnownBytes.{Appends, Consumes, IsAtEnd}
 use Rattle.capture_file.proofs.RecordLemmas.{number_at_front, record_header_front, record_len_front}
 use Rattle.capture_file.specs.Classic.{record_header}
-use Rattle.capture_file.specs.Packets.{packet_of_record}
+use Rattle.capture_file.specs.Packets.{classic_time, packet_of_record}
 use Rattle.capture_file.specs.declared.classic.capture_header.CaptureHeader.{CaptureHeader}
 use Rattle.capture_file.specs.declared.classic.record_header.RecordHeader.{RecordHeader}
 use Rattle.capture_file.specs.declared.reader.packet_error.PlacedPacketError.{PlacedPacketError}
@@ -16,7 +16,7 @@ use Rattle.capture_copy.proofs.PassingLemmas.{given_error, next_to_error, next_t
 use Rattle.capture_copy.proofs.RecordLemmas.{is_record}
 use Rattle.capture_copy.specs.Parts.{IsReadError, IsWriteError, PassesLong, WritesFront, format_of}
 use Rattle.capture_copy.specs.Passing.{Format, Part, PassesAny, PassesNext, PassesTo, StopsBy, counted_if, counts_after}
-use Rattle.capture_copy.specs.Records.{EndsRecord, IsCutRecord, IsLongRecord, IsRecordEnd, IsRecordFront, IsRecordPart, passed, records_after, records_of}
+use Rattle.capture_copy.specs.Records.{EndsRecord, IsCutRecord, IsLongRecord, IsRecordEnd, IsRecordFront, IsRecordPart, passed, record_time, records_after, records_of}
 use Rattle.capture_copy.specs.Visits.{EndsWithEnough, Visits, written_if}
 use Rattle.capture_copy.specs.declared.copier.TheConstants.{BUFFER_LEN}
 use Rattle.capture_copy.specs.declared.extent.Extent.{Extent}
@@ -68,7 +68,7 @@ long_record_front capture first captured has_len beyond =
 pub long_record_visited : {Outcome Counts : Type 0} (visits : Visits Outcome Counts) (capture : CaptureHeader) (first captured : List ℕ)
     (outcome : Outcome)
     → length first ≡ 16 → length captured ≡ number_at capture.byte_order first 8 → BUFFER_LEN < number_at capture.byte_order first 8
-    → visits.visits_long (number_at capture.byte_order first 8) outcome
+    → visits.visits_long (number_at capture.byte_order first 8) (Some (record_time capture first)) outcome
     → IsRecordPart visits capture (part_with visits (first ++ captured) (first ++ captured) outcome)
 long_record_visited visits capture first captured outcome has_len counted beyond visited = record {
   is_record = is_record capture.byte_order first captured has_len counted;
@@ -76,8 +76,8 @@ long_record_visited visits capture first captured outcome has_len counted beyond
     long_record_front capture first captured has_len beyond,
     record {
       outcome = outcome;
-      visited = subst (λ n. visits.visits_long n outcome)
-          (sym (number_at_front capture.byte_order first captured 8 (omega (arith, has_len)))) visited;
+      visited = subst (λ header. visits.visits_long header.captured_len (Some (classic_time capture.resolution header.time)) outcome)
+          (sym (record_header_front capture.byte_order first captured (omega (arith, has_len)))) visited;
       is_written = refl;
       has_outcome = refl;
     },

@@ -87,11 +87,12 @@ pub record VisitsBlock {Outcome Counts : Type 0} (visits : Visits Outcome Counts
 abbrev pub IsTooLong : BlockHeader → PacketError → Type 0
 IsTooLong header error = (is_description header.block_type ≡ true) × (error ≡ errors.TooLong header.block_type header.total_len)
 
--- The outcome of a block that does not fit in the buffer. A block of another type than a packet block contains no packet. If later packets
--- can't be read without the block, the block is refused.
+-- The outcome of a block that does not fit in the buffer. The time of its packet is unknown. A block of another type than a packet block
+-- contains no packet. If later packets can't be read without the block, the block is refused.
 abbrev pub HasLongOutcome : {Outcome Counts : Type 0} → Visits Outcome Counts → BlockHeader → Result (Option Outcome) PacketError → Type 0
 HasLongOutcome visits header (Ok (Some outcome)) =
-    (is_description header.block_type ≡ false) × (is_packet header.block_type ≡ true) × visits.visits_long header.total_len outcome
+    (is_description header.block_type ≡ false) × (is_packet header.block_type ≡ true)
+    × visits.visits_long header.total_len None outcome
 HasLongOutcome visits header (Ok None) = (is_description header.block_type ≡ false) × (is_packet header.block_type ≡ false)
 HasLongOutcome visits header (Err error) = IsTooLong header error
 

@@ -1,10 +1,11 @@
 -- The records of a classic capture as parts (draft-ietf-opsawg-pcap, section 5).
 use Rattle.std.specs.Prelude.{◌≡◌, ◌≢◌, ◌<◌, ◌≤◌, ◌++◌, ◌⊎◌, ℕ, List, [], drop, length, take, Some, None}
 use Rattle.capture_file.specs.Classic.{IsPartial, IsRecord, capture_header_len, record_header, record_header_len, record_len}
-use Rattle.capture_file.specs.Packets.{offset_after_record, packet_of_record}
+use Rattle.capture_file.specs.Packets.{classic_time, offset_after_record, packet_of_record}
 use Rattle.capture_file.specs.Reading.{required_len}
 use Rattle.capture_file.specs.declared.classic.capture_header.CaptureHeader.{CaptureHeader}
 use Rattle.capture_file.specs.declared.classic.record_header.RecordHeader.{RecordHeader}
+use Rattle.capture_file.specs.declared.packet_time.PacketTime.{PacketTime}
 use Rattle.capture_numbers.specs.declared.byte_order.ByteOrder.{ByteOrder}
 use Rattle.capture_copy.specs.Parts.{WritesFront, format_of}
 use Rattle.capture_copy.specs.Passing.{Format, Part, one_more}
@@ -20,6 +21,10 @@ use Rattle.capture_copy.specs.declared.records.Records.{Records}
 abbrev pub captured_len : CaptureHeader → List ℕ → ℕ
 captured_len capture bytes = (record_header capture.byte_order bytes).captured_len
 
+-- the time in the header of the record that begins with these bytes
+abbrev pub record_time : CaptureHeader → List ℕ → PacketTime
+record_time capture bytes = classic_time capture.resolution (record_header capture.byte_order bytes).time
+
 -- The packet of a record was visited. The captured bytes of the record follow its header. If the packet is written, the header is written
 -- as it was read, and after it the bytes that the visitor left.
 pub record VisitsRecord {Outcome Counts : Type 0} (visits : Visits Outcome Counts) (capture : CaptureHeader) (part : Part Outcome) : Type 0 where
@@ -33,7 +38,7 @@ pub record VisitsRecord {Outcome Counts : Type 0} (visits : Visits Outcome Count
 -- The packet of a record does not fit in the buffer. If the packet is written, the record is written as it was read.
 pub record VisitsLongRecord {Outcome Counts : Type 0} (visits : Visits Outcome Counts) (capture : CaptureHeader) (part : Part Outcome) : Type 0 where
   pub outcome : Outcome
-  pub visited : visits.visits_long (captured_len capture part.read) outcome
+  pub visited : visits.visits_long (captured_len capture part.read) (Some (record_time capture part.read)) outcome
   pub is_written : part.written ≡ written_if (visits.is_written outcome) part.read
   pub has_outcome : part.outcome ≡ Some outcome
 

@@ -1,5 +1,6 @@
 -- What a visitor does with the packets of a capture that is copied.
 use Rattle.std.specs.Prelude.{◌≡◌, ℕ, Bool, true, false, if◌then◌else◌, List, [], ⊤, Option, Some, None, Result, Ok, Err}
+use Rattle.capture_file.specs.declared.packet_time.PacketTime.{PacketTime}
 use Rattle.capture_file.specs.declared.reader.captured_packet.CapturedPacket.{CapturedPacket}
 use Rattle.capture_copy.specs.declared.extent.Extent.{Extent}
 use Rattle.capture_copy.specs.declared.extent.Extent.TheVariants.{Enough, Whole}
@@ -10,8 +11,9 @@ use Rattle.capture_copy.specs.declared.part_error.PartError.TheVariants.{CutOff,
 pub record Visits (Outcome Counts : Type 0) : Type 1 where
   -- this is the outcome of the packet with these captured bytes; the second list contains the bytes that are written for them
   pub visits : CapturedPacket → List ℕ → List ℕ → Outcome → Type 0
-  -- this is the outcome of a packet that does not fit in the buffer, and that needs this number of bytes
-  pub visits_long : ℕ → Outcome → Type 0
+  -- This is the outcome of a packet that does not fit in the buffer, and that needs this number of bytes. The packet has this time, or
+  -- `None` if its time is unknown.
+  pub visits_long : ℕ → Option PacketTime → Outcome → Type 0
   -- a packet with this outcome is written
   pub is_written : Outcome → Bool
   -- every packet is written, and also the first bytes of a packet if the capture ends within the packet

@@ -335,7 +335,7 @@ fn visit_long<V: Visitor>(
             total_len: header.total_len,
         }),
         ENHANCED_PACKET | OBSOLETE_PACKET | SIMPLE_PACKET => {
-            Ok(Some(visitor.visit_long(header.total_len)))
+            Ok(Some(visitor.visit_long(header.total_len, None)))
         }
         _ => Ok(None),
     }

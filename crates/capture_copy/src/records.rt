@@ -13,6 +13,7 @@ ghost use Rattle.capture_file.specs.Classic.{record_header};
 use crate::transfer::{pass_long, read_into, write_if};
 use crate::visitor::count_if;
 use crate::{BUFFER_LEN, Copier, Extent, PartError, Place, Visitor};
+use capture_file::PacketTime;
 use capture_file::classic::{CaptureHeader, RecordHeader};
 use capture_file::reader::CapturedPacket;
 use std::io::{Read, Write};
@@ -188,7 +189,8 @@ fn copy_long<R: Read, W: Write, V: Visitor>(
         → PassesGiven (records_of (V.visits visitor.now)) result
         records.old records.new left (R.remaining copier.new.input) (W.contents copier.old.output) (W.contents copier.new.output) }
 {
-    let outcome = visitor.visit_long(header.captured_len);
+    let time = PacketTime::from_record(records.header.resolution, header.time);
+    let outcome = visitor.visit_long(header.captured_len, Some(time));
     let captured_len = header.captured_len as usize;
     let is_written = visitor.is_written(outcome);
     let len = pass_long(copier, first, captured_len, is_written, records.place)?;

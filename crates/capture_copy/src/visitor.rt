@@ -4,6 +4,7 @@ ghost use Rattle.std.specs.Prelude.{◌≡◌, Option, false, fold, true};
 ghost use Rattle.std.specs.Option.{option_to_list};
 ghost use Rattle.capture_copy.specs.Visits.{is_written_with};
 
+use capture_file::PacketTime;
 use capture_file::reader::CapturedPacket;
 
 /// Decides about each packet of a capture that is copied: whether the packet is written, and with which bytes.
@@ -28,10 +29,10 @@ pub trait Visitor {
     fn visit(&self, packet: &CapturedPacket, frame: &mut [u8]) -> Self::Outcome
         ensures { (visits self.now).visits packet.now frame.old frame.new result };
 
-    /// Returns the outcome of a packet that does not fit in the buffer, which needs `required_len` bytes. If the packet is written, it is
-    /// written as it was read.
-    fn visit_long(&self, required_len: u32) -> Self::Outcome
-        ensures { (visits self.now).visits_long required_len result };
+    /// Returns the outcome of a packet that does not fit in the buffer, which needs `required_len` bytes. `time` is the time of the packet,
+    /// or `None` if the time is unknown. If the packet is written, it is written as it was read.
+    fn visit_long(&self, required_len: u32, time: Option<PacketTime>) -> Self::Outcome
+        ensures { (visits self.now).visits_long required_len time result };
 
     /// Returns whether a packet with this outcome is written. If every packet is written, this packet is.
     fn is_written(&self, outcome: Self::Outcome) -> bool

@@ -43,7 +43,8 @@ pub record CountsRead (packet : Packet) (info : CaptureInfo) (before after : Sum
 -- the packet was counted if it is chosen, and nothing was counted otherwise
 abbrev pub CountsChosen : Choice → Packet → CaptureInfo → SummaryTables → SummaryTables → Type 0
 CountsChosen choice packet info before after =
-    (IsChosen choice packet × CountsRead packet info before after) ⊎ ((IsChosen choice packet → ⊥) × (after ≡ before))
+    (IsChosen choice packet info.time × CountsRead packet info before after)
+    ⊎ ((IsChosen choice packet info.time → ⊥) × (after ≡ before))
 
 -- `IsPacket` holds for this packet, and the packet was counted if it is chosen
 pub record CountsPacket (choice : Choice) (IsPacket : Packet → Type 0) (info : CaptureInfo) (before after : SummaryTables) : Type 0 where

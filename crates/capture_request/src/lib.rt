@@ -7,7 +7,7 @@
 //! ```
 //! let parts = Parts::from_flags(false, false, true, false);
 //! let packet = packet_in_frame(&captured, frame, parts.choice.udp_tunnels);
-//! let has_line = parts.choice.includes(&packet) && parts.lines.include(&packet.verdict);
+//! let has_line = parts.choice.includes(&packet, captured.time) && parts.lines.include(&packet.verdict);
 //! ```
 #![tactic(auto)]
 

@@ -395,8 +395,9 @@ counted = record {
 }
 
 -- every packet is chosen
-all_chosen : {chosen : Packet} → IsChosen every_packet chosen
+all_chosen : {chosen : Packet} → IsChosen every_packet chosen (Some time)
 all_chosen = record {
+  times = record { begun = tt; not_ended = tt };
   addresses = record { hosts = tt; sources = tt; destinations = tt; other_hosts = tt };
   content = record { ports = tt; other_ports = tt; protocols = tt };
 }

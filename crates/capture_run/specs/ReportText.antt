@@ -30,8 +30,8 @@ IsTextOfChosen parts number texts first info packet text =
 -- the text of a packet; it is empty if the packet is not chosen
 abbrev pub IsTextOf : Parts → ℕ → PacketTexts → Option PacketTime → CaptureInfo → Packet → List ℕ → Type 0
 IsTextOf parts number texts first info packet text =
-    (IsChosen parts.choice packet × IsTextOfChosen parts number texts first info packet text)
-    ⊎ ((IsChosen parts.choice packet → ⊥) × (text ≡ []))
+    (IsChosen parts.choice packet info.time × IsTextOfChosen parts number texts first info packet text)
+    ⊎ ((IsChosen parts.choice packet info.time → ⊥) × (text ≡ []))
 
 -- `IsPacket` holds for this packet, and this is the text of the packet
 pub record IsTextOfOne (IsPacket : Packet → Type 0) (parts : Parts) (number : ℕ) (texts : PacketTexts) (first : Option PacketTime) (info : CaptureInfo) (text : List ℕ) : Type 0 where

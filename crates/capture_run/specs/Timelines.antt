@@ -15,8 +15,9 @@ use Rattle.timeline.specs.declared.event.Event.{Event}
 abbrev pub IsEventOf : Choice → FilePacket → List Event → Type 0
 IsEventOf choice packet events =
     (read : Packet) × IsPacketOf choice.udp_tunnels packet read
-    × ((IsChosen choice read × (events ≡ event_of (content_protocol read.content) (verdict_kind read.verdict) (info_of packet) ∷ []))
-    ⊎ ((IsChosen choice read → ⊥) × (events ≡ [])))
+    × ((IsChosen choice read (info_of packet).time
+    × (events ≡ event_of (content_protocol read.content) (verdict_kind read.verdict) (info_of packet) ∷ []))
+    ⊎ ((IsChosen choice read (info_of packet).time → ⊥) × (events ≡ [])))
 
 -- the events of the chosen packets, in the order of the packets
 abbrev pub AreEventsOf : Choice → List FilePacket → List Event → Type 0

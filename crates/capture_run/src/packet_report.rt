@@ -89,7 +89,7 @@ impl PacketReport {
         requires room { self.old.summary.packets < 2 ^ 64 - 1 }
         ensures none { self.old.parts.lines ≡ Lines.None → output.new ≡ output.old }
         ensures silent { IfNoLine (IsReadAs self.old.parts.choice.udp_tunnels captured.now.link_type captured.now frame.now)
-            self.old.parts (output.new ≡ output.old) }
+            self.old.parts captured.now.time (output.new ≡ output.old) }
         ensures text { OnOk result (AppendsOne (W.contents output.old) (W.contents output.new)
             (IsTextOfOne (IsReadAs self.old.parts.choice.udp_tunnels captured.now.link_type captured.now frame.now)
             self.old.parts place.number place.texts self.old.first (captured_info captured.now))) }
@@ -113,7 +113,7 @@ impl PacketReport {
     ) -> Result<(), WriteError>
         requires room { self.old.summary.packets < 2 ^ 64 - 1 }
         ensures none { self.old.parts.lines ≡ Lines.None → output.new ≡ output.old }
-        ensures silent { IfNoLine (IsTooLong captured.now.required_len) self.old.parts (output.new ≡ output.old) }
+        ensures silent { IfNoLine (IsTooLong captured.now.required_len) self.old.parts captured.now.time (output.new ≡ output.old) }
         ensures text { OnOk result (AppendsOne (W.contents output.old) (W.contents output.new)
             (IsTextOfOne (IsTooLong captured.now.required_len) self.old.parts number no_packet_texts self.old.first (too_long_info captured.now))) }
         ensures counted { OnOk result (CountsPacket self.old.parts.choice (IsTooLong captured.now.required_len)
@@ -139,13 +139,13 @@ impl PacketReport {
         ensures counted { OnOk result (CountsChosen self.old.parts.choice packet.now info.now self.old.summary self.new.summary) }
         ensures text { OnOk result (AppendsOne (W.contents output.old) (W.contents output.new)
             (IsTextOf self.old.parts place.number place.texts self.old.first info.now packet.now)) }
-        ensures silent { HasNoLine self.old.parts packet.now → output.new ≡ output.old }
+        ensures silent { HasNoLine self.old.parts packet.now info.now.time → output.new ≡ output.old }
         ensures parts { self.new.parts ≡ self.old.parts }
         ensures first { self.new.first ≡ option_or self.old.first info.now.time }
     {
         let first = self.first;
         self.first = first.or(info.time);
-        if !self.parts.choice.includes(packet) {
+        if !self.parts.choice.includes(packet, info.time) {
             return Ok(());
         }
         count(&mut self.summary, info, packet)?;

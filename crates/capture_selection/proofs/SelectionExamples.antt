@@ -72,6 +72,7 @@ udp_part others = record {
           given = Written;
           is_outcome = (
             record {
+              times = record { begun = tt; not_ended = tt };
               addresses = record { hosts = tt; sources = tt; destinations = tt; other_hosts = tt };
               content = record { ports = inl (inl (inr (omega arith, omega arith))); other_ports = tt; protocols = tt };
             },

@@ -33,8 +33,8 @@ is_written Excluded = false
 abbrev pub selection_of : Parts → Visits Outcome Counts
 selection_of options = record {
   visits = λ captured frame after outcome. (after ≡ frame)
-      × HasOutcome options (IsPacketOf options.choice.udp_tunnels (kept captured frame)) (Some outcome);
-  visits_long = λ required_len outcome. HasOutcome options (IsTooLong required_len) (Some outcome);
+      × HasOutcome options (IsPacketOf options.choice.udp_tunnels (kept captured frame)) captured.time (Some outcome);
+  visits_long = λ required_len time outcome. HasOutcome options (IsTooLong required_len) time (Some outcome);
   is_written = is_written;
   writes_all = false;
   counted = counted;

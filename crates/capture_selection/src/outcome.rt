@@ -3,6 +3,7 @@ ghost use Rattle.capture_file.specs.CapturePackets.{kept};
 ghost use Rattle.capture_request.specs.Report.{IsPacketOf};
 ghost use Rattle.capture_selection.specs.Outcomes.{HasOutcome, IsOutcomeOf};
 
+use capture_file::PacketTime;
 use capture_file::reader::CapturedPacket;
 use capture_packet::Packet;
 use capture_request::{Parts, packet_in_frame};
@@ -18,11 +19,11 @@ pub enum Outcome {
     Written,
 }
 
-/// The outcome of this packet, according to the options of a report.
-pub fn outcome_of(parts: &Parts, packet: &Packet<'_>) -> Outcome
-    ensures { IsOutcomeOf parts.now packet.now result }
+/// The outcome of this packet, according to the options of a report. `time` is the time of the packet, or `None` if the time is unknown.
+pub fn outcome_of(parts: &Parts, packet: &Packet<'_>, time: Option<PacketTime>) -> Outcome
+    ensures { IsOutcomeOf parts.now packet.now time result }
 {
-    if !parts.choice.includes(packet) {
+    if !parts.choice.includes(packet, time) {
         return Outcome::Excluded;
     }
     if parts.lines.include(&packet.verdict) {
@@ -34,8 +35,9 @@ pub fn outcome_of(parts: &Parts, packet: &Packet<'_>) -> Outcome
 
 /// The outcome of the packet in this frame, according to the options of a report.
 pub(crate) fn outcome_in_frame(parts: &Parts, captured: &CapturedPacket, frame: &[u8]) -> Outcome
-    ensures { HasOutcome parts.now (IsPacketOf parts.now.choice.udp_tunnels (kept captured.now frame.now)) (Some result) }
+    ensures { HasOutcome parts.now (IsPacketOf parts.now.choice.udp_tunnels (kept captured.now frame.now)) captured.now.time
+        (Some result) }
 {
     let packet = packet_in_frame(captured, frame, parts.choice.udp_tunnels);
-    outcome_of(parts, &packet)
+    outcome_of(parts, &packet, captured.time)
 }

@@ -9,6 +9,7 @@ ghost use Rattle.capture_selection.specs.declared.selection_error.SelectionError
 use crate::outcome::{outcome_in_frame, outcome_of};
 use crate::{Counts, Outcome, SelectionError};
 use capture_copy::{Extent, PartError, Place, Visitor};
+use capture_file::PacketTime;
 use capture_file::pcapng::BlockError;
 use capture_file::reader::{CapturedPacket, OpenError, PacketError, PlacedPacketError};
 use capture_request::{CaptureError, Parts, Reached, packet_without_room};
@@ -42,8 +43,8 @@ impl<'a> Visitor for Selector<'a> {
         outcome_in_frame(self.parts, packet, frame)
     }
 
-    fn visit_long(&self, required_len: u32) -> Outcome {
-        outcome_of(self.parts, &packet_without_room(required_len))
+    fn visit_long(&self, required_len: u32, time: Option<PacketTime>) -> Outcome {
+        outcome_of(self.parts, &packet_without_room(required_len), time)
     }
 
     fn is_written(&self, outcome: Outcome) -> bool {

@@ -6,6 +6,7 @@ use Rattle.std.specs.declared.net.socket_addr.SocketAddr.TheVariants as socket_a
 use Rattle.std.specs.Fmt.{digits}
 use Rattle.std.specs.Net.Addr.{ipv4_bits}
 use Rattle.std.specs.Prelude.{◌+◌, slice_index_or}
+use Rattle.capture_file.specs.PacketTimes.{nanoseconds_of}
 use Rattle.capture_file.specs.declared.packet_time.PacketTime.{PacketTime}
 use Rattle.capture_file.specs.declared.pcapng.time_resolution.TimeResolution.TheVariants.{PowerOfTen}
 use Rattle.capture_packet.proofs.PacketExamples.{packet}
@@ -24,11 +25,13 @@ use Rattle.capture_summary.specs.Files.{Files, file_counted, no_file_packets, wi
 use Rattle.capture_summary.specs.SummaryTables.{CountsOne, SummaryTables, empty_tables}
 use Rattle.capture_summary.specs.declared.file_count.FileCount.{FileCount}
 use Rattle.capture_summary.specs.Tables.{no_packets}
+use Rattle.capture_summary.specs.TimeRanges.{IsInTimes}
 use Rattle.capture_summary.specs.declared.capture_info.CaptureInfo.{CaptureInfo}
 use Rattle.capture_summary.specs.declared.count.Count.{Count}
 use Rattle.capture_summary.specs.declared.flow.Flow.{Flow}
 use Rattle.capture_summary.specs.declared.flow.FlowProtocol.TheVariants.{Udp}
 use Rattle.capture_summary.specs.declared.network.Network.{Network}
+use Rattle.capture_summary.specs.declared.time_range.TimeRange.{TimeRange}
 use Rattle.capture_summary.specs.declared.verdict_kind.VerdictKind.TheVariants.{Refused, Right, Wrong}
 use Rattle.timeline.proofs.TimelineLemmas.{Widens, from_counted, untimed_counted}
 use Rattle.timeline.specs.Counts as of_times
@@ -251,7 +254,18 @@ outside (inl (inl (inr within))) = omega (arith, within.0)
 outside (inl (inr quoted)) = quoted
 outside (inr any) = empty_places (HasPort packet.content) 15 any
 
--- a packet to port 9, from a host in the network; it is UDP, and no port is above 60000
+-- the time 5.000007 seconds after the beginning of 1970, and a time a nanosecond later
+abbrev chosen_time : PacketTime
+chosen_time = record { seconds = 5; fraction = 7; resolution = PowerOfTen 6; offset = pos 0 }
+
+abbrev later_time : PacketTime
+later_time = record { seconds = 5; fraction = 7001; resolution = PowerOfTen 9; offset = pos 0 }
+
+-- the range that begins at the first of these times, and ends at the second
+abbrev times : TimeRange
+times = record { from = Some (nanoseconds_of chosen_time); to = Some (nanoseconds_of later_time) }
+
+-- a packet to port 9, from a host in the network; it is UDP, and no port is above 60000; its time is the beginning of the range
 is_chosen : IsChosen
     (record every_packet {
       hosts = Some (Some test_net ∷ replicate 15 None);
@@ -259,9 +273,11 @@ is_chosen : IsChosen
       ports = Some (Some (range 53 53) ∷ Some (range 7 9) ∷ replicate 14 None);
       other_ports = Some (Some (range 60001 65535) ∷ replicate 15 None);
       protocols = Some (Some (chosen.One protocols.Udp) ∷ replicate 15 None);
-    }) packet
+      time_range = times;
+    }) packet (Some chosen_time)
 unfolding ipv4_bits
 is_chosen = record {
+  times = record { begun = omega arith; not_ended = omega arith };
   addresses = record { hosts = inl (inl (inl (inl refl))); sources = inl refl; destinations = tt; other_hosts = tt };
   content = record {
     ports = inr (inl (inl (inr (omega arith, omega arith))));
@@ -269,3 +285,11 @@ is_chosen = record {
     protocols = inl refl;
   };
 }
+
+-- the end of the range is not in the range
+no_end : IsInTimes times (Some later_time) → ⊥
+no_end within = omega (arith, within.not_ended)
+
+-- a packet without a time is not in the range
+no_time : IsInTimes times None → ⊥
+no_time none = cc none.0

@@ -1,4 +1,4 @@
--- The packets that are chosen: by hosts, ports and protocols.
+-- The packets that are chosen: by hosts, ports, protocols and times.
 use Rattle.std.specs.Prelude.{◌≡◌, ◌⊎◌, ◌≤◌, ℕ, false, IfSome, IsSomeAnd, List, [], ◌∷◌, Option, Some, None}
 use Rattle.ip_part.specs.Addresses.{Addresses, Ipv4, Ipv6, by_value}
 use Rattle.capture_summary.specs.Protocols.{content_protocol, protocol_place}
@@ -8,7 +8,9 @@ use Rattle.capture_packet.specs.declared.content.Content.TheVariants as contents
 use Rattle.capture_packet.specs.Quotes.{Quoted, quoted_in}
 use Rattle.capture_packet.specs.declared.packet.Packet.{Packet}
 use Rattle.capture_packet.specs.declared.tunnel.Tunnel.{Tunnel}
+use Rattle.capture_file.specs.declared.packet_time.PacketTime.{PacketTime}
 use Rattle.capture_summary.specs.FlowOf.{ports_of}
+use Rattle.capture_summary.specs.TimeRanges.{IsInTimes, every_time}
 use Rattle.capture_summary.specs.declared.choice.Choice.{Choice}
 use Rattle.capture_summary.specs.declared.choice.ChosenProtocol.{ChosenProtocol}
 use Rattle.capture_summary.specs.declared.choice.ChosenProtocol.TheVariants as chosen
@@ -30,6 +32,7 @@ every_packet = record {
   other_ports = None;
   protocols = None;
   udp_tunnels = false;
+  time_range = every_time;
 }
 
 -- `Statement` holds for one of these values; empty places do not count
@@ -142,7 +145,9 @@ pub record HasChosenContent (choice : Choice) (content : Content) : Type 0 where
   pub other_ports : IfSome choice.other_ports (HasNone (HasPort content))
   pub protocols : IfSome choice.protocols (HasAny (IsOfProtocol content))
 
--- a packet is chosen: it matches each field of the choice that is set
-pub record IsChosen (choice : Choice) (packet : Packet) : Type 0 where
+-- A packet is chosen: it matches each field of the choice that is set, and its time is in the range of the choice. `time` is the time of the
+-- packet, or `None` if it is unknown.
+pub record IsChosen (choice : Choice) (packet : Packet) (time : Option PacketTime) : Type 0 where
+  pub times : IsInTimes choice.time_range time
   pub addresses : HasChosenAddresses choice packet
   pub content : HasChosenContent choice packet.content

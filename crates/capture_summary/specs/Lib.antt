@@ -14,4 +14,5 @@ pub mod Ranking
 pub mod Rates
 pub mod SummaryTables
 pub mod Tables
+pub mod TimeRanges
 pub mod TimeSpans

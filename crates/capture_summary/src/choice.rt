@@ -6,7 +6,8 @@ ghost use Rattle.capture_packet.specs.Quotes.{quoted_in};
 ghost use Rattle.capture_summary.specs.FlowOf.{ports_of};
 
 use crate::packet_flow::ports;
-use crate::{FlowProtocol, Network, Protocol};
+use crate::{FlowProtocol, Network, Protocol, TimeRange};
+use capture_file::PacketTime;
 use capture_packet::{Content, Packet, Transport, Tunnel};
 use ip_part::IpAddresses;
 
@@ -43,6 +44,8 @@ pub struct Choice {
     pub protocols: Option<Protocols>,
     /// Whether tunnels in UDP are opened before packets are compared. Then the packet in the tunnel is compared with the other fields.
     pub udp_tunnels: bool,
+    /// Only packets with a time in this range are chosen.
+    pub time_range: TimeRange,
 }
 
 impl Choice {
@@ -56,15 +59,18 @@ impl Choice {
         other_ports: None,
         protocols: None,
         udp_tunnels: false,
+        time_range: TimeRange::ALL,
     };
 
-    /// Whether this packet is chosen. A packet without addresses matches no host, and a packet without ports matches no port. If the final
+    /// Whether this packet is chosen. `time` is its time, or `None` if the time is unknown. A packet without addresses matches no host, and a packet without ports matches no port. If the final
     /// destination is not known, only the source is compared with the hosts. The description of each field states whether quoted packets
     /// and tunnels are also compared. An ICMP error does not match the protocol of the packet that it quotes.
-    pub fn includes(&self, packet: &Packet<'_>) -> bool
-        ensures { IsTrue result ↔ IsChosen self.now packet.now }
+    pub fn includes(&self, packet: &Packet<'_>, time: Option<PacketTime>) -> bool
+        ensures { IsTrue result ↔ IsChosen self.now packet.now time }
     {
-        self.includes_addresses(packet) && self.includes_content(&packet.content)
+        self.time_range.includes(time)
+            && self.includes_addresses(packet)
+            && self.includes_content(&packet.content)
     }
 
     /// Whether a packet matches the fields about addresses.

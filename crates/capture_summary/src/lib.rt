@@ -29,6 +29,7 @@ mod ranking;
 mod rates;
 mod refusal_kind;
 mod summary;
+mod time_range;
 mod time_span;
 mod verdict_kind;
 
@@ -52,5 +53,6 @@ pub use ranking::BUSIEST;
 pub use rates::Rates;
 pub use refusal_kind::RefusalKind;
 pub use summary::Summary;
+pub use time_range::TimeRange;
 pub use time_span::TimeSpan;
 pub use verdict_kind::VerdictKind;

@@ -7,7 +7,7 @@ use Rattle.std.specs.declared.net.ip_addr.IpAddr.TheVariants.{V4, V6}
 use Rattle.capture_file.specs.CapturePackets.{FilePacket}
 use Rattle.capture_file.specs.declared.reader.capture_reader.CaptureReader.{CaptureReader}
 use Rattle.capture_packet.specs.declared.packet.Packet.{Packet}
-use Rattle.capture_request.specs.Report.{IsPacketOf}
+use Rattle.capture_request.specs.Report.{IsPacketOf, packet_time}
 use Rattle.capture_summary.specs.Choice.{IsChosen, every_packet}
 use Rattle.capture_summary.specs.Networks.{single_address}
 use Rattle.capture_summary.specs.declared.choice.Choice.{Choice}
@@ -56,7 +56,7 @@ pub record ChoosesFirst (piece : List ℕ) (room : ℕ) (choice : PageChoice) (c
   pub is_first : IsFirstPacket piece buffer reader captured
   pub packet : Packet
   pub is_packet : IsPacketOf (is_set choice.opens_udp_tunnels) captured packet
-  pub chooses : IsTrue chosen ↔ IsChosen (choice_of choice) packet
+  pub chooses : IsTrue chosen ↔ IsChosen (choice_of choice) packet (packet_time captured)
 
 -- a truth value as a number
 abbrev pub answer_of : Bool → ℕ

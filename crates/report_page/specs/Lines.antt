@@ -1,5 +1,5 @@
 -- The line of the first packet of a piece, as the report writes it.
-use Rattle.std.specs.Prelude.{◌≡◌, ℕ, ◌==◌, Bool, true, false, List, ◌++◌, codes, length, Option, None, if◌then◌else◌}
+use Rattle.std.specs.Prelude.{◌≡◌, ℕ, ◌==◌, Bool, true, false, List, ◌++◌, codes, length, if◌then◌else◌}
 use Rattle.capture_file.specs.CapturePackets.{FilePacket, kept, too_long}
 use Rattle.capture_file.specs.PacketTexts.{no_packet_texts, texts_of}
 use Rattle.capture_file.specs.declared.reader.capture_reader.CaptureReader.{CaptureReader}

@@ -3,6 +3,7 @@ ghost use Rattle.capture_summary.specs.Choice.{IsChosen};
 ghost use Rattle.report_page.specs.Choices.{AnswersFirst, ChoosesFirst, address_of, answer_of, choice_of, hosts_of, ports_of};
 
 use crate::piece::{first_item, is_set};
+use capture_file::PacketTime;
 use capture_file::reader::NextPacket;
 use capture_packet::Packet;
 use capture_request::{packet_in_frame, packet_without_room};
@@ -62,20 +63,21 @@ fn chooses_first(piece: &[u8], buffer: &mut [u8], choice: &PageChoice) -> Option
         NextPacket::Whole(captured) => {
             let frame = &buffer[captured.start..captured.start + captured.captured_len];
             let packet = packet_in_frame(&captured, frame, is_set(choice.opens_udp_tunnels));
-            Some(chooses(choice, &packet))
+            Some(chooses(choice, &packet, captured.time))
         }
         NextPacket::TooLong(captured) => {
-            Some(chooses(choice, &packet_without_room(captured.required_len)))
+            let packet = packet_without_room(captured.required_len);
+            Some(chooses(choice, &packet, captured.time))
         }
         _ => None,
     }
 }
 
-/// Returns whether a packet is chosen.
-fn chooses(choice: &PageChoice, packet: &Packet<'_>) -> bool
-    ensures { IsTrue result ↔ IsChosen (choice_of choice.now) packet.now }
+/// Returns whether a packet with this time is chosen.
+fn chooses(choice: &PageChoice, packet: &Packet<'_>, time: Option<PacketTime>) -> bool
+    ensures { IsTrue result ↔ IsChosen (choice_of choice.now) packet.now time }
 {
-    choice_of(choice).includes(packet)
+    choice_of(choice).includes(packet, time)
 }
 
 /// Returns the choice of the program for a choice of the page.

@@ -24,7 +24,7 @@ max_parts = 18446744073709551615
 abbrev pub translation_of : Table → Visits (Result Done Reason) Counts
 translation_of table = record {
   visits = λ captured frame after outcome. TranslatesCaptured table captured.link_type captured.byte_order frame after outcome;
-  visits_long = λ required_len outcome. outcome ≡ Err TooLong;
+  visits_long = λ required_len time outcome. outcome ≡ Err TooLong;
   is_written = λ outcome. true;
   writes_all = true;
   counted = counted;

@@ -10,6 +10,7 @@ use crate::packet::translate_captured_frame;
 use crate::reason::Reason;
 use crate::table::Table;
 use capture_copy::{Extent, PartError, Visitor};
+use capture_file::PacketTime;
 use capture_file::pcapng::BlockError;
 use capture_file::reader::{CapturedPacket, PacketError, PlacedPacketError};
 
@@ -38,7 +39,7 @@ impl<'a> Visitor for Translation<'a> {
         translate_captured_frame(packet.link_type, packet.byte_order, frame, self.table)
     }
 
-    fn visit_long(&self, _required_len: u32) -> Result<Done, Reason> {
+    fn visit_long(&self, _required_len: u32, _time: Option<PacketTime>) -> Result<Done, Reason> {
         Err(Reason::TooLong)
     }
 

@@ -23,6 +23,7 @@ from .objects import check_json
 from .packets import (
     check_arp, check_every_kind, check_fragments, check_further_headers, check_hop_limits, check_names, check_neighbors, check_other_links,
     check_payloads, check_tunnels, check_udp_tunnels)
+from .ranges import check_ranges, check_shown_times
 from .report import PROGRAM
 from .streams import check_live, check_progress
 from .summary import check_conversations, check_sums, check_top, check_totals
@@ -34,7 +35,7 @@ from .writing import check_writing
 
 CHECKS = (
     check_every_kind, check_further_headers, check_tunnels, check_other_links, check_cuts, check_faults, check_writing, check_live,
-    check_progress, check_files, check_sums, check_choices, check_top, check_conversations, check_dates, check_totals, check_timeline_table, check_facts, check_statistics,
+    check_progress, check_files, check_sums, check_choices, check_ranges, check_shown_times, check_top, check_conversations, check_dates, check_totals, check_timeline_table, check_facts, check_statistics,
     check_texts, check_comments, check_comments_against_tshark,
     check_json, check_timeline, check_interval, check_every_row, check_hop_limits, check_times_as_numbers, check_payloads, check_names, check_values, check_unknown_options,
     check_fragments, check_arp, check_neighbors, check_known_options, check_repeated_options, check_options_not_utf_8, check_pairs, check_long_words, check_against_tshark,

@@ -9,6 +9,9 @@ from .files import files_table
 from .report import lines_of, run
 
 
+# A value of the options with a time.
+A_TIME = "2020-09-13T12:26:40Z"
+
 # The options with an address or a network.
 HOST_OPTIONS = ("--host", "--source", "--destination", "--not-host")
 
@@ -27,7 +30,9 @@ def check_values(tally):
         (("--not-host", "192.0.2.1/24"), "'--not-host <ADDRESS>'"), (("--source", "x", "--host", "y"), "'y'"), (("--port", "x", "--not-host", "y"), "'y'"),
         (("--protocol", "x", "--not-port", "y"), "'y'"), (("--protocol", "udp") * 17, "--protocol"), (("--top", "-1"), "-1"), (("--top", "ten"), "ten"),
         (("--top", "18446744073709551616"), "18446744073709551616"), (("--top", "3", "--packets"), "--packets"), (("--host",), "--host"),
-        (("--absolute", "--summary"), "--summary"),
+        (("--absolute", "--summary"), "--summary"), (("--from", "2023-02-29T00:00:00Z"), "'2023-02-29T00:00:00Z' for '--from <TIME>'"),
+        (("--to", "2.5"), "'2.5' for '--to <TIME>': not a date and time such as 2023-11-14T22:13:20Z"), (("--to", "x", "--from", "y"), "'y'"),
+        (("--from", "x", "--protocol", "y"), "'y'"), (("--from",), "--from"),
         (("-c", "0"), "'0'"), (("-c", "-1"), "-1"), (("--count", "x"), "'x'"),
         (("-c", "18446744073709551616"), "18446744073709551616"),
         *((("--interval", text), f"invalid value '{text}' for '--interval <SECONDS>': not a number of seconds")
@@ -50,9 +55,9 @@ def check_unknown_options(tally):
 def check_known_options(tally):
     """Each option that the help shows is known, so that an error about another word names this word."""
     shown = re.findall(r"^ +(?:(-[a-zA-Z]), )?(--[a-z-]+)", run(b"", "--help").stdout.decode(), re.MULTILINE)
-    tally.expect("options of the help", len(shown), 25)
+    tally.expect("options of the help", len(shown), 27)
     for name in [name for names in shown for name in names if name not in ("", "-h", "--help", "-V", "--version")]:
-        value = {"--protocol": "udp"}.get(name, "192.0.2.1" if name in HOST_OPTIONS else "1")
+        value = {"--protocol": "udp", "--from": A_TIME, "--to": A_TIME}.get(name, "192.0.2.1" if name in HOST_OPTIONS else "1")
         done = run(b"", name, value, "--other")
         tally.expect(f"{name} and --other", (done.returncode, done.stderr.decode().split("\n")[0]), (2, "error: unexpected argument '--other' found"))
 
@@ -91,13 +96,14 @@ EXCLUSIVE = [("--summary", "--packets"), ("--wrong", "--summary"), ("--absolute"
              *(("--write <FILE>", option) for option in ("--summary", "--packets", "--absolute", "--check", "--json", "--top <N>", "--timeline", "--interval <SECONDS>"))]
 
 # The options that are used with any other option.
-FREE_OPTIONS = ["--verbose", "--tunnels", *(f"{name} <ADDRESS>" for name in HOST_OPTIONS), "--port <N>", "--not-port <N>", "--protocol <NAME>", "--count <N>", "--line-buffered", "--numeric", "--read <FILE>"]
+FREE_OPTIONS = ["--verbose", "--tunnels", *(f"{name} <ADDRESS>" for name in HOST_OPTIONS), "--port <N>", "--not-port <N>", "--protocol <NAME>",
+                "--from <TIME>", "--to <TIME>", "--count <N>", "--line-buffered", "--numeric", "--read <FILE>"]
 
 
 def check_pairs(tally):
     """Each two options in either order: a pair of the list is refused by its names, and every other pair is accepted."""
     data = capture(RAW, [ipv4(17, udp(IPV4, b"abc"))])
-    values = {"<N>": "3", "<SECONDS>": "0.5", "<FILE>": "-", "<ADDRESS>": "::1", "<NAME>": "udp"}
+    values = {"<N>": "3", "<SECONDS>": "0.5", "<FILE>": "-", "<ADDRESS>": "::1", "<NAME>": "udp", "<TIME>": A_TIME}
     for options in itertools.permutations(sorted({option for pair in EXCLUSIVE for option in pair}) + FREE_OPTIONS, 2):
         arguments = [values.get(word, word) for option in options for word in option.split()]
         done = run(data, *arguments)

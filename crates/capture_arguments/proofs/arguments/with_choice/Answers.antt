@@ -8,5 +8,4 @@ pub returns-clause-rules : goal.returns-clause-rules
 returns-clause-rules g c =
     let first = adds_rule _ _ _ _ _ c.in_ok-command.ensures.adds c.port.ensures.local c.port.ensures.rule refl in
     let second = adds_rule _ _ _ _ _ c.in_ok-command-2.ensures.adds c.other_port.ensures.local c.other_port.ensures.rule first in
-    let third = adds_rule _ _ _ _ _ c.in_ok-command-3.ensures.adds c.protocol.ensures.local c.protocol.ensures.rule second in
-    IfOk-weaker _ _ _ (λ more adds. adds_rule _ _ _ _ _ adds c.count.ensures.local c.count.ensures.rule third) c.with_arg-4.ensures.adds
+    IfOk-weaker _ _ _ (λ more adds. adds_rule _ _ _ _ _ adds c.protocol.ensures.local c.protocol.ensures.rule second) c.with_arg-3.ensures.adds

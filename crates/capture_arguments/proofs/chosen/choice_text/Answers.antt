@@ -19,6 +19,12 @@ returns-in-Protocol-clause-text g c =
     subst (λ error. IfOk c.text-in-Protocol.result (λ text. string_bytes text ≡ choice_text error))
     (sym c.in-Protocol.is) c.text-in-Protocol.ensures.text
 
+-- a time
+pub returns-in-Time-clause-text : goal.returns-in-Time-clause-text
+returns-in-Time-clause-text g c =
+    subst (λ error. IfOk c.text-in-Time.result (λ text. string_bytes text ≡ choice_text error))
+    (sym c.in-Time.is) c.text-in-Time.ensures.text
+
 -- too many values
 pub returns-in-TooMany-clause-text : goal.returns-in-TooMany-clause-text
 returns-in-TooMany-clause-text g c =

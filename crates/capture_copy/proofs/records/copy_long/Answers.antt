@@ -1,10 +1,11 @@
-use Rattle.std.proofs.Common.{◌++◌, ap, arith, refl, rules, subst}
+use Rattle.std.proofs.Common.{◌++◌, Some, ap, arith, refl, rules, subst}
 use Rattle.std.proofs.KnownBytes.{Consumes-trans}
 use Rattle.capture_copy.proofs.PartLemmas.{front_if_long}
 use Rattle.capture_copy.proofs.PassingLemmas.{passes_part}
 use Rattle.capture_copy.proofs.RecordLemmas.{cut_captured}
 use Rattle.capture_copy.proofs.VisitLemmas.{after_record, ends_cut, long_record_front, long_record_visited, next_long_to_error, part_with}
 use Rattle.std.specs.Io.KnownBytes.{Appends}
+use Rattle.capture_file.specs.Packets.{classic_time}
 use Rattle.capture_copy.specs.Records.{IsLongRecord}
 use Rattle.capture_copy.specs.Visits.{written_if}
 use Rattle.capture_copy.proofs.records.copy_long.Goals as goal
@@ -55,7 +56,10 @@ returns g c = record {
         long_record_visited visits capture first rest.bytes outcome (search rules)
             (omega (arith, rest.has_len, captured_len, c.in_ok-len.ensures.within, c.if-len-captured_len.false))
             (omega (arith, captured_len, c.requires.room))
-            (subst (λ n. visits.visits_long n outcome) captured_len c.visit_long-outcome.ensures),
+            (subst (λ header. visits.visits_long header.captured_len (Some (classic_time capture.resolution header.time)) outcome)
+            c.requires.header
+            (subst (λ time. visits.visits_long c.args.header.now.captured_len (Some time) outcome) c.from_record-time.ensures
+            c.visit_long-outcome.ensures)),
       )
       (Consumes-trans _ _ _ first rest.bytes consumed rest.consumed)
       (subst (λ is_written. Appends (g.W.Write.contents c.args.copier.now.output) (g.W.Write.contents c.pass_long.new.copier.output)

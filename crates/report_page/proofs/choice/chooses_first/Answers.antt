@@ -30,7 +30,7 @@ returns-in-TooLong c =
       reader = c.in_ok-next.field-0-0;
       captured = too_long captured;
       is_first = (TooLong captured, item_as _ _ _ _ _ c.in-TooLong.is c.in_ok-next.ensures.item, refl);
-      packet = c.packet_without_room.result;
-      is_packet = c.packet_without_room.ensures;
+      packet = c.packet_without_room-packet.result;
+      is_packet = c.packet_without_room-packet.ensures;
       chooses = c.chooses-in-TooLong.ensures;
     }

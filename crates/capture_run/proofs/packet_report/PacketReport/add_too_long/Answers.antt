@@ -26,3 +26,11 @@ returns-clause-counted g c =
       counts = rw c.too_long_info.ensures at counts;
     })
     c.add_packet.ensures.counted
+
+-- nothing is written if the packet has no line
+pub returns-clause-silent : goal.returns-clause-silent
+returns-clause-silent g c = record {
+  packet = c.packet_without_room-packet.result;
+  is_packet = c.packet_without_room-packet.ensures;
+  holds = rw c.too_long_info.ensures at c.add_packet.ensures.silent;
+}
