@@ -185,7 +185,10 @@ const DESTINATION_AT: usize = 24;
 pub(crate) const IPV6_LEN: usize = Ipv6Header::LEN;
 
 /// The length of an IPv4 header without options, in bytes (RFC 791, section 3.1).
-const LEN_WITHOUT_OPTIONS: usize = 20;
+pub(crate) const LEN_WITHOUT_OPTIONS: usize = 20;
+
+/// The first byte of an IPv4 header without options: version 4, and a length of five words (RFC 791, section 3.1).
+pub(crate) const FIRST_BYTE_WITHOUT_OPTIONS: u8 = 0x45;
 
 /// The place of the type of service, in bytes from the start of an IPv4 header (RFC 791, section 3.1).
 pub(crate) const TYPE_OF_SERVICE_AT: usize = 1;

@@ -19,9 +19,12 @@ use crate::echo_translation::{icmpv6_pseudo_header, type_over_ipv6};
 use crate::error_to_ipv6::error_to_ipv6;
 use crate::fragment_to_ipv6::translate_part;
 use crate::header_translation::{
-    IPV6_LEN, check_whole_header, checked_ipv6_header, header_with, write_header,
+    FIRST_BYTE_WITHOUT_OPTIONS, IPV6_LEN, LEN_WITHOUT_OPTIONS, check_whole_header,
+    checked_ipv6_header, header_with, write_header,
 };
-use crate::message_translation::{ICMP_LEN, check_message, check_space, number, write_message};
+use crate::message_translation::{
+    ICMP_LEN, TCP_LEN, UDP_CHECKSUM_AT, UDP_LEN, check_message, check_space, number, write_message,
+};
 use crate::{PacketTranslationError, Prefixes};
 use arrayvec::ArrayVec;
 use net_base::{IpNumber, Ipv4HeaderSlice, ip_number};
@@ -95,7 +98,7 @@ pub fn ipv4_to_ipv6(
 fn plain_header<'a>(packet: &'a [u8]) -> Option<Ipv4HeaderSlice<'a>>
     ensures found { IfSome result (λ header. (specs.begins_with_header packet.now ≡ true) × (header ≡ ipv4_header packet.now)) }
 {
-    if packet.len() < 20 || packet[0] != 0x45 {
+    if packet.len() < LEN_WITHOUT_OPTIONS || packet[0] != FIRST_BYTE_WITHOUT_OPTIONS {
         return None;
     }
     front_header(packet)
@@ -117,9 +120,10 @@ fn is_plain(header: &Ipv4HeaderSlice<'_>, packet: &[u8], prefixes: &Prefixes) ->
 #[inline(always)]
 fn is_plain_message(protocol: IpNumber, packet: &[u8]) -> bool {
     if protocol.0 == ip_number::UDP.0 {
-        return 28 <= packet.len() && number(packet, 26) != 0;
+        return LEN_WITHOUT_OPTIONS + UDP_LEN <= packet.len()
+            && number(packet, LEN_WITHOUT_OPTIONS + UDP_CHECKSUM_AT) != 0;
     }
-    protocol.0 == ip_number::TCP.0 && 40 <= packet.len()
+    protocol.0 == ip_number::TCP.0 && LEN_WITHOUT_OPTIONS + TCP_LEN <= packet.len()
 }
 
 /// Translates any packet, as `ipv4_to_ipv6` does.
