@@ -117,7 +117,7 @@ async function showCapture() {
     fillChoices("verdict", state.capture.verdicts);
     const faults = groupsNamed(state.capture.verdicts, FAULTS);
     if (faults.length > 1) find("verdict").append(element("option", { value: String(faults), textContent: FAULTS.join(" or ") }));
-    find("timeline-section").hidden = !state.capture.hasTimes;
+    find("timeline-section").hidden = state.capture.firstTime === undefined;
     find("report").hidden = false;
     state.filter = {};
     await update();
@@ -501,23 +501,45 @@ function quoted(word) {
 }
 
 /**
+ * The time this many seconds after the first packet, as the program reads it (RFC 3339, in UTC). `undefined` if no number or no first time is
+ * known, the number of nanoseconds is not exact, or the year does not have four digits.
+ */
+function timeText(seconds) {
+    const { firstTime } = state.capture;
+    const offset = Math.round(seconds * SECOND);
+    if (firstTime === undefined || !Number.isSafeInteger(offset)) return undefined;
+    const time = firstTime + BigInt(offset);
+    const second = BigInt(SECOND);
+    const fraction = (time % second + second) % second;
+    const date = new Date(Number((time - fraction) / (second / 1000n)));
+    const year = date.getUTCFullYear();
+    if (!(year >= 0 && year <= 9999)) return undefined;
+    return `${date.toISOString().slice(0, 19)}.${String(fraction).padStart(9, "0")}Z`;
+}
+
+/**
  * The options of the program for the filter, and the filter that they stand for. It selects further packets if the program has no option
  * for a part of the filter. These parts are named.
  */
 function optionsOf({ host, port, protocol, verdicts, conversation, from, to }) {
     const faults = groupsNamed(state.capture.verdicts, FAULTS);
     const isWrong = verdicts?.every((group) => faults.includes(group)) ?? false;
+    const times = [timeText(from), timeText(to)];
     // Several ports or protocols would select the packets of each of them. The greater port of a conversation is more often its own.
     const kept = {
         host, verdicts: isWrong ? faults : undefined, between: conversation?.hosts,
         port: port ?? (conversation && Math.max(...conversation.ports)), protocol: protocol ?? conversation?.protocol,
+        from: times[0] && from, to: times[1] && to,
     };
     const words = isWrong ? ["--wrong"] : [];
     if (host) words.push("--host", host);
     for (const end of new Set(kept.between)) words.push("--source", end, "--destination", end);
     if (kept.port !== undefined) words.push("--port", String(kept.port));
     if (kept.protocol !== undefined) words.push("--protocol", state.capture.protocols[kept.protocol].toLowerCase().replaceAll(" ", "-"));
-    const parts = [verdicts && "these checksums", conversation && "one conversation", (from ?? to) !== undefined && "a range of time"];
+    if (times[0]) words.push("--from", times[0]);
+    if (times[1]) words.push("--to", times[1]);
+    const isWithoutText = kept.from !== from || kept.to !== to;
+    const parts = [verdicts && "these checksums", conversation && "one conversation", isWithoutText && "this range of time"];
     return { words, kept, parts: parts.filter(Boolean) };
 }
 

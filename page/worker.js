@@ -86,6 +86,9 @@ const timeAt = (at) => [0, 1, 2].map((word) => words[at / 4 + word]);
 const nanosecondsTo = (first, at) =>
     (words[at / 4 + 2] - first[2]) * 2 ** 64 + (words[at / 4 + 1] - first[1]) * 2 ** 32 + (words[at / 4] - first[0]);
 
+/** A time as the number of nanoseconds since 1970. The reader counts from 2^63 seconds before 1970. */
+const nanosecondsSince1970 = (time) => time.reduceRight((number, word) => (number << 32n) + BigInt(word), 0n) - (10n ** 9n << 63n);
+
 /** The text that a call wrote: it returned this length. */
 function takeText(len) {
     const text = Number(len);
@@ -563,7 +566,7 @@ async function open({ file, options }) {
     return {
         name: file.name, size: file.size, count: capture.count, facts: capture.facts, error: capture.error, memory: capture.memory(),
         verdicts: named(capture.verdicts), protocols: named(capture.protocols), series: seriesWords(),
-        hasTimes: capture.first !== undefined, decompressor, options, isShort: capture.isShort,
+        firstTime: capture.first && nanosecondsSince1970(capture.first.time), decompressor, options, isShort: capture.isShort,
     };
 }
 
