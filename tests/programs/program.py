@@ -21,8 +21,9 @@ class Program:
         if not self.path.exists():
             return True
         made = self.path.stat().st_mtime
-        sources = (path for path in (TOP / "crates").rglob("*") if path.is_file() and "out" not in path.relative_to(TOP).parts)
-        return any(path.stat().st_mtime > made for path in sources)
+        # What checks keep in `out` can be tens of thousands of files.
+        entries = (entry for entry in (TOP / "crates").glob("*/*") if entry.name != "out")
+        return any(path.stat().st_mtime > made for entry in entries for path in (entry, *entry.rglob("*")) if path.is_file())
 
     def make(self):
         """Builds the program if it is stale. Returns what a failed build printed, or None if there is a program."""
