@@ -250,7 +250,7 @@ fn fraction_nanoseconds(fraction: &[u8]) -> u32
     }
 }
 
-/// The sum of digits of which the first counts 100,000,000, and each further digit a tenth of the digit before it.
+/// The sum of these digits. The first digit counts 100,000,000, and each further digit counts a tenth of the digit before it.
 fn sum_of_digits(digits: &[u8]) -> u32
     requires { AreDigits digits.now }
     ensures value { result ≡ sum_of_digits 100000000 digits.now }

@@ -74,7 +74,7 @@ fn prefix_of_96_bits(prefix: &EtherparsePrefix64) -> Option<Prefix64>
 
 /// Returns both prefixes. The error is about the first refused prefix.
 // perf: most callers pass prefixes of 96 bits. They are read here, so that the compiler does not mix this code with the code for other
-// prefixes.
+// prefixes (1 Dec 2026).
 #[inline(always)]
 fn prefixes_of(
     source: &EtherparsePrefix64,

@@ -16,7 +16,7 @@ use Rattle.ip_translation.proofs.PseudoHeaderLemmas.{total_ipv4, total_ipv6}
 abbrev pub third : List ℕ → List ℕ
 third start = 0 ∷ slice_index start 8 ∷ slice_index start 9 ∷ slice_index start 10 ∷ []
 
--- the total of an address, of which the IPv4 address and the prefix are parts
+-- the total of an address that consists of a prefix and an IPv4 address
 pub total_of_96 : (start ipv4 : List ℕ) → length start ≡ 11 → length ipv4 ≡ 4
     → total (embedded (Bits96 start) ipv4)
     ≡ total ipv4 + total (slice_range start 0 4) + total (slice_range start 4 8) + total (third start)

@@ -150,7 +150,8 @@ fn replace_address(
 
 /// The change that also replaces this IPv4 address by the address that consists of these octets of a prefix of 96 bits and of the IPv4
 /// address.
-// perf: the octets of a prefix are in memory, so four are read at once. Those of a translated address are put together one by one.
+// perf: four octets of a prefix are read at once, since they are in memory. The octets of a translated address are put together one by one
+// (1 Dec 2026).
 #[inline(always)]
 fn replace_by_96(change: ChecksumChange, start: &[u8; 11], ipv4: [u8; 4]) -> ChecksumChange
     ensures removed { removed_value result ≡ folded (removed_value change + total ipv4) }
@@ -272,7 +273,7 @@ pub(crate) fn check_whole_header(
 }
 
 /// Writes the IPv6 header for this IPv4 header.
-// perf: each field is written to its place. A header that is returned is copied several times.
+// perf: each field is written to its place. A header that is returned is copied several times (1 Dec 2026).
 #[inline(always)]
 pub(crate) fn write_header(front: &mut [u8], header: &Ipv4HeaderSlice<'_>, prefixes: &Prefixes)
     requires len { length front.old ≡ 40 }

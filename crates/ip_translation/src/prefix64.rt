@@ -278,7 +278,7 @@ impl Prefix64 {
         }
     }
 
-    /// Whether this is a prefix of 96 bits whose first eight octets are not those of the well-known prefix.
+    /// Whether this is a prefix of 96 bits, and its first eight octets differ from the well-known prefix.
     #[inline(always)]
     pub(crate) fn is_plain(&self) -> bool {
         match self {

@@ -62,8 +62,8 @@ page_timeline timeline = record {
   has_start = is_some timeline.start;
 }
 
--- The numbers are those of the timeline of these packets, whose width grows. `intervals` contains the counts of each interval, in their order, and then counts
--- without packets.
+-- The page has the numbers of the timeline of these packets. The width of this timeline grows. `intervals` contains the counts of each
+-- interval, in their order, and then counts without packets.
 pub record ShowsTimeline (packets : List Event) (page : PageTimeline) (intervals : List PageCounts) : Type 0 where
   pub timeline : TimelineBins
   pub is_timeline : IsTimelineOf None packets timeline

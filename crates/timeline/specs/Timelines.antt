@@ -126,7 +126,7 @@ AreShown None (Some start) shown intervals packets =
     IsLeastWidth IsWidth max_intervals start shown packets × AreIntervals start shown intervals packets
 AreShown (Some width) start shown intervals packets = (shown ≡ width) × AreFixed start width intervals packets
 
--- Intervals of a fixed width, of which the first begins at `start`. Interval number `place` contains exactly the packets whose time is in
+-- Intervals of a fixed width. The first interval begins at `start`. Interval number `place` contains exactly the packets whose time is in
 -- it. There are at most `max_fixed_intervals` intervals.
 pub record ArePlaced (start width : ℕ) (intervals : List Counts) (packets : List Event) : Type 0 where
   pub contained : (place : ℕ) → place < max_fixed_intervals → slice_index_or intervals place no_packets
